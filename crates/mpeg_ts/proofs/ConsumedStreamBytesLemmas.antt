@@ -1,4 +1,4 @@
--- How consumed bytes of a source change the output still to be returned.
+-- If each call that consumes bytes keeps the output still to be returned, so do several calls.
 use Rattle.std.proofs.Common.{◌≡◌, ℕ, List, [], ◌++◌, Option, Some, None, refl, sym, ap, ◌∙◌}
 use Rattle.std.proofs.Common.{append_assoc}
 use Rattle.std.proofs.KnownBytes.{Consumes-kept, Consumes-nil, Consumes-trans}

@@ -36,8 +36,8 @@ use Rattle.mpeg_ts.proofs.OutcomeLemmas.{gap_ends_packet_output, tail, tail-whol
 use Rattle.mpeg_ts.proofs.OutcomeLemmas.{payloads_up_to-last}
 use Rattle.mpeg_ts.proofs.OutcomeLemmas.{found_packet_is_complete}
 
--- The output of further good packets, after all pending items were returned. `wrong`: an unusable
--- packet follows the last good packet.
+-- `joined_output` is the output of further good packets, after all pending items were returned. If
+-- `wrong` is true, an unusable packet follows them.
 abbrev pub joined_output : JoiningValue → Bool → List GoodPacket → List ℕ
 joined_output v wrong [] = if has_ended v.part then [] else gap_marker_where
     (wrong && gave_pes_packet v.given)
@@ -234,8 +234,8 @@ new_part_after_incomplete wrong more part h g h1 = grind (
   output-again,
 )
 
--- The output of good packets is the output of their parts, from any state of reassembly. By
--- induction over the packets.
+-- By induction over the packets, the output of good packets is the output of their parts, from any
+-- state of reassembly.
 pub joined_output_is_correct : (wrong : Bool) (goods : List GoodPacket) → HavePayloads goods →
     OutputOfGoods wrong
     goods

@@ -1,4 +1,4 @@
--- The output of parts, as it is determined packet by packet.
+-- The output of parts can be determined packet by packet.
 use Rattle.std.proofs.Common.{◌≡◌, ℕ, ◌+◌, ◌-◌, ◌≤◌, ◌<◌, List, [], ◌∷◌, ◌++◌, length, take}
 use Rattle.std.proofs.Common.{Bool, true, false, refl, ap, ◌∙◌, arith, append_assoc}
 use Rattle.std.proofs.Common.{length-append, Result, Ok, Err}
@@ -24,8 +24,8 @@ use Rattle.mpeg_ts.specs.declared.joining.Found.TheVariants as found
 pub boolean_cases : {P : Type 0} (b : Bool) → (b ≡ true → P) → (b ≡ false → P) → P
 boolean_cases b h1 h2 = grind (arith, nat_tests)
 
--- The bytes of outcomes after the item returned last. A gap marker is returned as soon as a gap is
--- detected.
+-- `output` gives the bytes of outcomes after the item returned last. A gap marker is output as soon
+-- as a gap is detected.
 abbrev pub output : Given → List PartOutcome → List ℕ
 output g [] = []
 output g (Gap ∷ more) = gap_marker_where (gave_pes_packet g) ++ output (last_output_after true g)
@@ -79,8 +79,8 @@ pub output-end_complete : (g : Given) (excess wrong : Bool)
     → gap_marker_where (wrong && gave_pes_packet g) ≡ output g (gap_where excess ++ gap_where wrong)
 output-end_complete g excess wrong h1 = grind (arith, nat_tests, append-nil)
 
--- The outcomes of the current part and of the good packets that follow, without a gap before the
--- part.
+-- `tail` gives the outcomes of the current part and of the good packets that follow, without a gap
+-- before the part.
 abbrev pub tail : Bool → Part → List GoodPacket → List PartOutcome
 tail wrong part [] = outcome (not wrong) part ++ gap_where wrong
 tail wrong part (g ∷ more) =
@@ -89,8 +89,8 @@ tail wrong part (g ∷ more) =
     more)
     else tail wrong (with_packet part g) more
 
--- The outcomes after the PES packet of a complete part. `excess`: more bytes follow the PES packet
--- in the part.
+-- `following` gives the outcomes after the PES packet of a complete part. If `excess` is true, more
+-- bytes follow the PES packet in the part.
 abbrev pub following : Bool → Bool → List GoodPacket → List PartOutcome
 following excess wrong [] = gap_where excess ++ gap_where wrong
 following excess wrong (g ∷ more) =

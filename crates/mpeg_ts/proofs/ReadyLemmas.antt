@@ -1,4 +1,4 @@
--- Lemmas about the pending items of the reassembly.
+-- An item of the reassembly is pending if and only if bytes are pending.
 use Rattle.std.proofs.lemmas.Bool.Decides.{nat_tests}
 use Rattle.std.proofs.Common.{◌≡◌, ℕ, ◌≤◌, ◌<◌, List, [], ◌++◌, length, take, Ok}
 use Rattle.std.proofs.Common.{refl, sym, ap, ◌∙◌, arith, length-append}

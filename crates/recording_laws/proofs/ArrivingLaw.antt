@@ -1,5 +1,5 @@
--- If at most 14 consecutive TS packets with payload are missing, the law of reading determines
--- which PES packets arrive. This gives the law of losses and the law of neighbours.
+-- If fewer than 15 consecutive TS packets with payload are missing, a recording carries exactly the
+-- PES packets that arrive. Those without a gap marker between them were sent one after another.
 use Rattle.std.proofs.Common.{◌≡◌, ℕ, inl, inr, Bool, true, false, ◌||◌, List, [], ◌∷◌, ◌++◌}
 use Rattle.std.proofs.Common.{length, refl, sym, ap, ◌∙◌}
 use Rattle.std.specs.List.{concat}
@@ -31,8 +31,8 @@ concat-alone : (marked : Bool) → concat (gap_markers_where marked) ≡ gap_mar
 concat-alone true = append-nil (gap_marker_where true)
 concat-alone false = refl
 
--- If fewer than 15 consecutive TS packets with payload are missing, the PES packets that are read
--- are exactly those that arrive, in order.
+-- If fewer than 15 consecutive TS packets with payload are missing, the bytes that are read are
+-- those of the PES packets that arrive, in order, with the gap markers between them.
 reads-lead : (previous : PreviousResult) (sent : List (SentPes SentUnit))
     (pes_packets : List (List ℕ))
     → ReadsSent true previous sent pes_packets

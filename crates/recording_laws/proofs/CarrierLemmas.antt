@@ -129,7 +129,7 @@ module _ {A : Type 0} (packet_of : A → List ℕ) (number : ℕ) where
       ≡ good_packets_after (record (empty_history (Some p)) { has_repeat = is_some again }) ns
   good-again p again ns h1 = grind (arith, nat_tests, append-nil, good-repeat, is_repeat-again)
 
-  -- Each TS packet with payload is accepted by the reader, whatever packets follow.
+  -- A TS packet with payload that is no repeat is accepted by the reader, whatever packets follow.
   pub good-carrier : (history : PacketHistory) (c : Carrier A) (ns : List PidEvent) (first : Bool)
       → IsCarrier packet_of number first c
       → is_repeat history (packet_of c.packet) ≡ false
@@ -173,7 +173,7 @@ module _ {A : Type 0} (packet_of : A → List ℕ) (number : ℕ) where
         | inr jump ↦ grind (arith, nat_tests)
       ]
 
-  -- No data is lost between two consecutive TS packets with payload of a multiplexer.
+  -- The reader finds no loss between two consecutive TS packets with payload of a multiplexer.
   pub next-unbroken : (c d : Carrier A)
       → IsNextCarrier packet_of number c d
       → is_break (link_from (Some (packet_of c.packet)) (history_after_carrier c)

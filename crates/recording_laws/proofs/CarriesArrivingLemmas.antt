@@ -1,4 +1,5 @@
--- Lemmas for the bytes of the PES packets that arrive from a recording with losses.
+-- A PES packet that arrives adds its bytes to the output, after a gap marker if data was lost since
+-- the one before it. A PES packet that does not arrive adds nothing.
 use Rattle.std.proofs.lemmas.Bool.Decides.{nat_tests}
 use Rattle.std.proofs.Common.{arith, ◌≡◌, ℕ, Bool, true, false, ◌&&◌, ◌||◌, List, [], ◌∷◌, ◌++◌}
 use Rattle.std.proofs.Common.{append_assoc}
@@ -10,7 +11,7 @@ use Rattle.recording_laws.specs.Losses.{units_before_copy}
 use Rattle.recording_laws.specs.Multiplex.{SentPes}
 use Rattle.recording_laws.proofs.LossyNoteLemmas.{or-true}
 
--- The bytes of the arriving PES packets, followed by at most one gap marker.
+-- The bytes are those of the PES packets that arrive, followed by at most one gap marker.
 pub record CarriesArriving (given gap : Bool) (sent : List (SentPes SentUnit)) (bytes : List ℕ) :
     Type 0 where
   pub has_gap_marker : Bool

@@ -1,5 +1,5 @@
--- Lemmas for the output after the last TS packet of a PES packet. A part is the list of joined
--- payloads of one PES packet.
+-- After the last TS packet of a PES packet, the reader outputs the PES packet, or a gap if it is
+-- incomplete. A part is the list of joined payloads of one PES packet.
 use Rattle.std.proofs.Common.{◌≡◌, ℕ, ◌<◌, ◌≤◌, inl, inr, Bool, true, false, not, ◌&&◌, ◌||◌, List}
 use Rattle.std.proofs.Common.{[], ◌∷◌, ◌++◌, length, length-append, take, Ok, refl, sym, ap, ◌∙◌}
 use Rattle.std.proofs.Common.{arith, append_assoc, nat_le}
@@ -27,8 +27,8 @@ pub record MayEndInGapMarker (given : Bool) (prefix bytes : List ℕ) : Type 0 w
   pub marker_follows_packet : has_gap_marker ≡ true → given ≡ true
   pub bytes_are_equal : bytes ≡ prefix ++ gap_marker_where has_gap_marker
 
--- The output for the part is `prefix`, whatever parts follow. `given'` and `gap'` describe the
--- state after the part.
+-- The output for the part is `prefix`, whatever parts follow. After the part, `given'` means that a
+-- PES packet was output, and `gap'` that data was lost after it.
 pub record ClosesPart (part : Part) (given gap : Bool) (prefix : List ℕ) (given' gap' : Bool)
     : Type 0 where
   pub next :

@@ -1,4 +1,5 @@
--- The two example recordings satisfy their definitions.
+-- The two example recordings satisfy the definitions of a complete recording and of a recording
+-- with losses.
 use Rattle.std.proofs.Common.{◌≡◌, ◌≤◌, ℕ, true, List, [], ◌∷◌, ◌++◌, length, refl, inl, inr, arith}
 use Rattle.std.proofs.Common.{le_refl}
 use Rattle.std.proofs.lemmas.Bool.{true≢false}

@@ -1,5 +1,5 @@
--- If the frames of a transmission are at most `pace` apart, so are the PES packets from which they
--- were joined.
+-- If the frames of a transmission are at most `pace` apart, so are the frames of the PES packets
+-- that were merged into them.
 use Rattle.std.proofs.lemmas.Bool.Decides.{nat_tests}
 use Rattle.std.proofs.Common.{◌≡◌, ℕ, suc, ◌+◌, ◌-◌, ◌≤◌, ◌==◌, ◌&&◌, not, Bool, true, false, List}
 use Rattle.std.proofs.Common.{[], ◌∷◌, ◌++◌, length, refl, sym, ap, ◌∙◌, subst, arith, cond}

@@ -1,4 +1,5 @@
--- Lemmas for the accepted packets of a recording with losses, and for the links between them.
+-- If fewer than 15 TS packets with payload are missing between two accepted packets, the reader
+-- finds a loss between them exactly if one is missing or was damaged.
 use Rattle.std.proofs.Common.{◌≡◌, ℕ, ◌+◌, ◌%◌, ◌<◌, Bool, true, false, not, ◌||◌, ◌==◌, List, []}
 use Rattle.std.proofs.Common.{◌∷◌, Option, Some, None, arith, if◌then◌else◌, length, length-drop}
 use Rattle.std.proofs.Common.{length-take, drop, nat_lt}
@@ -113,8 +114,8 @@ pub linked_packet-left : (good : Option (List ℕ)) (again wrong : Bool) (h : Li
     → linked_packet (history_after_loss good again wrong) h ≡ good_packet_after_loss good wrong h
 linked_packet-left good again wrong h h1 = grind (arith, nat_tests)
 
--- Data is lost between two accepted packets exactly if a TS packet between them was damaged or is
--- missing.
+-- If fewer than 15 TS packets with payload are missing between two accepted packets, there is a
+-- break between them exactly if a packet is missing or was damaged.
 pub break-left : (i n : ℕ) (g h : List ℕ) (wrong : Bool)
     → counter g ≡ i % 16
     → counter h ≡ (i + 1 + n) % 16

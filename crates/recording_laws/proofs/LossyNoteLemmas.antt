@@ -157,7 +157,7 @@ module _ (distance number : ℕ) where
       any_unit_damaged c)
   wrong-of_three a b c = grind (arith, nat_tests, list_any-append, or-assoc)
 
-  -- If a TS packet with payload is recorded, it is accepted by the reader.
+  -- If a TS packet with payload is recorded intact and is no repeat, the reader accepts it.
   pub good-first : (good : Option (List ℕ)) (again wrong first : Bool) (c : Carrier SentUnit)
       (ns : List PidEvent)
       → IsLossyCarrier first c
@@ -198,7 +198,7 @@ module _ (distance number : ℕ) where
   good-empty_first_gives_nothing good again wrong first c ns h1 h2 =
       grind (arith, nat_tests, heard-carrier, good-lost, good-quiets-left, or-assoc)
 
-  -- If only the repeat of a TS packet is recorded, the repeat is accepted by the reader.
+  -- If only the repeat of a TS packet is recorded intact, the reader accepts the repeat.
   pub good-second : (good : Option (List ℕ)) (again wrong : Bool) (p : List ℕ) (o : Option SentUnit)
       (after : List SentUnit) (ns : List PidEvent)
       → AllByRecursion (λ f. IsRepetition number p (sent_packet distance f)) (option_to_list o)

@@ -1,5 +1,5 @@
--- Reading the remaining TS packets of a PES packet, for any number of missing TS packets and any
--- state. The proofs are by induction over the remaining TS packets.
+-- For any losses, reading the remaining TS packets of a PES packet gives one PES packet with the
+-- same start, or none.
 use Rattle.std.proofs.Common.{◌≡◌, ℕ, ◌+◌, ◌%◌, ◌≤◌, ◌⊎◌, inl, inr, Bool, true, false, ◌&&◌, ◌||◌}
 use Rattle.std.proofs.Common.{List, [], ◌∷◌, ◌++◌, length, length-append, refl, sym, ap, ◌∙◌, subst}
 use Rattle.std.proofs.Common.{arith, append_assoc, not, nat_lt, map}
@@ -488,8 +488,8 @@ module _ (distance number : ℕ) (wrong_after few : Bool) where
       ClosesAsSent part given gap s
       ⊎ (ClosesPart part given gap [] given true × (few ≡ true → arrives s ≡ false))
 
-  -- If fewer than 15 consecutive TS packets with payload are missing, a PES packet is complete
-  -- exactly if all its TS packets arrive.
+  -- If fewer than 15 consecutive TS packets with payload are missing, a PES packet is read
+  -- completely exactly if it arrives.
   abbrev pub IsEndExact : Part → SentPes SentUnit → Type 0
   IsEndExact part s =
       few ≡ true

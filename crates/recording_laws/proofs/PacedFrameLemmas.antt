@@ -1,4 +1,5 @@
--- The frames of a transmission that was accepted with a maximum distance are at most `pace` apart.
+-- If each frame of a transmission is less than `pace` frames after a PES packet, consecutive PES
+-- packets are at most `pace` frames apart.
 use Rattle.std.proofs.Common.{ℕ, zero, suc, ◌+◌, ◌<◌, ◌≤◌, inl, inr, List, [], ◌∷◌, length}
 use Rattle.std.proofs.Common.{map, arith}
 use Rattle.std.specs.Prelude.{⊤}
@@ -21,8 +22,8 @@ AreNear pace (x ∷ more) = AreNearFrom pace x more
 abbrev pub numbers : Transmission → List ℕ
 numbers frames = map (λ (s : SentFrame). s.frame) frames
 
--- Each frame from the first to the last is in the list, or less than `pace` after a frame in the
--- list.
+-- Each frame from the first to the last has a PES packet, or is less than `pace` frames after a
+-- frame that has one.
 abbrev pub AreFramesCovered : ℕ → Transmission → Type 0
 AreFramesCovered pace frames =
     (f : ℕ)

@@ -1,4 +1,4 @@
--- The output for all TS packets of a PES packet is this PES packet.
+-- The reader outputs a PES packet unchanged when it has read all its TS packets.
 use Rattle.std.proofs.Common.{◌≡◌, ℕ, ◌≤◌, inl, inr, Bool, true, false, List, [], ◌∷◌, ◌++◌, length}
 use Rattle.std.proofs.Common.{append_assoc, take, arith, Ok}
 use Rattle.std.proofs.lemmas.Bool.{cases_Bool}

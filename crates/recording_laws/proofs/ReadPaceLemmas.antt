@@ -1,5 +1,5 @@
--- If the frames of PES packets are at most `pace` apart, the PES packets have at most this
--- distance.
+-- If PES packets are read as frames that are at most `pace` apart, the frames that their bytes up
+-- to the PTS give are at most `pace` apart.
 use Rattle.std.proofs.lemmas.Bool.Decides.{nat_tests}
 use Rattle.std.proofs.Common.{◌≡◌, ℕ, ◌+◌, ◌^◌, ◌<◌, ◌≤◌, List, [], ◌∷◌, take, drop, sym, ap, ◌∙◌}
 use Rattle.std.proofs.Common.{subst, arith, Option}

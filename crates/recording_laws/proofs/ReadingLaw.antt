@@ -1,6 +1,5 @@
--- The law of reading: the results of reading the PES packets that were sent, for any losses. The
--- proof is by induction over these PES packets. The laws of losses, of neighbours and of pace
--- follow from it.
+-- After few losses, or if each first TS packet contains the PTS, each PES packet that is read has
+-- the same start as one that was sent. The laws of recordings follow.
 use Rattle.std.proofs.Common.{◌≡◌, ℕ, ◌+◌, inl, inr, Bool, true, false, ◌&&◌, ◌||◌, List, [], ◌∷◌}
 use Rattle.std.proofs.Common.{◌++◌, length, None, refl, sym, ap, ◌∙◌, subst, arith, nat_lt, ◌≤◌}
 use Rattle.std.specs.List.{AllByRecursion, flat_map}

@@ -1,6 +1,5 @@
--- Lemmas for the results of reading the PES packets that were sent, for any number of missing TS
--- packets. PES packets that are read within the maximum distance, with no gap marker between them,
--- were sent one after another.
+-- If PES packets with 16 or more TS packets with payload between their starts are more than `pace`
+-- frames apart, those read at most `pace` apart, with no gap marker, were sent one after another.
 use Rattle.std.proofs.Common.{◌≡◌, ℕ, ◌+◌, ◌<◌, ◌≤◌, ◌⊎◌, inl, inr, Bool, true, false, List, []}
 use Rattle.std.proofs.Common.{◌∷◌, ◌++◌, length, refl, sym, ap, ◌∙◌, subst, arith, ◌&&◌, ◌||◌}
 use Rattle.std.specs.Bool.{⊤}
@@ -18,10 +17,9 @@ use Rattle.recording_laws.proofs.PesPacketLemmas.{gap_markers_where}
 use Rattle.recording_laws.proofs.PesPacketLemmas.{not-empty}
 use Rattle.recording_laws.proofs.PesPacketLemmas.{sent_bytes, equal_lists_have_equal_tails}
 
--- The state before a result of reading: no result yet; a gap after a result; or the result `x` for
--- the PES packet `s`, which has the same start. In the last case the next PES packet starts
--- `between` TS packets with payload after the start of `s`, and `skipped` means that PES packets
--- between them have no result.
+-- What was read before a result: nothing; or a gap; or `x` for the PES packet `s`, with the same
+-- start. `between` is the number of TS packets with payload between the starts of `s` and of the
+-- next PES packet, and `skipped` says whether PES packets between them have no result.
 pub data PreviousResult : Type 0 where
   Nothing : PreviousResult
   PreviousMarker : PreviousResult
@@ -248,7 +246,8 @@ module _ (frame_of : List ℕ → ℕ) (pace : ℕ) where
     sent_bytes_eq : sent_bytes more ≡ run ++ (next ∷ later)
     prefix : up_to_pts next ≡ up_to_pts last
 
-  -- PES packets that start 16 or more TS packets with payload apart exceed the maximum distance.
+  -- If PES packets with 16 or more TS packets with payload between their starts are more than
+  -- `pace` frames apart, those read at most `pace` frames apart have fewer between their starts.
   too-far : (x y a b : List ℕ) (between : ℕ)
       → up_to_pts x ≡ up_to_pts a
       → up_to_pts y ≡ up_to_pts b
@@ -414,8 +413,8 @@ module _ (frame_of : List ℕ → ℕ) (pace : ℕ) where
     pub sent_bytes_eq : sent_bytes sent ≡ earlier ++ (run ++ (next ∷ later))
     pub prefix : up_to_pts next ≡ up_to_pts last
 
-  -- PES packets that are read within the maximum distance, with no gap marker between them, were
-  -- sent one after another.
+  -- If the PES packets sent are far enough apart, those that are read at most `pace` frames apart,
+  -- with no gap marker between them, were sent one after another.
   pub read-run : (previous : PreviousResult) (sent : List (SentPes SentUnit))
       (before run : List (List ℕ))
       (last : List ℕ) (following : List (List ℕ))

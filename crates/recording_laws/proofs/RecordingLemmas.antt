@@ -1,4 +1,5 @@
--- Lemmas for the TS packets of a recording, and for the events of a PID among them.
+-- A reader finds exactly the TS packets of a recording's units, and for each PID the events of its
+-- TS packets.
 use Rattle.std.proofs.Common.{◌≡◌, ℕ, zero, suc, ◌+◌, ◌<◌, ◌≤◌, inl, inr, true, List, [], ◌∷◌, ◌++◌}
 use Rattle.std.proofs.Common.{length, take, drop, map, slice_index, refl, sym, ap, ap₂, ◌∙◌, arith}
 use Rattle.std.proofs.Common.{if◌then◌else◌, ◌==◌, length-append, length-drop}
@@ -51,7 +52,7 @@ drop-last d l u h1 = grind (arith, nat_tests, drop_all, length-drop, length-appe
 first-taken : (n : ℕ) (b : List ℕ) → 0 < n → slice_index (take n b) 0 ≡ slice_index b 0
 first-taken n b some = get_or-take n b 0 0 some
 
--- The items of a recording are the TS packets of its units.
+-- The items that a reader finds in a recording are the TS packets of its units.
 pub items-units : (distance room : ℕ) (units : List (List ℕ))
     → AreRecordedUnits distance units
     → length units ≤ room

@@ -1,6 +1,5 @@
--- Lemmas for any number of missing TS packets: each accepted packet is a copy of a packet that was
--- sent, and the next accepted packet continues it only if the number of missing packets between
--- them is a multiple of 16.
+-- Each accepted packet is a copy of one that was sent. If the next accepted packet continues it,
+-- the number of TS packets with payload missing between them is a multiple of 16.
 use Rattle.std.proofs.Common.{◌<◌, nat_lt, ◌≡◌, ℕ, ◌+◌, ◌%◌, ◌⊎◌, inl, inr, Bool, true, false, ◌||◌}
 use Rattle.std.proofs.Common.{List, [], ◌∷◌, ◌++◌, Option, Some, None, refl, sym, ap, arith, ◌∙◌}
 use Rattle.std.proofs.Common.{subst}
@@ -248,8 +247,8 @@ module _ (distance number : ℕ) (few : Bool) where
       copy : IsPacketCopy p (repeat_or_packet distance number c.again p)
       copy = copy-again distance number p c.again none h.again h.is_carrier.again
 
-  -- The link of an accepted packet to the accepted packet before it, given the number of TS packets
-  -- with payload missing between them and whether a packet was damaged.
+  -- If the accepted packet continues the one before it, the number n of TS packets missing between
+  -- them is a multiple of 16; after few losses it is 0, and no packet was damaged.
   pub record IsLinkExact (n : ℕ) (wrong : Bool) (c : Carrier SentUnit) (g : GoodPacket) : Type 0
     where
       pub cut : is_unlinked g.link ≡ is_break g.link
@@ -269,9 +268,8 @@ module _ (distance number : ℕ) (few : Bool) where
     pub first : following ≡ false → is_unlinked g.link ≡ true
     pub linked_packet : following ≡ true → IsLinkExact n wrong c g
 
-  -- The accepted packets of a recording come from the TS packets with payload that were sent, given
-  -- the number of packets missing since the last accepted packet and whether a packet was damaged
-  -- since then.
+  -- The accepted packets `goods` are copies of TS packets that were sent, in order. Since the last
+  -- accepted packet, n are missing, and `wrong` says whether one was damaged.
   abbrev pub AreTraced : Bool → ℕ → Bool → List (Carrier SentUnit) → List GoodPacket → Type 0
   AreTraced following n wrong [] goods = goods ≡ []
   AreTraced following n wrong (c ∷ cs) goods =

@@ -39,13 +39,13 @@ LawOfNeighbours =
     → (earlier later : List (List ℕ)) × (sent_pes_packets m ≡ earlier ++ (run ++ later))
 
 -- The law of pace, for any number of lost packets. Assumptions: the first TS packet of each PES
--- packet contains its PTS, and two PES packets are more than `pace` frames apart if they start 16
--- or more TS packets with payload apart. Suppose that consecutive PES packets in a recording are at
--- most `pace` frames apart, with no gap marker between them. Then they were sent one after another,
--- with the same bytes, and none between them is missing. The last of them is only known to have the
--- same bytes up to its PTS, because its later TS packets may belong to another PES packet.
--- `frame_of` may be any function of the bytes up to a PTS. So a loss is noticed even if the
--- continuity counters happen to match.
+-- packet contains its PTS, and two PES packets are more than `pace` frames apart if 16 or more TS
+-- packets with payload come between their starts. Suppose that consecutive PES packets in a
+-- recording are at most `pace` frames apart, with no gap marker between them. Then they were sent
+-- in sequence, with the same bytes, and none between them is missing. The last of them is only
+-- known to have the same bytes up to its PTS, because its later TS packets may belong to another
+-- PES packet. `frame_of` may be any function of the bytes up to a PTS. So a loss is noticed even if
+-- the continuity counters happen to match.
 abbrev pub LawOfPace : Type 0
 LawOfPace =
     (number distance pace : ℕ) (frame_of : List ℕ → ℕ) (m : Multiplex SentUnit) (recording : List ℕ)

@@ -25,17 +25,17 @@ FirstPacketContainsPts distance s = 14 ≤ length (payload (sent_packet distance
 
 -- ---- distances of PES packets as sent
 
--- The first of the PES packets starts `between` TS packets with payload after a PES packet with
--- this frame. PES packets that start 16 or more TS packets after it are more than `pace` frames
--- later.
+-- `between` TS packets with payload come between the start of a PES packet with this frame and that
+-- of the first of these PES packets. Those with 16 or more between the starts are more than `pace`
+-- frames later.
 abbrev pub AreFarFrom : (List ℕ → ℕ) → ℕ → ℕ → ℕ → List (SentPes SentUnit) → Type 0
 AreFarFrom frame_of pace frame between [] = ⊤
 AreFarFrom frame_of pace frame between (s ∷ more) =
     (16 ≤ between → frame + pace < frame_up_to_pts frame_of s.bytes)
     × AreFarFrom frame_of pace frame (between + length (carriers_of_pes s)) more
 
--- Any two PES packets that start 16 or more TS packets with payload apart are more than `pace`
--- frames apart, in rising order.
+-- Any two PES packets with 16 or more TS packets with payload between their starts are more than
+-- `pace` frames apart, in rising order.
 abbrev pub AreFarApart : (List ℕ → ℕ) → ℕ → List (SentPes SentUnit) → Type 0
 AreFarApart frame_of pace [] = ⊤
 AreFarApart frame_of pace (s ∷ more) =

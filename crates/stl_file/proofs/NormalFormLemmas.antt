@@ -145,7 +145,7 @@ refused_body_writes_nothing s r f old e never c = grind (
   unchanged_sink_keeps_contents,
 )
 
--- The facts about an accepted file: its subtitles, their counts, and the bytes of the normal form.
+-- An accepted file has these subtitles, this number of them, and these bytes of its normal form.
 record Accepted (s : List ℕ) (r : ReaderValue) (c : Counts) : Type 0 where
   ts : List SubtitleValue
   is_file : IsFile s (take 1024 s) ts

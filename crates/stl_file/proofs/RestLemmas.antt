@@ -37,7 +37,8 @@ use Rattle.stl_file.proofs.FindingsLemmas.{findings_break_at_cut_block}
 abbrev pub joined_groups : List (List (List ℕ)) → List (List ℕ)
 joined_groups gs = flat_map (λ (g : List (List ℕ)). g) gs
 
--- The subtitles in the bytes b, given the current subtitle, if any.
+-- `judged_with_room` gives the subtitles of the bytes or their first fault. `begun` is the current
+-- subtitle.
 abbrev pub judged_with_room : Scope → ℕ → Option StartedSubtitle → List ℕ → SubtitlesOrFault
 judged_with_room scope room begun b = subtitles_of (stopped (findings_with_room scope room begun b))
 
@@ -86,8 +87,8 @@ result_without_skipped scope (b ∷ bs) begun few room ss h f le e =
           ) at e)
     ])
 
--- The result after the blocks of a subtitle: the subtitle, unless it is skipped, followed by the
--- later subtitles.
+-- After the blocks of a subtitle, the result is that subtitle, unless it is skipped, followed by
+-- the later subtitles.
 abbrev judged_after_started : StartedSubtitle → List (List ℕ) → SubtitlesOrFault → SubtitlesOrFault
 judged_after_started o tail j =
     cond o.is_skipped j

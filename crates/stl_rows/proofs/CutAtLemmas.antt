@@ -1,4 +1,4 @@
--- The parts of a text at the first occurrence of a character.
+-- The first occurrence of a character splits a text into the part before it and the rest.
 use Rattle.std.proofs.Common.{◌≡◌, ℕ, ◌<◌, ◌≤◌, List, [], ◌∷◌, length, refl, ◌==◌, arith}
 use Rattle.std.proofs.Common.{Bool, Option, Some, None, option_map, nat_lt, subst, sym}
 use Rattle.std.proofs.lemmas.Bool.{ltb-false, ltb-true}

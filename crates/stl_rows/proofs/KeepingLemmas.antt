@@ -202,8 +202,8 @@ abbrev is_followed : Option Times → Findings → Bool
 is_followed None left = true
 is_followed (Some times) left = is_followed_in_order times left
 
--- The reliable subtitles of a file: the kept subtitles, without the last one if the next subtitle
--- starts before its TCI or overlaps it, followed by the reliable subtitles of the rest.
+-- The reliable subtitles of a file are the kept subtitles, without the last if the next one starts
+-- before its TCI or overlaps it, followed by the reliable subtitles of the rest.
 abbrev pub judged_after_call : Drawing → Option Times → KeptRecords → Findings → AllJudged
 judged_after_call drawing before k left =
     if k.was_last_kept && not (is_followed before left)

@@ -60,8 +60,8 @@ option_is_named_by_word n text =
 abbrev pub HaveNames : List SubSet → Type 0
 HaveNames rows = AllByRecursion (λ (r : SubSet). r.word.now ≡ (sub_set r.national).word) rows
 
--- A search for a name in a table of such rows finds the first option of this name. (Induction over
--- the rows: a proof by cases of all rows ends at the limit of `grind`.)
+-- If all rows of a table have their options' names, a search for a name finds the first option of
+-- this name. (By induction: `grind` ends at its limit if it takes all rows as cases.)
 pub option_of_found_row : (rows : List SubSet) (text : List ℕ)
     → HaveNames rows
     → option_map (λ (r : SubSet). r.national)
@@ -72,14 +72,14 @@ option_of_found_row [] text h = refl
 option_of_found_row (r ∷ rows) text h =
     grind (arith, nat_tests, h.0, option_of_found_row rows text h.1)
 
--- The names and the options of a table's rows.
+-- `words_of` and `nationals_of` are the names and the options in a table's rows.
 abbrev pub words_of : List SubSet → List (List ℕ)
 words_of rows = map (λ (r : SubSet). r.word.now) rows
 
 abbrev pub nationals_of : List SubSet → List National
 nationals_of rows = map (λ (r : SubSet). r.national) rows
 
--- If the names of a table's rows are those of its options, so is each of them.
+-- If the names in a table are those of its options, in this order, each row has its option's name.
 have_names : (rows : List SubSet)
     → words_of rows ≡ map (λ (n : National). (sub_set n).word) (nationals_of rows)
     → HaveNames rows
@@ -89,7 +89,7 @@ have_names (r ∷ rows) e =
     let rest : words_of rows ≡ map (λ (n : National). (sub_set n).word) (nationals_of rows) = cc in
     (head, have_names rows rest)
 
--- So it is for the table that has all options in the order of the definition.
+-- If a table has all options in the order of the definition, a search finds the named option.
 pub found_option_is_named : (rows : List SubSet) (text : List ℕ) (found : Option National)
     → found ≡ option_map (λ (r : SubSet). r.national)
     (find (λ (r : SubSet). bytes_eq r.word.now text) rows)

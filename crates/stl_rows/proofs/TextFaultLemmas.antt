@@ -1,5 +1,5 @@
--- The first fault of a text, found from a few properties of each line while its text codes are read
--- one by one.
+-- While the text codes are read one by one, a few properties of each line determine the first fault
+-- of a text.
 use Rattle.std.proofs.Common.{rules, ◌≡◌, ℕ, ◌+◌, Bool, true, false, cond, List, [], ◌∷◌, ◌++◌}
 use Rattle.std.proofs.Common.{Option, None, length, refl, sym, ap, ◌∙◌, arith, length-append}
 use Rattle.std.proofs.Common.{append-nil}

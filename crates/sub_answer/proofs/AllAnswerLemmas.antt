@@ -1,5 +1,5 @@
--- Lemmas for the answer of `check --all`, which follows from the events reported to a printer. Each
--- source fails at most once.
+-- The events that are reported to a printer determine the output and the status of `check --all`.
+-- Each source fails at most once.
 use Rattle.std.proofs.Common.{◌≡◌, ◌≢◌, ◌∙◌, ap, refl, sym, subst, arith, inl, inr, ℕ, ◌+◌, ◌==◌}
 use Rattle.std.proofs.Common.{List, [], ◌++◌, Bool, true, false, Option, Some, None, Result, Ok}
 use Rattle.std.proofs.Common.{Err, min, ◌∷◌}
@@ -199,8 +199,8 @@ done-exactly drawing options file bytes pes first events (Ok (Some a)) Means kno
           cc,
     )
 
--- If the sink failed while events were reported, it received a prefix of the output of `check
--- --all`.
+-- If the sink failed while events were reported, the printed text is a prefix of the complete
+-- output of `check --all`.
 pub answers_cut :
     (drawing : Drawing) (options : OptionsValue) (stl pes : SourceCall) (first : FirstNumber)
     (Untouched : Type 0) (old new : PrinterValue) (given : Result (Option Accepted) CheckFault)

@@ -1,4 +1,5 @@
--- Lemmas for the answer of a check: its status is 0 exactly if the files are accepted.
+-- The result of `check_files` determines the status of a check: it is 0 exactly if the files are
+-- accepted.
 use Rattle.std.proofs.lemmas.Bool.Decides.{nat_tests}
 use Rattle.std.proofs.Common.{◌≡◌, ◌≢◌, ◌↔◌, ℕ, List, Some, Result, Ok, Err, true, false}
 use Rattle.std.proofs.Common.{ap, arith, refl, sym, subst, Bool}

@@ -1,4 +1,5 @@
--- Lemmas for the status of a check, which agrees with the bytes of both files.
+-- If the bytes of both files are known and no device failed, the status of a check is 0 exactly if
+-- these bytes are accepted.
 use Rattle.std.proofs.Common.{◌≡◌, ◌≢◌, ◌↔◌, ◌∙◌, ap, arith, refl, sym, ℕ, List, Bool, true}
 use Rattle.std.proofs.Common.{false, Result, Ok, Err}
 use Rattle.std.specs.Prelude.{IsFalse, IsOk}

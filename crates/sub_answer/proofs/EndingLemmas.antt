@@ -1,5 +1,5 @@
--- Lemmas for the end of a run: the statement about its end also holds with weaker properties of its
--- devices, and all bytes were written and flushed before a source failed.
+-- What is known at the end of a run remains true for weaker properties of its devices. All bytes
+-- were written and flushed before a source failed.
 use Rattle.std.proofs.lemmas.Bool.Decides.{nat_tests}
 use Rattle.std.proofs.Common.{arith}
 use Rattle.std.proofs.Common.{◌≡◌, ◌∙◌, ap, refl, subst, ℕ, List, [], ◌∷◌, ◌++◌}

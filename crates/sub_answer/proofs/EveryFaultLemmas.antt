@@ -1,5 +1,5 @@
--- Lemmas for the events of a subtitle file and then of a PES file: they are reported to a printer,
--- and they determine the answer.
+-- The events of a subtitle file, and then those of a PES file, are reported to a printer, and they
+-- determine the answer.
 use Rattle.std.proofs.lemmas.Bool.Decides.{nat_tests}
 use Rattle.std.proofs.Common.{◌≡◌, ◌∙◌, ap, refl, sym, subst, arith, inl, inr, ℕ, ◌<◌, ◌≤◌}
 use Rattle.std.proofs.Common.{List, [], ◌∷◌, take, length, Bool, true, false, Option}

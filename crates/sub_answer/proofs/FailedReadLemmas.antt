@@ -1,5 +1,5 @@
--- Lemmas for a failed source of the PES file: the failure is reported last, after the events of
--- earlier PES packets.
+-- If the source of a PES file fails, the failure is reported last, after the events of earlier PES
+-- packets.
 use Rattle.std.proofs.lemmas.Bool.Decides.{nat_tests}
 use Rattle.std.proofs.Common.{◌≡◌, refl, sym, subst, arith, ℕ, ◌<◌}
 use Rattle.std.proofs.Common.{List, [], Bool, true, Option}

@@ -1,4 +1,4 @@
--- Lemmas for the output of `listen`, which follows from the run of its receiver.
+-- The run of the receiver that `listen` simulates determines the output of `listen`.
 use Rattle.std.proofs.lemmas.Bool.Decides.{nat_tests}
 use Rattle.std.specs.Prelude.{IfOk}
 use Rattle.std.proofs.Common.{◌≡◌, ◌∙◌, ℕ, ◌+◌, List, arith, refl, subst, sym, Bool, Option}

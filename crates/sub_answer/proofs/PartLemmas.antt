@@ -1,4 +1,4 @@
--- Lemmas for a part of a source: its bytes are those of the selected PES packets.
+-- The bytes of a part of a source are those of the PES packets that the request selects.
 use Rattle.std.proofs.lemmas.Bool.Decides.{nat_tests}
 use Rattle.std.proofs.Common.{◌≡◌, ◌∙◌, ap, arith, ℕ, List, Option, Some, None, true, false}
 use Rattle.std.specs.Prelude.{◌⊎◌, option_map}

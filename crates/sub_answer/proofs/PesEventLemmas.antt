@@ -1,5 +1,4 @@
--- Lemmas for the events of a PES file: they are reported to a printer, and they determine the
--- answer.
+-- The events of a PES file are reported to a printer, and they determine the answer.
 use Rattle.std.proofs.Common.{◌≡◌, ◌∙◌, ap, refl, sym, subst, arith, ℕ, ◌+◌, ◌≤◌}
 use Rattle.std.proofs.Common.{zero, suc, List, take, length, Bool, true, false, Option}
 use Rattle.std.proofs.Common.{Some, None, Result, Ok, Err, ◌-◌}

@@ -1,5 +1,5 @@
--- Lemmas for the output of `survey`: it is complete, or a prefix because the sink failed, or it
--- ends with the line of a fault.
+-- The output of `survey` is complete, or it is a prefix because the sink failed, or it ends with
+-- the line of a fault.
 use Rattle.std.proofs.Common.{◌≡◌, ◌≢◌, ℕ, ◌+◌, List, ◌++◌, Option, refl, ◌∙◌, ap, arith, inl, inr}
 use Rattle.std.proofs.KnownBytes.{Appends-trans}
 use Rattle.mpeg_ts.specs.declared.survey_options.SurveyOptions.{SurveyOptions}

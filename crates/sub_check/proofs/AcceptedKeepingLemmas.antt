@@ -1,5 +1,5 @@
--- The option that repeats may keep the page does not change the contents of the files. A good
--- transmission without this option is good with it.
+-- An option that lets repeats keep the page does not change the contents of the files. A
+-- transmission that is good without this option is good with it.
 use Rattle.std.proofs.Common.{ℕ, Bool, true, List, sym, subst}
 use Rattle.stl_file.specs.Subtitle.{SubtitleValue}
 use Rattle.stl_rows.specs.Programme.{ProgrammeValue}
@@ -16,7 +16,7 @@ use Rattle.sub_check.proofs.AcceptedWithinLemmas.{accepted_answer_has_no_failure
 abbrev options_with_keeping : Bool → OptionsValue → OptionsValue
 options_with_keeping may options = record options { keeps = may }
 
--- Of the options, only those of the clock affect the contents of the files.
+-- An option that lets repeats keep the page does not change the contents of the files.
 files_mean-keeps :
     (may : Bool) (drawing : Drawing) (options : OptionsValue) (stl pes : List ℕ)
     (subtitles : List SubtitleValue) (t : Transmission)

@@ -33,8 +33,8 @@ pub same_programme :
     (a b : ProgrammeValue) (r : Result ProgrammeValue LoadFault) → r ≡ Ok a → r ≡ Ok b → a ≡ b
 same_programme a b r e f = let both = sym e ∙ f in cc
 
--- If the subtitle file was loaded, a result without a device failure does not report a failed read
--- of the PES file.
+-- A result that reports neither a fault of the subtitle file nor a failed device does not report
+-- that the PES file could not be read.
 answer_after_loading :
     (answer : Result Accepted CheckFault)
     → failed is_subtitle_fault answer ≡ false

@@ -25,8 +25,8 @@ use Rattle.sub_check.proofs.VerdictLemmas.{Decides, IsReadCompletely, ReadsUntil
 use Rattle.sub_check.proofs.VerdictLemmas.{answer_is_checked}
 use Rattle.sub_check.proofs.VerdictLemmas.{answer_is_checked_within}
 
--- The result of `check` agrees with the bytes of the file: with any options, and also with the
--- default options (no repeat keeps the page, and no delay is allowed).
+-- The result of `check` agrees with the bytes of the file under the options and, if no repeat keeps
+-- the page and no delay is allowed, under the rules without these options.
 pub record IsAnswerForFirstFault
     (programme : ProgrammeValue) (options : OptionsValue) (bytes : List ℕ)
     (answer : Result Accepted CheckFault)

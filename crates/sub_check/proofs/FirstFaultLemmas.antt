@@ -125,7 +125,8 @@ module _ (programme : ProgrammeValue) (options : OptionsValue) (bytes : List ℕ
         (λ pes is. no_fault_before_failed_read empty kept f pes e fault_free reported
         (let same = is in cc))
 
--- Any number of valid PES packets, for a source whose bytes are unknown.
+-- Any number of empty PES packets are valid PES packets. They stand for the PES packets of a source
+-- whose bytes are unknown.
 empty_packets_are_valid : (n : ℕ)
     → AllByRecursion (λ b. (v : PesValue) × IsValidPesPacket v b)
     (replicate n (canonical_packet empty_value))
@@ -135,7 +136,8 @@ empty_packets_are_valid (suc n) =
     record { pts = omega arith; few = omega arith; each = tt; in_order = tt } in
     ((empty_value, canonical_packet_is_valid empty_value is), empty_packets_are_valid n)
 
--- If the source failed and no PES packet was skipped, it failed within a PES packet.
+-- If the source failed while PES packet `pes` was read, and no fault was reported before, the PES
+-- packets before it are valid.
 pub failure_is_at_reported_packet : (programme : ProgrammeValue) (options : OptionsValue)
     (empty kept : Option CheckFault) (f : CheckFault) (pes : ℕ) (old new : Option (List ℕ))
     → empty ≡ None

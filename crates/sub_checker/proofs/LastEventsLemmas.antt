@@ -144,7 +144,7 @@ equal_events_have_same_reports es fs is =
     })
 
 module _ (k n : ℕ) (u : UnreadReason) where
-  -- The events of a list, followed by the fault of the unread bytes, which has PES packet number i.
+  -- The list's events are followed by the fault of the unread bytes, with PES packet number i.
   abbrev with_unread_fault : List Event → ℕ → List Event
   with_unread_fault es i = es ++ Reported (unread_fault i (Some u)) ∷ []
 

@@ -1,4 +1,5 @@
--- The rejected transmission has clean frames: no fault is reported in them.
+-- The transmission of the example is rejected, but has a range of frames without faults that affect
+-- receivers.
 use Rattle.std.proofs.lemmas.Bool.Decides.{nat_tests}
 use Rattle.std.proofs.Common.{ℕ, inl, inr, List, [], ◌∷◌, None, false, refl, arith}
 use Rattle.std.specs.Int.RustNames.{count_ones}

@@ -1,5 +1,5 @@
--- For each fault that matters to receivers, a transmission that has only this fault and fails at a
--- receiver. Each example gives the start of the receiver and the packets that it receives.
+-- For each fault that affects receivers, a transmission that has only this fault fails at one
+-- receiver. Each example gives the receiver's start and the packets that it receives.
 use Rattle.std.proofs.Common.{List, [], ◌∷◌, refl, ℕ}
 use Rattle.std.specs.Int.RustNames.{count_ones}
 use lib.Count.{ones_in}
@@ -34,7 +34,7 @@ abbrev header_with_two_wrong_bits : List ℕ
 header_with_two_wrong_bits =
     header_of_coded_bytes (0x16 ∷ 0x15 ∷ 0xD0 ∷ 0xD0 ∷ 0x15 ∷ 0xD0 ∷ 0x15 ∷ 0xD0 ∷ 0x02 ∷ 0x15 ∷ [])
 
--- Each example gives a receiver that fails without the rule.
+-- The transmission of each example breaks only one rule, and fails at one receiver.
 pub examples_of_needed_parts : ExamplesOfNeededParts
 unfolding are_code_words is_word_below first_even_parity_byte breaks differing_column_count is_gap
     packet_rules active_faults_at is_late first_wrong_cell_after first_cell is_incomplete

@@ -1,6 +1,5 @@
--- Tests that compute the states of one receiver. If this receiver fails, the transmission is not
--- robust. If the transmission has only one fault that matters to receivers, the rule for this fault
--- is necessary.
+-- Each test computes the states of one receiver. If this receiver fails, the transmission is not
+-- robust. If only one fault affects receivers, the rule for it is necessary.
 use Rattle.std.proofs.lemmas.Bool.Decides.{nat_tests, Decides-and, Decides-like, Decides-ltb}
 use Rattle.std.proofs.lemmas.List.Elements.{recursion_from_All}
 use Rattle.std.proofs.lemmas.List.Kept.{AllPairs-cons}
@@ -49,8 +48,8 @@ before = record {
   page = replicate 24 (replicate 40 0x3F);
 }
 
--- A receiver may receive the packets from packet `j` of frame `g` to the end of frame `f`, within
--- frames `a` to `b`.
+-- A receiver can listen from packet `j` of frame `g` to the end of frame `f`, which are in the
+-- frames from `a` to `b`.
 abbrev may_listen : Transmission → ℕ → ℕ → ℕ → ℕ → ℕ → Bool
 may_listen frames a b g j f =
     nat_le a g && (nat_le g f && (nat_le f b && nat_le j (length (packets_of frames g))))

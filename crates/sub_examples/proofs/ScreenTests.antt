@@ -1,4 +1,4 @@
--- Proves the examples of screens by computing the receivers' states.
+-- The examples of screens are true: the state of each receiver is computed from its packets.
 use Rattle.std.proofs.lemmas.Bool.Decides.{nat_tests}
 use Rattle.std.proofs.Common.{◌≡◌, true, false, List, [], ◌∷◌, Option, Some, None, refl, sym, ap}
 use Rattle.std.proofs.Common.{◌∙◌, subst, le_refl, true≢false, not, ℕ, ◌≤◌, arith, length, ◌++◌}

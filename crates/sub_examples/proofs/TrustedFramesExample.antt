@@ -1,4 +1,5 @@
--- The clean frames of each example, computed from the definition.
+-- The definition of trusted frames gives exactly the frames that each example states, by
+-- computation.
 use Rattle.std.proofs.Common.{refl}
 use Rattle.sub_rules.specs.Trusted.{with_pes_number, back_frame_of, invalidated_by}
 use Rattle.sub_rules.specs.Trusted.{last_packet_frame, late_run_start}

@@ -3,7 +3,7 @@
 //! No contract covers the messages; they do not affect any result.
 ghost use Rattle.std.specs.Prelude.{None};
 
-use crate::input_kind::{InputKind, input_kind_of};
+use crate::input_kind::{InputKind, input_kind_of, is_time_fault};
 use std::cell::Cell;
 use std::fs::{Metadata, OpenFile};
 use std::io;
@@ -18,6 +18,8 @@ pub struct ErrorReporter<'a, T, E> {
     is_standard_output: bool,
     // Receives the format of the file at the first read.
     kind: Option<&'a Cell<InputKind>>,
+    // Receives at the first write whether the text begins with a fault of times.
+    time_fault: Option<&'a Cell<bool>>,
 }
 
 impl<'a, T, E: Eprint> ErrorReporter<'a, T, E> {
@@ -29,6 +31,7 @@ impl<'a, T, E: Eprint> ErrorReporter<'a, T, E> {
             errors,
             is_standard_output: false,
             kind: None,
+            time_fault: None,
         }
     }
 
@@ -41,18 +44,21 @@ impl<'a, T, E: Eprint> ErrorReporter<'a, T, E> {
             errors,
             is_standard_output: false,
             kind: Some(kind),
+            time_fault: None,
         }
     }
 
-    /// Creates a reporter for standard output. It prints no message if the reader of a pipe has
-    /// exited, as `head` does.
-    pub fn standard_output(inner: T, errors: &'a E) -> Self {
+    /// Creates a reporter for standard output, and stores in `time_fault` whether the first text is
+    /// a fault of a subtitle file's times. It prints no message if the reader of a pipe has exited,
+    /// as `head` does.
+    pub fn standard_output(inner: T, errors: &'a E, time_fault: Option<&'a Cell<bool>>) -> Self {
         ErrorReporter {
             inner,
             name: "",
             errors,
             is_standard_output: true,
             kind: None,
+            time_fault,
         }
     }
 
@@ -103,7 +109,11 @@ impl<T: Write, E: Eprint> Write for ErrorReporter<'_, T, E> {
         let answer = self.inner.write(from);
         match &answer {
             Ok(0) => self.explain("write", &io::Error::from(ErrorKind::WriteZero)),
-            Ok(_) => {}
+            Ok(_) => {
+                if let Some(time_fault) = self.time_fault.take() {
+                    time_fault.set(is_time_fault(from));
+                }
+            }
             Err(error) => self.explain("write", error),
         }
         answer

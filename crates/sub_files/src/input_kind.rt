@@ -1,5 +1,5 @@
 //! Recognises the format of an input from its first bytes, and explains on standard error that an
-//! input was given in the wrong place.
+//! input was given in the wrong place, or that its times may start again at midnight.
 //!
 //! No contract covers the messages; they do not affect any result.
 
@@ -19,13 +19,16 @@ pub enum InputKind {
     TransportStream(u8),
 }
 
-/// The formats that the inputs of a run appear to have, in the order in which they were opened.
+/// The formats that the inputs of a run appear to have, in the order in which they were opened, and
+/// whether the answer was a fault of their times.
 #[derive(Drop)]
 pub struct InputKinds {
     /// The format of the file that was opened first.
     pub first: Cell<InputKind>,
     /// The format of the file that was opened second.
     pub second: Cell<InputKind>,
+    /// Whether the first printed line is a fault of the order of times.
+    pub has_time_fault: Cell<bool>,
 }
 
 impl InputKinds {
@@ -34,8 +37,15 @@ impl InputKinds {
         InputKinds {
             first: Cell::new(InputKind::Unknown),
             second: Cell::new(InputKind::Unknown),
+            has_time_fault: Cell::new(false),
         }
     }
+}
+
+/// Returns whether a line is a fault that times in the wrong order cause: 21, a TCI that is not
+/// before its TCO, or 56, a TCI before the TCI of the previous subtitle.
+pub fn is_time_fault(line: &[u8]) -> bool {
+    line.starts_with(b"refused 21 ") || line.starts_with(b"refused 56 ")
 }
 
 // The number of sync bytes, one packet apart, by which a transport stream is recognised.
@@ -81,14 +91,17 @@ fn has_sync_bytes(bytes: &[u8], start: usize, size: usize) -> bool {
 }
 
 /// Prints one line if a refused input appears to be a transport stream without `--pid`, or a file
-/// of another format than the command reads in its place. Otherwise prints nothing.
+/// of another format than the command reads in its place, or if `check` without `--all` refuses the
+/// order of a subtitle file's times. Otherwise prints nothing.
 pub fn explain_refusal<E: Eprint>(request: &Request<'_>, kinds: &InputKinds, errors: &E) {
     match request.files() {
         FileNames::ReadStl(stl) | FileNames::Write(stl, _) => {
             explain_subtitle_file(stl.name(), kinds.first.get(), "", errors);
         }
         FileNames::ReadBoth(stl, pes) => {
-            if !explain_subtitle_file(stl.name(), kinds.first.get(), EXCHANGED, errors) {
+            if kinds.has_time_fault.get() {
+                explain_times(request, stl.name(), errors);
+            } else if !explain_subtitle_file(stl.name(), kinds.first.get(), EXCHANGED, errors) {
                 explain_pes_packets(pes.name(), kinds.second.get(), has_pid(request), errors);
             }
         }
@@ -108,6 +121,16 @@ fn has_pid(request: &Request<'_>) -> bool {
             pes.stream.is_some()
         }
         _ => true,
+    }
+}
+
+// Prints which tool judges a subtitle file over midnight. Prints nothing with `--all`, since that
+// tool calls `check --all` itself.
+fn explain_times<E: Eprint>(request: &Request<'_>, name: &str, errors: &E) {
+    if let Request::Check { all: false, .. } = request {
+        let _ = eprintln!(errors;
+            "subttx: {name:?}: if the times start again at midnight, check the file with qc"
+        );
     }
 }
 

@@ -1,5 +1,5 @@
--- Lemmas for the law of plain acceptance: both files contain a programme, and the transmission is
--- good by the options exactly if it is good by the rules.
+-- If `within` is 0 and each header of the page has to erase the page, files are accepted exactly if
+-- they contain subtitles and a good transmission of them.
 use Rattle.std.proofs.Common.{◌≡◌, ℕ, Bool, List, [], ◌∷◌, sym, subst}
 use Rattle.std.specs.Prelude.{All, IsFalse}
 use Rattle.std.specs.List.{AllZip}
@@ -37,7 +37,8 @@ module _ (drawing : Drawing) (options : OptionsValue) (stl pes : List ℕ)
     drawable = files_mean.drawable;
   }
 
-  -- If `within` is 0, the contents of both files do not depend on the precision of each PTS.
+  -- If `within` is 0, files have the same contents whether each PTS must be exact or within its
+  -- tolerance.
   exact_of :
       options.within ≡ 0
       → FilesMeanWithin drawing options stl pes subtitles t

@@ -1,5 +1,5 @@
--- Lemmas for the law of chosen arguments: the values of the arguments for `check STL PES` and
--- options give the request.
+-- The arguments `check STL PES`, followed by options, give the request with the values of these
+-- options.
 use Rattle.std.proofs.Common.{◌≡◌, ◌∙◌, Bool, true, false, List, [], ◌∷◌, ◌++◌, Option, Some}
 use Rattle.std.proofs.Common.{ℕ, None, Ok, Err, refl, sym, ap, arith, codes, drop, ◌^◌, ◌-◌}
 use Rattle.std.proofs.Common.{inl, inr, subst, append_assoc, append-nil}

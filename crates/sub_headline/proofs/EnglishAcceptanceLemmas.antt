@@ -1,6 +1,5 @@
--- Lemmas for the law of English acceptance: the files have subtitles and a transmission as their
--- contents exactly if they match the formats, and a transmission is good exactly if it is good by
--- the rules for English.
+-- Files contain subtitles and a transmission exactly if they match the formats. A transmission is
+-- good exactly if it is good by the rules for English.
 use Rattle.std.proofs.Common.{◌≡◌, ◌∙◌, ℕ, Bool, false, List, Result, ap, subst, sym}
 use Rattle.std.specs.Prelude.{All, IsFalse, IsOk, IsTrue}
 use Rattle.ttx_packet.specs.declared.header.Header.{Header}

@@ -1,6 +1,5 @@
--- Lemmas for English subtitles in the default layout: they are drawn as their English pages, so the
--- expected page is the English page; and a subtitle is accepted if its text can be drawn
--- completely.
+-- In the default layout, English subtitles are drawn as their English pages, and a subtitle is
+-- accepted exactly if its text can be drawn completely.
 use Rattle.std.proofs.lemmas.Bool.Decides.{nat_tests}
 use Rattle.std.proofs.lemmas.List.Elements.{All-cons, All-head, All-nil, All-tail}
 use Rattle.std.proofs.Common.{◌≡◌, ◌≢◌, ◌⊎◌, ◌∙◌, ℕ, ◌+◌, ◌≤◌, Bool, true, false, List, [], ◌∷◌}
@@ -36,7 +35,8 @@ use Rattle.sub_headline.specs.EnglishPage.{english_cell}
 use Rattle.sub_headline.specs.EnglishPage.{english_due_page}
 use Rattle.sub_headline.specs.EnglishPage.{english_lines, english_page, page_or_blank, put}
 
--- A character that is not a diacritical mark is not part of a pair of bytes.
+-- If a table has no cell for a pair of bytes, it still has none after an entry for a single byte is
+-- put in front of it.
 absent_cell_has_no_pair : (x : Bool) (a rest : Option ℕ) → rest ≡ None →
     (if x && false then a else rest) ≡ None
 absent_cell_has_no_pair true a rest e = e
@@ -63,7 +63,8 @@ english_byte_has_no_pair byte None = choice_of_absent_is_absent (is_diacritical 
 english_byte_has_no_pair byte (Some next) = choice_of_absent_is_absent (is_diacritical byte)
     _ (english_has_no_second_cell byte next)
 
--- If both branches of a choice are equal to a value, the choice is equal to it.
+-- If two tables have the same cell for a byte, they still do after the same entry for a single byte
+-- is put in front of both.
 equal_branches_are_equal : (x : Bool) (a p q : Option ℕ) → p ≡ q
     → (if x && true then a else p) ≡ (if x then a else q)
 equal_branches_are_equal true a p q e = refl
@@ -227,7 +228,7 @@ accepted_lines_fit number row under (line ∷ ls) e =
       accepted_lines_fit (number + 1) (row + 1) (has_double_height line) ls of.1,
     )
 
--- A subtitle that was accepted is drawn as its English page, and its text is drawn completely.
+-- The subtitle is drawn as its English page, and its text is drawn completely.
 pub record IsDrawnAsEnglish (t : SubtitleValue) : Type 0 where
   pub page : drawn default_drawing t ≡ Ok (english_page t)
   pub whole : IsDrawnCompletely t

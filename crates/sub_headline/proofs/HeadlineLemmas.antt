@@ -396,7 +396,8 @@ record ArgumentsRequestCheck
   pub none : options.within ≡ 0
   pub off : IsFalse options.keeps
 
--- The exit code of a run of `check` decides whether the bytes of both files are accepted.
+-- The exit code of a run of `check` is 0 exactly if the bytes of both files are accepted. The
+-- origin is less than 2^33, as each PTS is.
 record ExitCodeDecides
     (drawing : Drawing) (options : OptionsValue) (file read : List ℕ) (code : ℕ)
     : Type 0 where

@@ -1,5 +1,4 @@
--- Lemmas for the law of chosen arguments: the options after `check STL PES` add their values to the
--- values of the arguments.
+-- The options after `check STL PES` add their values to the values of the arguments.
 use Rattle.std.proofs.Common.{◌≡◌, ◌∙◌, ℕ, Bool, true, false, List, [], ◌∷◌, Option, Some}
 use Rattle.std.proofs.Common.{None, refl, sym, ap, arith, codes, drop, subst}
 use Rattle.std.proofs.lemmas.Bool.Decides.{nat_tests}
@@ -466,7 +465,8 @@ option_sets_row h (Of IncludeOpen) = refl
 option_sets_row h (Letters text national name is) = refl
 option_sets_row h (Lines text layout name is) = refl
 
--- The values of an argument after one more option.
+-- The values of the argument `id` after one more option: the option's values if it sets this
+-- argument.
 abbrev pub values_with_choice : Text → List (List Text) → DisplayOption → List (List Text)
 values_with_choice id vs choice = if bytes_eq (key choice) id then option_values choice ∷ [] else vs
 

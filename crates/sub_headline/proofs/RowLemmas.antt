@@ -1,5 +1,5 @@
--- Lemmas for the values of an argument, by its id, after the argument was used again, and after
--- default values were added.
+-- An argument, found by its id, has the values with which it was used last, or its default values
+-- if it was not used.
 use Rattle.std.proofs.Common.{◌≡◌, ◌∙◌, Bool, true, false, List, [], ◌∷◌, ◌++◌, Option, Some}
 use Rattle.std.proofs.Common.{None, refl, sym, ap, drop}
 use Rattle.std.proofs.lemmas.Slice.Eq.{bytes_eq-Decides}
@@ -11,7 +11,7 @@ use Rattle.clap.specs.declared.builder.value_parser.Reading.{Reading}
 use Rattle.clap.specs.declared.parser.matches.ValueSource.{ValueSource}
 use Rattle.clap.specs.declared.parser.matches.ValueSource.TheVariants.{CommandLine, DefaultValue}
 
--- The values in all rows with this id.
+-- The values of each row with this id; a row has the values of one argument.
 abbrev pub values_at : Text → List Row → List (List Text)
 values_at id [] = []
 values_at id (r ∷ rs) = if bytes_eq r.id id then r.values ∷ values_at id rs else values_at id rs
@@ -25,7 +25,7 @@ abbrev is_present : List (List Text) → Bool
 is_present [] = false
 is_present (v ∷ vs) = true
 
--- The rows after an argument was used again.
+-- The rows after an argument was used again: the new values replace its earlier ones.
 abbrev pub set_row : Text → Reading → List Text → List Row → List Row
 set_row id how option_values rows = with_values id how CommandLine option_values (without id rows)
 

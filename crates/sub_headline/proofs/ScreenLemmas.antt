@@ -16,7 +16,8 @@ use Rattle.sub_headline.specs.EnglishScreen.{EachScreenShows, LawOfEnglishCharac
 use Rattle.sub_headline.specs.EnglishScreen.{space_character}
 use Rattle.sub_headline.specs.EnglishScreen.{english_character, text_character}
 
--- A byte whose code is the same number is at no place of the national sub-set.
+-- A byte that means the same in all national options differs from each code whose character depends
+-- on the national option.
 common_bytes_differ_from_places : (place byte : ℕ)
     → is_common place ≡ false
     → is_common byte ≡ true

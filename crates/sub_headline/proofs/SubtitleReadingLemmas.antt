@@ -31,9 +31,8 @@ chunks_are_blocks (b ∷ bs) each =
 abbrev IsNoComment : List ℕ → Type 0
 IsNoComment b = cf b ≡ 0
 
--- Two tests agree for a block that is read as part of a subtitle and is not a comment: the test by
--- the format of the file, and the test by the fixed positions of the fields. They also agree for a
--- block that is skipped.
+-- If a block with CF 0 (no comment) is part of a subtitle by the format of the file, it is part of
+-- one by the test of the fixed positions of EBN and CF.
 kept_block_is_of_subtitle : (e c : ℕ)
     → c ≡ 0
     → not ((e == 0xFE) || ((nat_lt e 0xF0 || (e == 0xFF)) && (c == 0x01))) ≡ true

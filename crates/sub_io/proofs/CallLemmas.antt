@@ -1,5 +1,5 @@
--- One call of the device, followed by the remaining calls of `fill` or `put_all`, gives all calls
--- of that function.
+-- All calls of the device in `fill` or `put_all` are one call of it, followed by the remaining
+-- calls of that function.
 use Rattle.std.proofs.Common.{◌≡◌, ℕ, ◌-◌, ◌<◌, Bool, List, ◌∷◌, length}
 use Rattle.std.proofs.Common.{Option, Some, ◌+◌, arith, drop}
 use Rattle.std.proofs.Common.{drop-drop, length-drop}

@@ -1,4 +1,5 @@
--- The active faults at the end of a frame are exactly the broken rules.
+-- At the end of each frame, a fault is active exactly if the transmission does not meet the
+-- requirement of its rule.
 use Rattle.std.proofs.Common.{◌≡◌, ◌↔◌, ℕ, zero, suc, ◌+◌, ◌-◌, ◌<◌, ◌≤◌, Bool, true, false, []}
 use Rattle.std.proofs.Common.{length, take, Option, Some, None, refl, sym, subst, arith, not, ◌||◌}
 use Rattle.std.proofs.Common.{◌&&◌, ◌==◌, ◌∙◌, ap, get_or, is_some, option_map, inl, inr, ◌⊎◌}
@@ -150,7 +151,7 @@ module _ (g : Criteria) (frames : Transmission) (n f : ℕ) where
       not (is_right_cell g.watched.keeps g.watched.page (packets_before frames n) (g.due f) row
       column)
 
-  -- The first cell that differs from the expected page, whether or not that page is known.
+  -- The first cell that is wrong at the end of frame f, even if the page expected there is unknown.
   abbrev first_wrong_cell_of_page : Option (ℕ × ℕ)
   first_wrong_cell_of_page = first_wrong_cell_after g.watched.keeps g.watched.page
       (packets_before frames n) (g.due f)
@@ -231,8 +232,8 @@ module _ (g : Criteria) (frames : Transmission) (n f : ℕ) where
   unfolding is_gap
   gap_test_is_exact l = let near = recent_headers_test_is_exact n l in grind (arith, nat_tests)
 
-  -- One of the first m frames of the transmission is less than `pace` frames before frame f, or
-  -- after it.
+  -- One of the first m frames of the transmission is less than `pace` frames before frame f, or is
+  -- not before it.
   abbrev HasRecentPacketAmong : ℕ → ℕ → Type 0
   HasRecentPacketAmong pace m = (j : ℕ) × (j < m) × (f < frame_at frames j + pace)
 
@@ -283,7 +284,8 @@ module _ (g : Criteria) (frames : Transmission) (n f : ℕ) where
                 (arith, nat_tests),
           )
 
-  -- If the expected page is known in the last m frames up to frame f, it is known in each of them.
+  -- If `was_undecided` is false, the expected page is known at frame f, and at each of the m frames
+  -- before it that is not before frame `first`.
   pub decided_range_is_known : (first m : ℕ) → was_undecided g.undecided first f m ≡ false
       → (k : ℕ) → k ≤ f → f ≤ k + m → (first ≤ k) ⊎ (k ≡ f)
       → g.undecided k ≡ false

@@ -94,7 +94,8 @@ rule_keeping_packets_have_clean_spans w packets each =
       plain = clean rule.Enhancement opened;
     }))
 
--- Each page header in the list has the same C11 as the first one.
+-- The packet is no page header, or has the same C11 (serial mode) as the first page header in the
+-- list.
 abbrev Agrees : List (List ℕ) → List ℕ → Type 0
 Agrees heard q = (b : Header) → header q ≡ Some b
     → (f : Header) × (first_header heard ≡ Some f) × ((c11 b) ≡ (c11 f))

@@ -1,4 +1,5 @@
--- The tests of the checker decide the rules for packets.
+-- A packet breaks a rule for packets exactly if the checker's test for the rule is true. For
+-- changed rows, the test requires earlier packets without faults.
 use Rattle.std.proofs.Common.{◌≡◌, ℕ, zero, suc, ◌<◌, ◌≤◌, inl, inr, Bool, true, false, not}
 use Rattle.std.proofs.Common.{◌&&◌, List, [], ◌∷◌, Option, Some, None, option_map, refl, sym, ◌∙◌}
 use Rattle.std.proofs.Common.{◌↔◌, arith, length, get_or, subst, is_some, take, All, IsTrue, ◌++◌}
@@ -195,8 +196,8 @@ rows_have_equal_codes p q lp lq e =
     ∙ zero_difference_equal_columns 40 (codes_of p) (codes_of q) e k (omega (arith, one))
     ∙ get_or_default (codes_of q) k 0 d (omega (arith, one, other)))
 
--- The packets since the page was erased are clean: rows of odd parity that do not change, with
--- correct addresses.
+-- The packets since the page was erased are clean, and each of them is a packet of 42 bytes with
+-- correct address bytes.
 pub record IsSoundSpan (w : Watched) (packets : List (List ℕ)) : Type 0 where
   pub clean : IsCleanSpan w.page packets
   pub whole : AllByRecursion (λ q. IsPacket q × HasExactAddress q) packets

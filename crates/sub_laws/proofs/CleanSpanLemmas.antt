@@ -20,7 +20,8 @@ pub record MayFollow (page : PageIdValue) (packets : List (List ℕ)) (packet : 
   pub same : All (λ earlier. AreEqualInRow page earlier packet) packets
   pub plain : IsEnhancement page packet → ⊥
 
--- The packet is allowed after the packets since the page was erased, while the page is open.
+-- Each packet that arrives while the page is open, and is neither a header of the page nor ends the
+-- page, is allowed after the packets since the page was erased.
 abbrev pub EachMayFollow : Bool → PageIdValue → List (List ℕ) → Type 0
 EachMayFollow keeps page packets =
     (i : ℕ) (d : List ℕ)
@@ -100,8 +101,8 @@ text_span_after_packet keeps page packets packet clean follows =
     go false true true e p q r = clean
     go false false t e p q r = clean
 
--- If each packet is allowed after the packets before it, each prefix of the list is clean, by
--- induction on its length.
+-- If each packet is allowed after the packets before it, the packets since the page was erased are
+-- clean at every place of the list.
 pub clean_cuts :
     (keeps : Bool) (page : PageIdValue) (packets : List (List ℕ))
     → EachMayFollow keeps page packets

@@ -1,4 +1,5 @@
--- If a transmission is rejected because of a wrong cell, every receiver has that wrong cell.
+-- If a wrong cell is the first fault, receivers that start with a blank page, receive each bit
+-- correctly, and keep the page at headers with C4 (erase page) clear have this wrong cell.
 use Rattle.std.proofs.lemmas.Bool.Decides.{nat_tests}
 use Rattle.std.proofs.Common.{List, [], subst, ◌≡◌, ℕ, ◌-◌, ◌<◌, ◌≤◌, inl, inr, Bool, true}
 use Rattle.std.proofs.Common.{false, Option, Some, None, length, take, drop, refl, sym, ap}
@@ -115,8 +116,8 @@ module _ (programme : ProgrammeValue) (options : OptionsValue) (unread : Option 
   abbrev code_at : ℕ → ℕ × ℕ → ℕ
   code_at n x = kept options.keeps options.page (packets_before frames n) x.0 x.1
 
-  -- The cell x is wrong at the end of frame f; and if the page is not overdue, the code of x was
-  -- not expected within the last `within` frames.
+  -- Cell x is wrong at the end of frame f. If the page is not overdue, x has a code other than a
+  -- space that was not expected at frame f or in the `within` frames before it.
   record IsBroken (n f : ℕ) (x : ℕ × ℕ) : Type 0 where
     pub is_cell : IsCell x.0 x.1
     pub wrong : ShowsDue g frames n f x.0 x.1 → ⊥

@@ -215,7 +215,8 @@ module _ (programme : ProgrammeValue) (transmission : Transmission) (options : O
       (fresh_at (on_air transmission g j f) old.receiver_state holds) (whole f low is.listening.to)
       (ended_of_complete transmission options a b f complete low is.listening.to)
 
--- If `within` is 0, the guarantees for repeats include those of `MayBeTrusted`.
+-- If `within` is 0 and each header must have C4 (erase page) set, the guarantees for repeats
+-- include the guarantees without repeats.
 pub law_of_trust_without_delay : LawOfTrustWithoutDelay
 law_of_trust_without_delay programme transmission options a b none trusted = record {
   recovers = λ class.

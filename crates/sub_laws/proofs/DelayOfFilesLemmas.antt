@@ -1,4 +1,5 @@
--- A PES file carries the same frames with a greater `within`.
+-- If a PES file carries a transmission with some `within`, it carries the same transmission with
+-- any greater `within`.
 use Rattle.std.proofs.lemmas.Bool.Decides.{nat_tests}
 use Rattle.std.proofs.Common.{◌≡◌, ℕ, zero, suc, ◌^◌, ◌<◌, ◌≤◌, ◌==◌, false, List, [], ◌∷◌, Some}
 use Rattle.std.proofs.Common.{refl, sym, ap, ◌∙◌, subst, arith}
@@ -14,7 +15,8 @@ use Rattle.sub_laws.specs.DelayOfFiles.{LawOfLongerDelayOfFiles}
 use Rattle.sub_laws.proofs.JoinedRisingLemmas.{joined-rising}
 use Rattle.sub_laws.proofs.RepeatLemmas.{law_of_longer_repeats}
 
--- A PTS belongs to the same frame with a greater `within`.
+-- If a PTS belongs to a frame with some `within`, it belongs to the same frame with any greater
+-- `within`.
 clock_longer :
     (within more origin pts frame : ℕ)
     → origin < 2 ^ 33
@@ -48,7 +50,7 @@ read_longer within more origin low longer (v ∷ values) (s ∷ frames) each = (
   read_longer within more origin low longer values frames each.1,
 )
 
--- The PES packets of one frame are merged for any `within` other than 0.
+-- A `within` of n + 1 frames is not 0, so it merges consecutive PES packets of one frame.
 frame_count_is_not_zero : (n : ℕ) → (suc n == 0) ≡ false
 frame_count_is_not_zero n = grind (arith, nat_tests)
 
@@ -69,8 +71,8 @@ positive_delays_join_the_same within more sent (s ∷ frames) =
     ∙ ap (λ (x : Transmission). joined_after (suc more) x frames) (positive_delays_send_the_same
     within more sent s)
 
--- Frames in increasing order stay the same with a greater `within`, since no two PES packets have
--- the same frame.
+-- If the frames that PES packets give with some `within` increase, the PES packets give the same
+-- frames with any greater `within`.
 joined_longer :
     (within more : ℕ) (sendings frames : Transmission)
     → within ≤ more

@@ -1,4 +1,5 @@
--- The checker's search decides whether a code was expected in a cell within the last frames.
+-- The checker's test is true exactly if a code was expected in a cell at a frame or in the n frames
+-- before it.
 use Rattle.std.proofs.lemmas.Bool.Decides.{nat_tests}
 use Rattle.std.proofs.Common.{◌≡◌, ◌≢◌, ℕ, zero, suc, ◌+◌, ◌-◌, ◌<◌, ◌≤◌, ◌⊎◌, inl, inr, Bool, true}
 use Rattle.std.proofs.Common.{false, not, ◌&&◌, ◌==◌, nat_le, List, Contains, get_or}
@@ -72,12 +73,13 @@ module _ (keeps : Bool) (page : PageIdValue) (packets : List (List ℕ)) (due : 
   abbrev code_at : ℕ → ℕ → ℕ
   code_at row column = kept keeps page packets row column
 
-  -- The code of the cell is a space, or was expected in it.
+  -- The cell has a space, or a code that was expected in it at frame f or in the n frames before f.
   abbrev pub MayShow : ℕ → ℕ → Type 0
   MayShow row column =
       (code_at row column ≡ space) ⊎ WasDue due first f row column (code_at row column) n
 
-  -- The code of the cell is no space, and was not expected in it.
+  -- The cell has a code other than a space that was not expected in it at frame f or in the n
+  -- frames before f.
   abbrev is_unexpected : ℕ → ℕ → Bool
   is_unexpected row column =
       not (code_at row column == space)

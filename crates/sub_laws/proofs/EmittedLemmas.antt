@@ -132,7 +132,8 @@ module _ (g : Criteria) (frames : Transmission) where
       events_of_first_frames g frames n
       ++ (order_events g frames n ++ gap_events g frames n (gap_length frames n))
 
-  -- The events of the first n frames of the transmission, and those of some packets of frame n.
+  -- The events of the first n frames of the transmission, and those of the given packets of frame
+  -- n.
   abbrev begun : ℕ → List (List ℕ) → List Event
   begun n packets =
       arrived n

@@ -36,8 +36,8 @@ sufficient_of programme transmission options a b none at_once enough =
           (of.whole at_once f low high row column named);
     }
 
--- If the page has ended at each frame end of a range of frames without faults, its pages are
--- complete.
+-- If `within` is 0, complete pages are required, and no page is open at a frame end of a range
+-- without faults that affect receivers, the pages of this range are complete.
 pub complete_unreported :
     (programme : ProgrammeValue) (transmission : Transmission) (options : OptionsValue)
     → (unread : Option UnreadReason) (any_unreliable : Bool) (undecided : ℕ → Bool) (a b : ℕ)

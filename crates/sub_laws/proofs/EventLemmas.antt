@@ -93,15 +93,15 @@ module _ {NamesRuleBroken : CheckFault → Type 0} where
   fault_is_reported_unless_true false f named decided = reported_fault_comes_first f named
       (λ a. let no = decided.1 a in cc)
 
--- The fault is not about the subtitle file, a PES packet or a wrong cell.
+-- The fault is neither a fault of the subtitle file, nor of reading a PES packet, nor a wrong cell.
 abbrev pub is_plain : CheckFault → Bool
 is_plain (fault.Subtitles f) = false
 is_plain (fault.Pes pes f) = false
 is_plain (fault.Content frame row column) = false
 is_plain f = true
 
--- These faults have the property `NamesRuleBroken`: plain faults, the fault of the unread bytes,
--- and wrong cells in frames that were read.
+-- Assume that these faults have the property `NamesRuleBroken`: plain faults, the fault of the
+-- unread bytes, and wrong cells in frames that were read.
 module _ (g : Criteria) (frames : Transmission) (NamesRuleBroken : CheckFault → Type 0)
     (plain : (f : CheckFault) → is_plain f ≡ true → NamesRuleBroken f)
     (unread : (u : UnreadReason) → g.unread ≡ Some u → NamesRuleBroken (unread_fault (length frames)
@@ -404,7 +404,8 @@ module _ (g : Criteria) (frames : Transmission) (NamesRuleBroken : CheckFault �
         (IsFrameGood g frames) n refl
         (λ i. refl) (λ i below past. faulty_frame_is_reported i past (omega arith))
 
-  -- No subtitle ends after the last frame, and the page is correct at its end.
+  -- No subtitle ends after the last frame, and no page that is unfinished at its end still has time
+  -- to become correct.
   abbrev HasNoLaterSubtitle : Type 0
   HasNoLaterSubtitle =
       ((last : ℕ) → g.last_tco ≡ Some last → last ≤ end_frame frames)

@@ -66,7 +66,8 @@ module _ (frame row column : ℕ) where
       → IsFirst (xs ++ ys)
   first_content_after_no_fault xs ys none e = first_fault_of_append xs ys ∙ rw (none, e) refl
 
-  -- The fault is a wrong cell, whatever PES packet number is set in it.
+  -- A fault that is a wrong cell after its PES packet number was set was the same wrong cell
+  -- before.
   content_fault_has_no_pes_number : (pes : ℕ) (f : CheckFault)
       → fault_with_pes_number pes f ≡ fault.Content frame row column
       → f ≡ fault.Content frame row column
@@ -139,8 +140,8 @@ module _ (frame row column : ℕ) where
           ∙ append_assoc own (emitted_events later) rest))
           ∙ e))
 
-    -- Either no PES packet is skipped, or the wrong cell is reported before the first skipped one,
-    -- since its fault is no wrong cell.
+    -- If a wrong cell is the first fault, either no PES packet is skipped, or the wrong cell is the
+    -- first fault of the PES packets before the first skipped one.
     content_in_prefix_is_reported : (sent : Transmission) (pes : ℕ) (pes_packets : List PesPacket)
         (rest : List Event)
         → IsFirst (emitted_events (steps_of_each g sent pes pes_packets) ++ rest)

@@ -1,4 +1,5 @@
--- What the first match of a search in a list of events shows.
+-- The first match of a search in a list of events shows whether some requirements hold: there is no
+-- match exactly if all of them hold.
 use Rattle.std.proofs.lemmas.Bool.Decides.{nat_tests}
 use Rattle.std.proofs.Common.{◌≡◌, ℕ, zero, suc, ◌<◌, Bool, true, List, [], ◌∷◌, ◌++◌, map, filter}
 use Rattle.std.proofs.Common.{Option, Some, None, refl, arith, flat_map, get_or}
@@ -18,7 +19,8 @@ use Rattle.sub_rules.specs.declared.active_faults.ActiveFaults.{ActiveFaults}
 use Rattle.sub_rules.proofs.EndRuleLemmas.{holds_for_each_end_rule}
 
 module _ {X : Type 0} where
-  -- The first match of a search in a list of events.
+  -- The first value that the search `lookup` finds in the events of a list; `None` if it finds
+  -- none.
   abbrev pub first_match : (Event → Option X) → List Event → Option X
   first_match lookup [] = None
   first_match lookup (e ∷ es) = option_or (lookup e) (first_match lookup es)
@@ -40,8 +42,8 @@ module _ {X : Type 0} {lookup : Event → Option X} {At : X → Type 0} where
   pub MatchDecides-none : {A B : Type 0} → B → MatchDecides lookup At A B []
   MatchDecides-none b = record { at = λ x e. cc; fault_free = λ e. b; calm = λ h. refl }
 
-  -- A search in two joined lists: if the first list has no match, this fact may be used for the
-  -- second.
+  -- If two lists show by their first match whether their requirements hold, so does the joined
+  -- list. For the second list, B may be assumed: it is true if the first list has no match.
   pub MatchDecides-append : {A B C D : Type 0} {xs ys : List Event} → MatchDecides lookup At A B xs
       → (B → MatchDecides lookup At C D ys) → (C → A) → MatchDecides lookup At C D (xs ++ ys)
   MatchDecides-append {xs = xs} {ys = ys} one next back =
@@ -51,7 +53,8 @@ module _ {X : Type 0} {lookup : Event → Option X} {At : X → Type 0} where
       → MatchDecides lookup At A B xs → MatchDecides lookup At C D xs
   MatchDecides-like from to h = grind (arith, nat_tests)
 
-  -- A sequence of lists of events, each of which extends the list before.
+  -- Suppose that each list `one n` shows by its first match whether P n is true, given P below n.
+  -- Then the first m lists joined show whether P is true for all numbers below m.
   pub matches_of_earlier_parts_decide : (so_far one : ℕ → List Event) (P : ℕ → Type 0) (m : ℕ)
       → so_far 0 ≡ []
       → ((n : ℕ) → so_far (suc n) ≡ so_far n ++ one n)
@@ -80,7 +83,7 @@ packet_rules_all_hold P all = recursion_from_All P packet_rules
 module _ {X : Type 0} (lookup : Event → Option X) (At : X → Type 0) (frame k : ℕ)
     (at : (r : PacketRule) (x : X) → lookup (Reported (packet_fault r frame k)) ≡ Some x → At x)
   where
-    -- None of the rules that pass the test has a match.
+    -- No rule in the list that passes the test has a fault that the search finds.
     abbrev NoRuleMatches : (PacketRule → Bool) → List PacketRule → Type 0
     NoRuleMatches test rs =
         AllByRecursion (λ r. test r ≡ true → lookup (Reported (packet_fault r frame k)) ≡ None) rs

@@ -1,4 +1,5 @@
--- The requirements of a transmission, frame by frame.
+-- A transmission has no fault if it has frames, none of them has a fault, the entire file was read,
+-- and it does not end too early.
 use Rattle.std.proofs.Common.{◌≡◌, ℕ, ◌+◌, ◌-◌, ◌<◌, ◌≤◌, ◌⊎◌, length, Some, None, IsFalse}
 use Rattle.sub_rules.specs.Events.{is_pending, no_active_faults, active_faults_at}
 use Rattle.sub_rules.specs.FrameRules.{Criteria, HasHeader, end_frame, frame_at, packets_of_frame}

@@ -1,4 +1,5 @@
--- A property of all packets of a transmission holds for each packet.
+-- A property of all packets holds for the packets of each frame, and a frame has a header of the
+-- page exactly if an entry of the transmission with its number has one.
 use Rattle.std.proofs.Common.{◌≡◌, ℕ, zero, suc, ◌+◌, ◌-◌, ◌<◌, inl, inr, Bool, true, cond, ◌&&◌}
 use Rattle.std.proofs.Common.{nat_le, nat_lt, List, [], ◌∷◌, ◌++◌, length, get_or, All, refl, ap}
 use Rattle.std.proofs.Common.{arith, ◌⊎◌, ◌≤◌}
@@ -99,8 +100,8 @@ header_in_frame_has_an_index w (s ∷ ss) n e =
       | inr there ↦ let r = later there in (suc r.0, omega (arith, r.1), r.2, r.3)
     ]
 
--- If a header of the page is sent within the repeat bound, PES packets are no further apart than
--- that bound.
+-- If the headers of the page keep the repeat bound, the PES packets keep any pace that is not less
+-- than the repeat bound.
 pub repeated_header_keeps_pace : (w : Watched) (every frames : ℕ) (t : Transmission) → 0 < length t
     → every ≤ frames
     → Repeats w.page every t

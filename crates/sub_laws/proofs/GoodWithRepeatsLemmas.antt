@@ -1,4 +1,5 @@
--- A transmission that is good under the options meets its guarantees.
+-- In a transmission that is good under the options, receivers recover in all frames, and the
+-- expected page is on their screens.
 use Rattle.std.proofs.lemmas.Bool.Decides.{nat_tests}
 use Rattle.std.proofs.Common.{◌≡◌, ℕ, ◌-◌, ◌<◌, ◌≤◌, inl, inr, Bool, true, false}
 use Rattle.std.proofs.Common.{length, get_or, option_map, IsTrue, ap, subst, arith}
@@ -100,8 +101,8 @@ module _ (programme : ProgrammeValue) (transmission : Transmission) (options : O
   module _ (is : IsProgramme programme.drawing programme.records)
       (good : Good programme transmission options)
       (complete : IsTrue options.asks_complete → Complete transmission options) where
-    -- If `within` is 0, each frame of a good transmission is finished, with a complete page if that
-    -- is required.
+    -- Each frame of a good transmission is finished, with a complete page if complete pages are
+    -- required.
     finished :
         (f : ℕ)
         → first_frame transmission ≤ f
@@ -118,8 +119,8 @@ module _ (programme : ProgrammeValue) (transmission : Transmission) (options : O
           (last_frame transmission) f (complete asks) low high;
     }
 
-    -- A good transmission with complete pages, if required, is good under the options for any
-    -- `within`.
+    -- A good transmission is good under options with any `within`, if its pages are complete or
+    -- need not be.
     pub good_transmission_is_good_without_delay : GoodWithRepeats false programme transmission
         options
     good_transmission_is_good_without_delay = record {

@@ -1,5 +1,5 @@
--- If no header erases the page, the code in each cell stays. So a header that erases the page is
--- sent when text ends or changes.
+-- If no header erases the page, a code other than a space stays in its cell. So a header that
+-- erases the page is sent when text ends or changes.
 use Rattle.std.proofs.Common.{◌≡◌, ◌≢◌, ℕ, ◌+◌, ◌-◌, ◌<◌, ◌≤◌, inl, inr, Bool, true, false, cond}
 use Rattle.std.proofs.Common.{List, [], ◌∷◌, ◌++◌, find, Option, Some, None}
 use Rattle.std.proofs.Common.{option_map, unwrap_or, refl, sym, ap, ◌∙◌, subst, arith, append_assoc}
@@ -37,7 +37,8 @@ module _ (keeps : Bool) (w : PageIdValue) where
   abbrev packets_of_page_text : List (List ℕ) → List (List ℕ)
   packets_of_page_text packets = text_span keeps (kind w) packets
 
-  -- A packet that does not erase the page only extends the packets since the page was erased.
+  -- A packet that does not erase the page leaves the packets since the page was erased unchanged,
+  -- or is added to them.
   span-one : (xs : List (List ℕ)) (p : List ℕ)
       → begins_text keeps (kind w p) ≡ false
       → (more : List (List ℕ)) × (packets_of_page_text (xs ++ p ∷ []) ≡ packets_of_page_text xs ++

@@ -1,5 +1,5 @@
--- A PES file that carries frames is read packet by packet. If `within` is 0, each PES packet has
--- exactly the PTS of its frame.
+-- A PES file that carries a transmission is read as its PES packets, to the end. If `within` is 0,
+-- each PES packet has exactly the PTS of its frame.
 use Rattle.std.proofs.lemmas.Bool.Decides.{nat_tests}
 use Rattle.std.proofs.Common.{ℕ, ◌+◌, ◌≤◌, List, []}
 use Rattle.std.proofs.Common.{◌∷◌, ◌++◌, ◌↔◌, length, None}

@@ -1,5 +1,5 @@
--- Induction over the steps of a PES file: a relation T that holds for the steps of each frame and
--- each skipped PES packet holds for all steps.
+-- A relation T that holds for the steps of each frame and of each skipped PES packet holds for all
+-- steps of a PES file.
 use Rattle.std.proofs.lemmas.Bool.Decides.{nat_tests}
 use Rattle.std.proofs.Common.{◌≡◌, ℕ, suc, ◌-◌, ◌<◌, ◌⊎◌, inl, inr, Bool, true, false, ◌==◌}
 use Rattle.std.proofs.Common.{List, [], ◌∷◌, ◌++◌, length, map, Some, refl, sym, ap, ◌∙◌, subst}
@@ -35,7 +35,7 @@ growing_frame_keeps_its_packets : (g : Criteria) (sent frames : Transmission)
 growing_frame_keeps_its_packets g sent frames is n size =
     grind (arith, nat_tests, long, with_packets-length, packets_of_frame-prefix, with_packets-last)
 
--- Each skipped PES packet comes after frames with the property Q.
+-- The frames that were sent before each skipped PES packet have the property Q.
 abbrev pub EachSkippedPacket : ℕ → (Transmission → Type 0) → Transmission → List PesPacket → Type 0
 EachSkippedPacket within Q sent [] = ⊤
 EachSkippedPacket within Q sent (Sent s ∷ ahead) = EachSkippedPacket within Q
@@ -93,7 +93,8 @@ module _ (X : Type 0) (steps_with_packet_number : ℕ → X → X) (g : Criteria
           → O n (packets_of_frame sent n) t
           → T (O n (packets_of_frame sent n)) t (skipped_steps pes u)
 
-    -- The state after some frames: all frames have ended, or the last frame may continue.
+    -- After the frames `sent`, the state t is one in which all frames have ended or, if `within` is
+    -- not 0, one in which the last frame is open.
     abbrev pub Sends : Transmission → X → Type 0
     Sends sent t =
         ((((g.within == 0) ≡ true) ⊎ (length sent ≡ 0)) × C (length sent) t)

@@ -1,4 +1,5 @@
--- A schedule is a good transmission, and its PES file is read as this transmission.
+-- If no pace below the repeat bound is required, the schedule of a file with at least one subtitle
+-- is a good transmission. Its PES file is read as this transmission.
 use Rattle.sub_plan.proofs.ScheduleBases.{range_splits_in_two, last_sending_exists}
 use Rattle.sub_plan.proofs.ScheduleBases.{every_gap_has_a_sending, sends-first}
 use Rattle.sub_plan.proofs.ScheduleBases.{sends-last}

@@ -1,4 +1,5 @@
--- Properties of all prefixes of a transmission's packets.
+-- If the empty list has a property that each further packet preserves, each prefix of a
+-- transmission's packets has it.
 use Rattle.std.proofs.lemmas.Bool.Decides.{nat_tests}
 use Rattle.std.proofs.Common.{◌≡◌, ℕ, zero, suc, ◌+◌, ◌-◌, ◌<◌, ◌≤◌, ◌⊎◌, inl, inr, ◌&&◌, nat_le}
 use Rattle.std.proofs.Common.{cond, List, [], ◌∷◌, ◌++◌, length, take, get_or, refl, sym, ap, ap₂}
@@ -62,7 +63,7 @@ module _ (t : Transmission) (m : ℕ) (fits : m ≤ length t) (Q : List (List �
   condition_holds_at_packet i k l h = within i l (condition_holds_at_frame_start i (omega arith)) k
       h
 
--- A property of each packet of a list, given the packets before it.
+-- Each packet of the list has the property `Holds`, given the packets before it.
 abbrev pub EachPacketAfterEarlier : (List (List ℕ) → List ℕ → Type 0) → List (List ℕ) → Type 0
 EachPacketAfterEarlier Holds packets =
     (k : ℕ) → k < length packets → Holds (take k packets) (get_or packets k [])

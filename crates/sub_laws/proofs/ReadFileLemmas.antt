@@ -1,5 +1,5 @@
--- Teletext packets that were read have 42 bytes, and a fault of the bytes is never a failure of a
--- device.
+-- Each Teletext packet that is read from a PES file has 42 bytes, and no PES packet of it is
+-- skipped because a device failed.
 use Rattle.std.proofs.lemmas.Bool.Decides.{nat_tests}
 use Rattle.std.proofs.Common.{◌≡◌, ℕ, zero, suc, ◌+◌, ◌-◌, ◌*◌, ◌/◌, ◌<◌, ◌≤◌, false}
 use Rattle.std.proofs.Common.{List, [], ◌∷◌, length, map, take, drop, slice_index, Option}

@@ -1,5 +1,5 @@
--- A transmission that keeps the rules for repeats meets the conditions for recovery in all frames.
--- It stays good with a greater `within`.
+-- A transmission that keeps the rules for repeats meets the conditions for recovery in all its
+-- frames. A good transmission stays good with a greater `within`.
 use Rattle.std.proofs.lemmas.Bool.Decides.{nat_tests}
 use Rattle.std.proofs.Common.{◌≡◌, ℕ, zero, suc, ◌+◌, ◌≤◌, inl, inr, Bool, true, false}
 use Rattle.std.proofs.Common.{List, [], ◌∷◌, length, take, find, option_map, unwrap_or, All}
@@ -32,7 +32,8 @@ use Rattle.sub_rules.specs.Transmission.{on_air_until}
 use Rattle.sub_laws.specs.Repeats.{IsRepeatedStretch, LawOfKeptCodes, LawOfLongerRepeats}
 use Rattle.sub_laws.proofs.TransmissionLemmas.{packets_between-each}
 
--- If the packets since the page was erased are clean, they have the codes that the page shows.
+-- If the packets since the page was erased are clean, each row among them has the codes that the
+-- page has in this row.
 pub clean_packets_have_shown_codes : (keeps : Bool) (page : PageIdValue) (packets : List (List ℕ))
     → IsCleanSpan page (text_span keeps (kind page) packets)
     → All (HasCodes page (kept keeps page packets)) (text_span keeps (kind page) packets)
@@ -78,7 +79,7 @@ law_of_kept_codes keeps programme transmission options f old new rules low high 
     ((repeated_stretch keeps programme transmission options rules).sends f low high) hears fresh row
     column named
 
--- A header with C4 (erase page) set erases the page.
+-- A header of the page with C4 (erase page) set erases the page.
 erasing_header_begins_text : (keeps : Bool) (w : PageIdValue) (packet : List ℕ)
     → ErasesPage w packet
     → is_this_page (kind w packet) ≡ true

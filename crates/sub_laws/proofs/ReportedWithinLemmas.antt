@@ -161,7 +161,7 @@ module _ (programme : ProgrammeValue) (options : OptionsValue) (t : Transmission
   abbrev order : RiseTo t (length t)
   order = rising_frames_rise_at_each_index t good.rules.rising
 
-  -- Each finished frame is before the current run of frames with an unfinished page.
+  -- The current run of frames with an unfinished page begins after each finished frame.
   run_starts_after_finished_frame : (n f r e : ℕ) → IsEnd t n f → unfinished_run_start requested t n
       f ≡ Some
       r

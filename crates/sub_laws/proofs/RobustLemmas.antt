@@ -1,4 +1,5 @@
--- A good transmission meets the sufficient conditions, so it meets its guarantees.
+-- A good transmission meets the sufficient conditions of the main theorem in all its frames. So it
+-- is robust, even if rows are lost.
 use Rattle.std.proofs.Common.{arith, ℕ, ◌+◌, false, List, length, subst, le_refl}
 use Rattle.std.proofs.lemmas.Bool.Decides.{nat_tests}
 use Rattle.std.proofs.lemmas.List.{take_all}

@@ -1,5 +1,5 @@
--- Receivers that start and stop anywhere in a range of frames get a header in time, and the text
--- and state that the packets of the range determine.
+-- Receivers that start and stop anywhere in a range of frames get a header in time, and then have
+-- the text that the packets of the range send.
 use Rattle.std.proofs.lemmas.Bool.Decides.{nat_tests}
 use Rattle.std.proofs.Common.{◌≡◌, ℕ, ◌+◌, ◌≤◌, ◌&&◌, Bool, true, false, List, [], ◌∷◌}
 use Rattle.std.proofs.Common.{◌++◌}

@@ -1,5 +1,5 @@
--- If a test fails for the steps of each frame and of each skipped PES packet, it fails for all
--- steps.
+-- If a test is false for the steps of each frame and of each skipped PES packet, it is false for
+-- all steps.
 use Rattle.std.proofs.lemmas.Bool.Decides.{nat_tests}
 use Rattle.std.proofs.Common.{◌≡◌, ℕ, zero, suc, ◌+◌, ◌==◌, Bool, true, false, List, [], ◌∷◌, ◌++◌}
 use Rattle.std.proofs.Common.{length, map, Option, None, Some, refl, ◌∙◌, arith, if◌then◌else◌}
@@ -68,7 +68,7 @@ module _ (test : CheckStep → Bool) where
       (on (Reported (unread_fault pes (Some u))) ≡ false) × SkippedPacketsMatchNothing (suc pes)
       pes_packets
 
-  -- The test fails for each step of a frame.
+  -- The test is false for every step that a frame may have.
   pub record FrameStepsMatchNothing (g : Criteria) : Type 0 where
     pub with_pes_number : (n : ℕ) → test (AtPes n) ≡ false
     pub begins : (f : ℕ) → test (Begins f) ≡ false
@@ -236,7 +236,7 @@ module _ (test : CheckStep → Bool) where
         appended_steps_match_nothing (each_passes [] 0 pes_packets (skipped 0))
         (pending_steps_match_nothing (sent_by_pes_packets g pes_packets))
 
--- The result of this test of faults does not depend on PES packet numbers.
+-- If the test `bad` is false for a fault, it is false for this fault with any PES packet number.
 module _ (bad : CheckFault → Bool)
     (anywhere : (pes : ℕ) (f : CheckFault) → bad f ≡ false → bad (fault_with_pes_number pes f) ≡
     false) where

@@ -1,5 +1,5 @@
--- If no fault is active at the ends of a range of frames, its text was expected, and its frames are
--- finished in time.
+-- If no fault is active at any frame end of a range, each cell has a space or a code that was
+-- expected, and the frames of the range are finished in time.
 use Rattle.std.proofs.lemmas.Bool.Decides.{nat_tests}
 use Rattle.std.proofs.Common.{◌≡◌, ℕ, ◌+◌, ◌-◌, ◌<◌, ◌≤◌, inr, Bool, true, false, ◌&&◌}
 use Rattle.std.proofs.Common.{◌||◌, ◌==◌, nat_le, nat_lt, None, Option, Some, get_or, length, refl}
@@ -37,8 +37,8 @@ use Rattle.sub_laws.proofs.ActiveFaultsLemmas.{unexpected_cell_of_decided_page}
 use Rattle.sub_laws.proofs.UnfinishedLemmas.{later_run_start_leaves_finished_frame}
 use Rattle.sub_laws.proofs.UnfinishedLemmas.{run_start_is_first_unfinished, unfinished_at}
 
--- In the frames from a to b, no cell is wrong at a frame end, and the expected page is known. Frame
--- numbers increase.
+-- At each frame end from a to b, no cell has a fault, and the expected page is known there and in
+-- the `within` frames before. Frame numbers increase.
 pub record IsFaultFreeBetween (g : Criteria) (t : Transmission) (a b : ℕ) : Type 0 where
   pub up : RiseTo t (length t)
   pub some : 0 < length t
@@ -51,8 +51,8 @@ pub record IsFaultFreeBetween (g : Criteria) (t : Transmission) (a b : ℕ) : Ty
       → f ≤ b
       → (broken_cell g t n f ≡ None) × (is_undecided_within g t f ≡ false)
 
--- In the frames from a to b, no cell is wrong at a frame end, and complete pages have ended if they
--- are required.
+-- At each frame end from a to b, no cell has a fault, and the fault `Incomplete` is not active.
+-- Frame numbers increase.
 pub record MeetsRequirementsAtEnds (g : Criteria) (t : Transmission) (a b : ℕ) : Type 0 where
   pub still : IsFaultFreeBetween g t a b
   pub shut :

@@ -1,4 +1,5 @@
--- The packets of a range of frames, for a transmission made of the frames that pass a test.
+-- If frame numbers increase, a range of frames has the packets of its first part, then those of its
+-- second part.
 use Rattle.std.proofs.Common.{◌≡◌, ℕ, zero, suc, ◌+◌, ◌<◌, ◌≤◌, inl, inr, Bool, true, false, ◌&&◌}
 use Rattle.std.proofs.Common.{nat_le, nat_lt, cond, List, [], ◌∷◌, ◌++◌, map, filter, flat_map}
 use Rattle.std.proofs.Common.{slice_index_or, All, refl, ap, ◌∙◌, arith, append_assoc, append-nil}

@@ -1,4 +1,5 @@
--- The first frame of a run of frames with an unfinished page.
+-- In a run of frames with an unfinished page, the page is unfinished from the run's first frame on,
+-- and finished in the frame before, if any.
 use Rattle.std.proofs.lemmas.Bool.Decides.{nat_tests}
 use Rattle.std.proofs.Common.{◌≡◌, ℕ, zero, suc, ◌+◌, ◌-◌, ◌<◌, ◌≤◌, ◌⊎◌, inl, inr, Bool, true}
 use Rattle.std.proofs.Common.{false, ◌&&◌, ◌||◌, Option, Some, None, is_some, length, refl, sym, ap}
@@ -109,7 +110,8 @@ module _ (un : ℕ → Bool) (first : ℕ) where
             ]
           ]
 
-  -- A run of unfinished frames begins after each finished frame.
+  -- The run of unfinished frames up to frame `first` + k begins after each finished frame up to
+  -- there.
   pub run_starts_after_finished : (k r e : ℕ) → first_unfinished_at k ≡ Some r → un e ≡ false → e ≤
       first + k → e < r
   run_starts_after_finished k r e is finished high = elim (cases_lt e r) [

@@ -1,5 +1,5 @@
--- PES packets have no events if and only if none is skipped and their frames have no events; the
--- same holds for faults.
+-- A PES file has no fault if and only if no PES packet is skipped and its frames have no fault. If
+-- all subtitles are reliable, the same holds for events.
 use Rattle.std.proofs.lemmas.Bool.Decides.{nat_tests}
 use Rattle.std.proofs.Common.{◌≡◌, ◌↔◌, ℕ, suc, Bool, true, false, not, ◌||◌, List, [], ◌∷◌, ◌++◌}
 use Rattle.std.proofs.Common.{length}
@@ -47,7 +47,8 @@ appending_reports_no_fault : (xs ys : List Event)
     ((first_reported_fault xs ≡ None) × (first_reported_fault ys ≡ None))
 appending_reports_no_fault xs ys = grind (arith, nat_tests, first_fault_of_append, both_none)
 
--- Setting PES packet numbers adds and removes no fault.
+-- The events of a list of steps have a fault if and only if they have one after their PES packet
+-- numbers are set.
 emitted_faults_agree : (pes : ℕ) (ms : List CheckStep)
     → (first_reported_fault (events_emitted_from_packet pes ms) ≡ None) ↔
     (first_reported_fault (emitted_events ms) ≡ None)
@@ -98,8 +99,8 @@ empty_steps_report_nothing t (Closes are_left more ∷ ms) reported still none =
 empty_steps_report_nothing t (m ∷ ms) reported still none = empty_steps_report_nothing (m ∷ t) ms
     reported still none
 
--- If nothing was reported by the end of a list of steps that does not close the file, nothing was
--- reported before.
+-- If no step up to the end of a list emits an event, and the file does not end within the list, the
+-- list reports nothing.
 pub silent : (t ms : List CheckStep) → list_any is_closing_step ms ≡ false
     → list_any is_emitted (history_after t ms) ≡ false
     → (list_any is_emitted t ≡ false) × (events_reported_after t ms ≡ [])
@@ -244,7 +245,7 @@ module _ (g : Criteria) where
         each_sent,
       )
 
-  -- If no subtitle was rejected, PES packets have no events if and only if none is skipped and
+  -- If all subtitles are reliable, PES packets have no events if and only if none is skipped and
   -- their frames have no events.
   pub no_event_means_all_sent : (pes_packets : List PesPacket) → g.any_unreliable ≡ false
       → (all_events_of_pes_packets g pes_packets ≡ [])

@@ -1,4 +1,5 @@
--- Each exit of the loop of `listen` determines how reception ends.
+-- Reception by `listen` ends at the end of the file, at a fault, after TIME, or before a page
+-- header that is listed as lost.
 use Rattle.std.proofs.lemmas.Bool.Decides.{nat_tests}
 use Rattle.std.proofs.Common.{◌≡◌, ◌∙◌, ap, refl, sym, subst, arith, add-one, ℕ, zero, suc, ◌+◌}
 use Rattle.std.proofs.Common.{◌<◌, ◌≤◌, ◌==◌, ◌&&◌, not, cond, inl, inr, true, List, ◌++◌, length}
@@ -160,7 +161,8 @@ module _
                 reads_next (clock_of l.options) n reached.rest frames unread v sending
                 reached.left is
 
-            -- If the next frame is too early, reception ends with the fault `Order`.
+            -- If the next frame is before the first frame that may follow, reception ends with the
+            -- fault `Order`.
             pub ends_order :
                 frame < least
                 → ReceivesFile leaves l frames unread reported left w old now

@@ -1,5 +1,5 @@
--- The packets that arrive of two joined lists are those of each list. The first packet that must
--- not be lost is found packet by packet.
+-- The packets that arrive of two joined lists are those that arrive of each list. The search for a
+-- packet that must not be lost may begin after packets that may be lost.
 use Rattle.std.proofs.Common.{◌≡◌, ℕ, ◌+◌, ◌<◌, ◌&&◌, true, false, not, List, [], ◌∷◌, ◌++◌, length}
 use Rattle.std.proofs.Common.{get_or, drop, Option, Some, None, option_map, refl, sym, ap, ◌∙◌}
 use Rattle.std.proofs.Common.{arith}

@@ -1,4 +1,5 @@
--- Lemmas for copying a PES packet, or bytes that are not a PES packet, to a file.
+-- Copying appends a PES packet, or bytes that are not a PES packet, to the output unchanged. If the
+-- output fails, it has received a prefix of them.
 use Rattle.std.proofs.Common.{◌≡◌, ◌∙◌, ap, sym, subst, arith, ℕ, ◌+◌, ◌<◌, ◌≤◌, ◌++◌, List}
 use Rattle.std.proofs.Common.{[], Bool, Option, Some, None, Ok, length, take, drop}
 use Rattle.std.proofs.Common.{length-append, take-add, take-append-drop}

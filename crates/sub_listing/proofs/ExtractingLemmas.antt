@@ -1,4 +1,5 @@
--- Lemmas for copying PES packets one after another, and then any bytes that are not a PES packet.
+-- After PES packets were copied one after another, and then the bytes that are not a PES packet,
+-- the output has all bytes of the input, or a prefix if a device failed.
 use Rattle.std.proofs.lemmas.Bool.Decides.{nat_tests}
 use Rattle.std.proofs.Common.{◌≡◌, ◌∙◌, ap, refl, sym, subst, arith, ℕ, zero, suc, ◌+◌, ◌<◌, ◌≤◌}
 use Rattle.std.proofs.Common.{◌++◌, List, [], Option, Some, None, length, take, drop}

@@ -1,5 +1,5 @@
--- Lemmas for a source of which no byte was consumed while the source was searched for its first PES
--- packet.
+-- If the search for the first PES packet consumes no byte, reading after the search gives the same
+-- results as reading without it.
 use Rattle.std.proofs.lemmas.Bool.Decides.{nat_tests}
 use Rattle.std.proofs.Common.{◌≡◌, refl, sym, inr, arith, ℕ, ◌+◌, ◌≤◌, List, [], Bool}
 use Rattle.std.proofs.Common.{Option, Some, None}

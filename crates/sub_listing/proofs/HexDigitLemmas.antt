@@ -1,5 +1,5 @@
--- Lemmas for hexadecimal digits in the lanes of a vector: looking up digits in a table, and
--- interleaving them.
+-- Looking up hexadecimal digits in a table and interleaving them, 16 bytes at a time, gives the two
+-- digits of each byte in order.
 use Rattle.std.proofs.Common.{◌≡◌, ℕ, zero, suc, ◌+◌, ◌*◌, ◌/◌, ◌%◌, ◌^◌, ◌<◌, ◌≤◌, List, [], ◌∷◌}
 use Rattle.std.proofs.Common.{◌++◌, map, length, get_or, drop, replicate, bit_and, refl, sym, ap}
 use Rattle.std.proofs.Common.{◌∙◌, subst, arith, w8, Fits, take, ap₂, take_all, length-drop}

@@ -1,4 +1,5 @@
--- Lemmas for printing a listing, one PES packet or subtitle after another.
+-- While a listing is printed, one PES packet or subtitle after another, the printed lines are the
+-- start of each listing that is still possible.
 use Rattle.std.proofs.lemmas.Bool.Decides.{nat_tests}
 use Rattle.std.proofs.Common.{◌≡◌, ap, refl, sym, subst, arith, ℕ, ◌+◌, ◌<◌, ◌≤◌, List, []}
 use Rattle.std.proofs.Common.{◌∷◌, ◌++◌, append_assoc, drop, length, inl, inr, Bool, false, true}
@@ -67,7 +68,7 @@ followed-twice first second more =
     ap (λ (t : List ℕ). let l : Listing = record { text = t; status = more.status } in l)
     (sym (append_assoc first second more.text))
 
--- After flushing, the printed lines remain.
+-- Flushing does not change the printed lines, so they are still the start of the listing.
 pub prefix-kept :
     (Before PreviousPes : ListingRelation)
     (reported left old now new : Option (List ℕ))
@@ -182,7 +183,8 @@ prefix-stopped Before At source out left now i cut kept risen counted = record {
   );
 }
 
--- A listing is possible even if the sink failed.
+-- If the sink failed before the next PES packet or subtitle was read, the listing has some rest,
+-- which was not printed.
 pub lists-some :
     (O : Type 0) (listing_of : O → Listing) (given : List ℕ → O)
     (Takes : Bool → Option (List ℕ) → O → Option (List ℕ) → Type 0)
@@ -270,7 +272,8 @@ pub block-rises : (from to : ℕ) (old new : Option (List ℕ)) (s : SubtitleVal
     → from < to
 block-rises from to old new s t = rises from to t.blocks t.ends t.counted
 
--- A listing has the status `Fault` exactly if the source failed.
+-- The status of a listing that ends with a fault is `Fault` exactly if the fault is a failed
+-- device.
 pub kind_of_failure-failed : (b : Bool) → has_failed (Some (status_of (kind_of_failure b))) ≡ b
 kind_of_failure-failed true = refl
 kind_of_failure-failed false = refl

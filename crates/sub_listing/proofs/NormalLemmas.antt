@@ -1,4 +1,5 @@
--- Lemmas for the input that `normal` reads and the file that it writes.
+-- The command `normal` reads at most 12,800,897 bytes, and these bytes determine its result and the
+-- file that it writes.
 use Rattle.std.proofs.Common.{◌≡◌, ◌≢◌, ℕ, ◌≤◌, List, ◌++◌, length, take, arith, sym, ap, ◌∙◌, refl}
 use Rattle.std.proofs.Common.{length-append, Option, Some, None, Result, Ok, Err, subst}
 use Rattle.std.specs.Io.KnownBytes.{Consumes, IsAtEnd, Keeps}
@@ -100,7 +101,7 @@ taken-to_most (Some b) (Some ys) xs p size bytes e =
     let all : bytes ≡ xs ++ ys = sym (same_Some b bytes e) ∙ p in
     sym (ap (take read_limit) all ∙ take_at xs ys read_limit size)
 
--- The command `normal` allocates memory only after it has read at least one byte.
+-- If the command `normal` has no memory for more input, it has read at least one byte.
 pub memory-expected : (x y z : Option (List ℕ)) (n : ℕ) (xs ps : List ℕ)
     → n ≤ length ps
     → n ≢ 0

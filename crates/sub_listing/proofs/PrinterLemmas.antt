@@ -1,4 +1,4 @@
--- Lemmas for reporting several events to a printer.
+-- A printer prints exactly the lines of the events that are reported to it, until its sink fails.
 use Rattle.std.proofs.Common.{◌≡◌, ◌∙◌, ap, refl, sym, subst, arith, ℕ, ◌+◌, ◌<◌, ◌≤◌, ◌||◌}
 use Rattle.std.proofs.Common.{not, List, [], ◌∷◌, ◌++◌, map, Bool, true, false, append_assoc, drop}
 use Rattle.std.proofs.Common.{take, inl, inr}

@@ -1,5 +1,5 @@
--- Lemmas for printing a listing: all of it was printed, or the sink failed and received a prefix of
--- it.
+-- After a listing was printed, the sink has received all of it, or has failed and received a prefix
+-- of it.
 use Rattle.std.proofs.Common.{◌≡◌, ◌≢◌, ℕ, ◌+◌, arith, inl, inr, refl, Bool, true, false}
 use Rattle.std.proofs.Common.{if◌then◌else◌}
 use Rattle.std.specs.Io.KnownBytes.{Appends}

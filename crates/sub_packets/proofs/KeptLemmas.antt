@@ -1,5 +1,5 @@
--- How one more packet changes the last header of the page and the rows received since, if repeats
--- may have C4 (erase page) clear.
+-- A header of the page becomes its last header. If the header starts a new text, the rows received
+-- before it no longer count.
 use Rattle.std.proofs.Common.{◌≡◌, ℕ, Bool, true, false, not, ◌&&◌, ◌||◌, ◌==◌, cond, List, [], ◌∷◌}
 use Rattle.std.proofs.Common.{◌++◌, Some, None, find, option_map, unwrap_or, refl, ap}
 use Rattle.std.proofs.Common.{arith}

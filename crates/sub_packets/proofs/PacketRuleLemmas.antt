@@ -1,4 +1,4 @@
--- Which rules a packet of each kind can break.
+-- A packet of each kind can break only some of the rules.
 use Rattle.std.proofs.lemmas.Bool.Decides.{nat_tests}
 use Rattle.std.proofs.lemmas.Bool.Decides.{same_from_decides}
 use Rattle.std.proofs.Common.{◌≡◌, ℕ, Bool, true, false, not, ◌&&◌, ◌==◌, cond}
@@ -99,7 +99,7 @@ module _ (w : Watched) (heard : List (List ℕ)) (p : List ℕ) where
   unfolding breaks rule_set packet_rules
   other_packet_breaks_enhancement_rule_only k = rw k (grind (arith, nat_tests))
 
-  -- Of the rules from `Control` on, a row of the open page can break `Parity` and `RowChanged`.
+  -- Of the later rules, a row of the open page can break only `Parity` and `RowChanged`.
   pub row_breaks_row_rules_only : (y : ℕ) (o : Option (List ℕ)) → kind w.page p ≡ Row y
       → o ≡ first_packet_of_row w.page (text_span w.keeps (kind w.page) heard) y
       → rule_set (λ r. breaks r w heard p) (drop 3 packet_rules)

@@ -1,4 +1,4 @@
--- The ruleset with which the laws in `laws.rt` are proved.
+-- The laws in `laws.rt` are proved with this ruleset.
 use Rattle.sub_plan.proofs.ClockLemmas.{law_of_clock, law_of_near_clock}
 use Rattle.sub_plan.proofs.ExampleHeaders.{example_of_closing_headers, example_of_watched_headers}
 use Rattle.sub_plan.proofs.ProgrammeLemmas.{law_of_day}

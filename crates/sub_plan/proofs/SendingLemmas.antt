@@ -304,8 +304,8 @@ module _ (w : PageIdValue) (national : National) (serial : Bool) (page : Rows) (
             row_packet_has_row_kind,
           )
 
--- By induction on the number of page transmissions: packets before the last header of the page have
--- no effect on the rows shown.
+-- By induction over the page transmissions, packets before the last header of the page have no
+-- effect on the rows shown.
 pub law_of_cut_sendings : LawOfCutSendings
 law_of_cut_sendings w national serial due [] n ok shape =
     rw (take_all {A = List ℕ} n [] (omega arith))

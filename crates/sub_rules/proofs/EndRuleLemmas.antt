@@ -1,4 +1,4 @@
--- The rules that are checked at the end of a frame: no fault is active if and only if none of them
+-- At the end of a frame, no fault is active if and only if none of the rules that are checked there
 -- is broken.
 use Rattle.std.proofs.lemmas.Bool.Decides.{nat_tests}
 use Rattle.std.proofs.Common.{◌≡◌, ℕ, Bool, true, false, List, [], ◌∷◌, Option, Some, None}

@@ -1,4 +1,4 @@
--- The events of a transmission whose frames have one PES packet each.
+-- The events of a transmission are those of its entries, if each entry is one PES packet.
 use Rattle.std.specs.Prelude.{ℕ, zero, suc, ◌+◌, List, [], ◌++◌, length}
 use Rattle.sub_rules.specs.Events.{closing_events, events_at_end, first_header_events, gap_length}
 use Rattle.sub_rules.specs.Events.{latest_frame, order_events, packet_events}
@@ -6,14 +6,14 @@ use Rattle.sub_rules.specs.FrameRules.{Criteria, frame_at, packets_before, packe
 use Rattle.sub_rules.specs.Transmission.{Transmission}
 use Rattle.sub_rules.specs.declared.event.Event.{Event}
 
--- The events at the ends of n frames without a PES packet.
+-- `gap_events` are the events at the ends of n frames without a PES packet.
 unfoldable pub gap_events : Criteria → Transmission → ℕ → ℕ → List Event
 gap_events g frames i zero = []
 gap_events g frames i (suc n) =
     gap_events g frames i n ++ events_at_end g frames i i (latest_frame frames i + suc n)
 
--- The events of entry i of the transmission: for its frame number, for the frames before it, for
--- its packets, and at its end.
+-- `frame_events` are the events of entry i of the transmission: for its frame number, for the
+-- frames before it, for its packets, and at its end.
 unfoldable pub frame_events : Criteria → Transmission → ℕ → List Event
 frame_events g frames i =
     order_events g frames i
@@ -23,13 +23,13 @@ frame_events g frames i =
     ++ first_header_events g frames i
     ++ events_at_end g frames i (suc i) (frame_at frames i)
 
--- The events of the first n entries of the transmission.
+-- `events_of_first_frames` are the events of the first n entries of the transmission.
 unfoldable pub events_of_first_frames : Criteria → Transmission → ℕ → List Event
 events_of_first_frames g frames zero = []
 events_of_first_frames g frames (suc n) = events_of_first_frames g frames n ++ frame_events g frames
     n
 
--- All events of a transmission, if each frame is one PES packet.
+-- `events` are all events of a transmission, if each frame is one PES packet.
 unfoldable pub events : Criteria → Transmission → List Event
 events g frames =
     events_of_first_frames g frames (length frames) ++ closing_events g frames (length frames)

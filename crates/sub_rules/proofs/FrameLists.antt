@@ -1,4 +1,4 @@
--- The packets of the first frames of a transmission.
+-- The packets of one more frame follow those of the first frames of a transmission.
 use Rattle.std.proofs.Common.{◌≡◌, ℕ, ◌+◌, ◌<◌, [], ◌∷◌, ◌++◌, length, get_or, take, sym, ap, ◌∙◌}
 use Rattle.std.proofs.Common.{arith}
 use Rattle.std.specs.List.{flat_map}

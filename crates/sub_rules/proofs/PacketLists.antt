@@ -1,4 +1,5 @@
--- The first page header of a longer list, and properties of all packets of a list.
+-- The first page header of a joined list is that of the first part that has one. A property of all
+-- packets of two lists holds for the joined list.
 use Rattle.std.proofs.lemmas.Bool.Decides.{nat_tests}
 use Rattle.std.proofs.Common.{◌≡◌, ℕ, Bool, true, false, ◌||◌, List, [], ◌∷◌, ◌++◌, refl, ap}
 use Rattle.std.proofs.Common.{◌∙◌, ◌+◌, arith, cond, find, nat_lt, Some, None, Option}

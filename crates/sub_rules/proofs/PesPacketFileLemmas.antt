@@ -1,4 +1,4 @@
--- The PES packets of a file, read one at a time.
+-- The PES packets of a file are read one at a time.
 use Rattle.std.proofs.lemmas.Bool.Decides.{nat_tests}
 use Rattle.std.proofs.Common.{◌≡◌, ℕ, zero, suc, ◌+◌, ◌<◌, ◌≤◌, true, false, List, []}
 use Rattle.std.proofs.Common.{◌∷◌, ◌++◌, length-append, Option, Some, None, Result, Ok, Err, refl}
@@ -33,7 +33,7 @@ use Rattle.sub_rules.specs.PesPackets.{pes_packets_at, read_until_skipped}
 use Rattle.sub_rules.specs.PesPackets.{file_until_first_skipped}
 use Rattle.sub_rules.specs.PesPackets.PesPacket.{Skipped, Sent}
 
--- A clock converts each PTS to a frame, or to none.
+-- A clock converts each PTS to a frame of the day, or to none.
 clock-below :
     (within origin pts frame : ℕ) → clock within origin pts ≡ Some frame → frame < day
 unfolding clock frame_with_tolerance

@@ -40,8 +40,8 @@ first_fault_of_append [] ys = refl
 first_fault_of_append (Reported f ∷ xs) ys = refl
 first_fault_of_append (e ∷ xs) ys = first_fault_of_append xs ys
 
--- The events in a list of steps, with PES packet numbers. Events before the first `AtPes` step have
--- the number `pes`.
+-- `events_emitted_from_packet` gives the events in a list of steps, with PES packet numbers. Events
+-- before the first `AtPes` step have the number `pes`.
 abbrev pub events_emitted_from_packet : ℕ → List CheckStep → List Event
 events_emitted_from_packet pes [] = []
 events_emitted_from_packet pes (AtPes next ∷ ms) = events_emitted_from_packet next ms

@@ -1,4 +1,4 @@
--- Tests that decide properties of truth values, numbers, lists, packets and frames.
+-- Each test decides a property of truth values, numbers, lists, packets or frames.
 use Rattle.std.proofs.Common.{◌≡◌, ℕ, zero, suc, ◌<◌, ◌≤◌, Bool, true, false, not, ◌&&◌}
 use Rattle.std.proofs.Common.{◌||◌, nat_le, List, Some, None, All, refl}
 use Rattle.std.proofs.Common.{arith}

@@ -1,4 +1,4 @@
--- The reports of two lists of steps, one after the other.
+-- The reports of two lists of steps are those of the first list, followed by those of the second.
 use Rattle.std.proofs.lemmas.Bool.Decides.{nat_tests}
 use Rattle.std.proofs.Common.{◌≡◌, ◌&&◌, List, [], ◌∷◌, ◌++◌, refl, sym, ap, ◌∙◌, append_assoc}
 use Rattle.std.proofs.Common.{arith}

@@ -1,5 +1,5 @@
--- The steps at the end of a frame and of the file report the range of frames as trusted, or leave a
--- state that will report it.
+-- After the steps at the end of a frame, the range of frames was reported as trusted or can still
+-- be reported. The end of the file reports it, if it reports anything.
 use Rattle.std.proofs.lemmas.Bool.Decides.{nat_tests}
 use Rattle.std.proofs.Common.{◌≡◌, ℕ, suc, ◌+◌, ◌-◌, ◌<◌, ◌≤◌, inl, inr, Bool, true, false}
 use Rattle.std.proofs.Common.{◌||◌, List, [], ◌∷◌, ◌++◌, length, map, Option, Some, None, is_some}
@@ -119,7 +119,8 @@ module _ (g : Criteria) (frames : Transmission) (a b i : ℕ)
   abbrev HasReceivedAllPackets : ℕ → List CheckStep → Type 0
   HasReceivedAllPackets n t = FollowsInOpenFrame g frames a b i fits n (packets_of_frame frames n) t
 
-  -- Frame n has ended, and the tracker still has the run that will report the range of frames.
+  -- After the events at the end of frame n, the range of frames can still be reported as trusted:
+  -- none of its frames so far was invalidated.
   record IsAfterEndEvents (n : ℕ) (t : List CheckStep) : Type 0 where
     follows : FollowsStretch n (frame_at frames n + 1) t
     clean : i ≤ n → stays_fault_free t ≡ true

@@ -1,4 +1,5 @@
--- From the first header of the range of frames on, the tracker has a run that will be reported.
+-- After the range's first header, the current run of fault-free frames begins at that header or
+-- before it, until the range is reported.
 use Rattle.std.proofs.lemmas.Bool.Decides.{nat_tests}
 use Rattle.std.proofs.Common.{◌≡◌, ℕ, ◌+◌, ◌-◌, ◌<◌, ◌≤◌, inl, inr, Bool, true, false, ◌==◌}
 use Rattle.std.proofs.Common.{List, map, Option, Some, None, is_some, refl, sym, ◌∙◌, arith}
@@ -52,7 +53,7 @@ late_frame_is_after_stretch : (late : Bool) (first_unfinished : Option ℕ) (f b
     → b < unwrap_or (if late then first_unfinished else None) f
 late_frame_is_after_stretch late first_unfinished f b past h = grind (arith, nat_tests)
 
--- No event at the end of a frame is about frame numbers that do not increase.
+-- No event at the end of a frame reports that frame numbers do not increase.
 pub end_events_have_no_order_fault : (old : ActiveFaults) (before : ℕ) (new : ActiveFaults) (f : ℕ)
     → list_any is_order_fault (end_events old before new f) ≡ false
 unfolding is_order_fault reports_order_fault
@@ -65,7 +66,8 @@ module _ (g : Criteria) (frames : Transmission) (a b i : ℕ)
   abbrev pub top : ℕ
   top = frame_at frames i
 
-  -- The first n frames of the transmission have ended, and so have all frames before frame p.
+  -- After n frames of the transmission and the ends of all frames before p, the current run
+  -- contains the frames so far from the range's first header on.
   pub record FollowsRange (n p : ℕ) (t : List CheckStep) : Type 0 where
     pub rises : n ≤ i → has_risen t ≡ true
     pub run : i < n → (from : ℕ) × (from ≤ top) × (run_of t ≡ Some from)
@@ -87,7 +89,7 @@ module _ (g : Criteria) (frames : Transmission) (a b i : ℕ)
       → FollowsRange n p u
   following_continues_after_events n p t u es follows so orders none = grind (arith, nat_tests)
 
-  -- If a frame after the range is invalidated, the range is reported.
+  -- If events invalidate a frame after the range of frames, the range is reported as trusted.
   pub invalidation_reports_trusted_frames : (n p : ℕ) (t : List CheckStep) (es : List Event) (x : ℕ)
       → FollowsRange n p
       t → i < n
@@ -127,8 +129,8 @@ module _ (g : Criteria) (frames : Transmission) (a b i : ℕ)
             (λ l. absurd (omega arith)))
       ]
 
-  -- If the page is unfinished at the end before a frame after the range, the unfinished run begins
-  -- after the range.
+  -- If frame f is after the range and the page is unfinished at the end of the frame before f, the
+  -- run of unfinished frames begins after the range.
   pub back_frame_is_after_stretch : (n f r : ℕ) (u : List CheckStep) → IsWrongSince g frames n f u →
       0 < n
       → IsEnd (rising_part frames) n (f - 1)
@@ -185,7 +187,8 @@ module _ (g : Criteria) (frames : Transmission) (a b i : ℕ)
             | inr (none, here) ↦ omega arith
           ]
 
-  -- The events at the end of a frame after the range invalidate only frames after the range.
+  -- From the first frame of the range on, the events at a frame end invalidate only frames after
+  -- the range.
   pub invalidated_frame_is_after_stretch : (n m f x : ℕ) (t u : List CheckStep) → ChecksFrameEnd g
       frames m f t u
       → IsWrongSince g frames n f u

@@ -1,4 +1,5 @@
--- Steps that report a range of frames as trusted, or leave a state that will report it.
+-- Joined lists of steps report a range of frames as trusted, or leave a state with a given
+-- property, if each of the lists does.
 use Rattle.std.proofs.lemmas.Bool.Decides.{nat_tests}
 use Rattle.std.proofs.Common.{◌≡◌, ℕ, ◌-◌, ◌<◌, ◌≤◌, ◌⊎◌, inl, inr, List, [], ◌∷◌, ◌++◌, map}
 use Rattle.std.proofs.Common.{Contains, Option, Some, None, refl, sym, subst, arith, ◌∙◌}
@@ -20,7 +21,8 @@ use Rattle.sub_rules.specs.Trusted.{events_reported_after, events_reported_at_st
 use Rattle.sub_rules.specs.Trusted.{trusted_up_to}
 use Rattle.sub_rules.specs.Trusted.{first_correct_of}
 
--- If the page was correct in a run, the frames of the run before frame x are reported as trusted.
+-- If the page was correct at the end of frame w of a run, and w is before frame x, the run's frames
+-- before x are reported as trusted.
 pub trusted_frames_contain_run : (run whole : Option ℕ) (x from w : ℕ) → run ≡ Some from → whole ≡
     Some w → w < x
     → Contains (trusted run whole x) (Trusted from (x - 1))

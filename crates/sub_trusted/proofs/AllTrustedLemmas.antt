@@ -1,4 +1,5 @@
--- Each range of frames with the guarantees is reported as trusted from its first header on.
+-- If anything is reported for a PES file, each range of frames that could be trusted is reported as
+-- trusted, from its first header that erases the page on.
 use Rattle.std.proofs.lemmas.Bool.Decides.{nat_tests}
 use Rattle.std.proofs.Common.{◌≡◌, ◌≢◌, ℕ, ◌<◌, ◌≤◌, ◌⊎◌, inl, inr, Bool, true}
 use Rattle.std.proofs.Common.{false, ◌||◌, not, List, [], ◌∷◌, ◌++◌, Contains}
@@ -47,7 +48,8 @@ no_events_announce_nothing : (reported : List Event) → reported ≡ []
 unfolding announced_events skipped_run_after_events
 no_events_announce_nothing reported none = grind (arith, nat_tests)
 
--- The end of the file reports nothing if nothing was reported before and no event follows.
+-- If no event was reported before the end of the file, none follows, and all subtitles are
+-- reliable, no trusted frames are reported at the end.
 silent_closing_reports_nothing : (g : Criteria) (frames : Transmission) (pes n : ℕ)
     (t : List CheckStep)
     → (list_any is_emitted t
@@ -112,7 +114,8 @@ module _ (g : Criteria) (pes_packets : List PesPacket) (a b i : ℕ)
   goes = packet_steps_lead_to_report g frames a b i fit pes_packets refl
       all_skipped_packets_are_outside
 
-  -- Any event is reported before or at the end of the file.
+  -- The end of the file reports trusted frames: an event was reported before it, an event follows,
+  -- or the file has unreliable subtitles.
   abbrev reports : List CheckStep → Bool
   reports t =
       list_any is_emitted t

@@ -1,5 +1,5 @@
--- The steps of PES packets report the range of frames as trusted, or leave a state that will report
--- it.
+-- After the steps of all PES packets, the range of frames was reported as trusted, or it can still
+-- be reported at the end of the file.
 use Rattle.std.proofs.Common.{◌≡◌, ℕ, ◌+◌, ◌-◌, ◌<◌, ◌≤◌, ◌⊎◌, inl, inr, List, [], ◌∷◌, ◌++◌}
 use Rattle.std.proofs.Common.{length, refl, sym, subst, arith, append-nil}
 use Rattle.sub_rules.specs.FrameRules.{Criteria, end_frame, frame_at, packets_of_frame}

@@ -1,4 +1,5 @@
--- The steps of a frame report the range of frames as trusted, or leave a state that will report it.
+-- After the steps of a frame, the range of frames was reported as trusted, or it can still be
+-- reported.
 use Rattle.std.proofs.lemmas.Bool.Decides.{nat_tests}
 use Rattle.std.proofs.Common.{◌≡◌, ℕ, zero, suc, ◌+◌, ◌-◌, ◌<◌, ◌≤◌, ◌⊎◌, inl, inr, Bool, true}
 use Rattle.std.proofs.Common.{false, List, [], ◌∷◌, ◌++◌, length, map, take, get_or, Option, Some}
@@ -90,7 +91,8 @@ pub skipped_event_is_no_order_fault : (pes : ℕ) (u : UnreadReason)
 unfolding is_order_fault reports_order_fault
 skipped_event_is_no_order_fault pes u = grind (arith, nat_tests)
 
--- If frame numbers increase, there is no event about their order.
+-- If a frame's number is greater than the number before it, no event reports that frame numbers do
+-- not increase.
 rising_frame_has_no_order_fault : (g : Criteria) (frames : Transmission) (n : ℕ)
     → (0 < n → frame_at frames (n - 1) < frame_at frames n)
     → list_any is_order_fault (order_events g frames n) ≡ false
@@ -103,7 +105,7 @@ rising_frame_has_no_order_event : (g : Criteria) (frames : Transmission) (n : �
 unfolding order_events
 rising_frame_has_no_order_event g frames n some up = grind (arith, nat_tests)
 
--- A frame is fault-free as long as no frame is invalidated.
+-- A frame that was fault-free so far stays fault-free if no frame is invalidated.
 pub no_invalidation_keeps_clean : (clean : Bool) (d : Option ℕ) → clean ≡ true → d ≡ None
     → (clean && is_none d) ≡ true
 no_invalidation_keeps_clean clean d is none = rw (is, none) refl
@@ -136,7 +138,8 @@ module _ (g : Criteria) (frames : Transmission) (a b i : ℕ)
   abbrev LeadsToReport : (List CheckStep → Type 0) → List CheckStep → List CheckStep → Type 0
   LeadsToReport S t ms = LeadsToReportOfRun (top g frames a b i fits) b S t ms
 
-  -- The frame numbers of the run increase up to frame n.
+  -- If the current run contains the range's first header, frame numbers increase up to frame n of
+  -- the transmission.
   run_has_rising_frames : (n x p : ℕ) (t : List CheckStep) → Keeps g frames 0 n x t
       → (has_risen t ≡ true → RiseTo frames (suc n))
       → FollowsStretch n p t
@@ -203,7 +206,8 @@ module _ (g : Criteria) (frames : Transmission) (a b i : ℕ)
           arrives.keeps
           arrives.rises follows below
 
-  -- The first k frames without packets before frame n of the transmission have ended.
+  -- The first k frames without packets before frame n of the transmission have ended, and the range
+  -- of frames can still be reported as trusted.
   abbrev GapFramesFollow : ℕ → ℕ → List CheckStep → Type 0
   GapFramesFollow n k u = HasEndedGapFrames g frames 0 n k u × FollowsStretch n
       (latest_frame frames n + suc k) u
@@ -222,7 +226,8 @@ module _ (g : Criteria) (frames : Transmission) (a b i : ℕ)
       (gap_frames_lead_to_report n k t there (omega arith) arriving)
       (λ u so. gap_frame_leads_to_report n k u there (omega arith) so.0 so.1)
 
-  -- The first n frames of the transmission have ended.
+  -- The first n frames of the transmission have ended, and the range of frames can still be
+  -- reported as trusted.
   abbrev pub FollowsAfterFrameEnds : ℕ → List CheckStep → Type 0
   FollowsAfterFrameEnds n u = HasEndedFrames g frames 0 n u × FollowsStretch n
       (frame_at frames (n - 1) + 1) u
@@ -279,7 +284,8 @@ module _ (g : Criteria) (frames : Transmission) (a b i : ℕ)
                 )
           ]
 
-  -- Frame n of the transmission has begun.
+  -- Frame n of the transmission has begun, and the range of frames can still be reported as
+  -- trusted.
   pub record Sending (n : ℕ) (t : List CheckStep) : Type 0 where
     pub follows : FollowsStretch n (frame_at frames n) t
     pub clean : i ≤ n → stays_fault_free t ≡ true

@@ -1,4 +1,5 @@
--- The properties of a range of frames with the guarantees, as its trusted frames are reported.
+-- A range of frames with the guarantees has no fault that affects receivers, ends with a finished
+-- page, and lies before the first frame out of order.
 use Rattle.std.proofs.lemmas.Bool.Decides.{nat_tests}
 use Rattle.std.proofs.Common.{◌≡◌, ℕ, suc, ◌+◌, ◌-◌, ◌<◌, ◌≤◌, true, false, List, [], ◌++◌, drop}
 use Rattle.std.proofs.Common.{length, take, get_or, Some, None, sym, ap, ◌∙◌, subst, arith}
@@ -81,7 +82,8 @@ module _ (frames : Transmission) where
         (omega arith)))
   ]
 
--- Frame i of the transmission is in a range of frames with the guarantees.
+-- Frame i of the transmission has a header that erases the page, and is in the range from a to b,
+-- which has the guarantees.
 pub record Fits (g : Criteria) (frames : Transmission) (a b i : ℕ) : Type 0 where
   pub there : i < rising_frame_count frames
   pub low : a ≤ frame_at frames i
@@ -164,8 +166,7 @@ module _ (g : Criteria) (pes_packets : List PesPacket) (a b : ℕ) (can : MayBeR
         sym (ap (λ (fs : Transmission). unfinished_run_start g fs n f) (take-append-drop m frames))
         ∙ unfinished_run_start-prefix g g.unread part (drop m frames) n f (omega arith)
 
-    -- If `within` is 0, the last frame of the range is finished, since no fault is active at its
-    -- end.
+    -- If `within` is 0 and no fault is active at a frame end, the page is finished there.
     at_once_finished : (n f : ℕ) → (g.within == 0) ≡ true
         → active_faults_at g part n f ≡ no_active_faults
         → is_unfinished g part n f ≡ false

@@ -1,4 +1,5 @@
--- A property of all trusted frames that a list of steps reports.
+-- If all trusted frames that two lists of steps report have a property, so do those that the joined
+-- list reports.
 use Rattle.std.proofs.lemmas.Bool.Decides.{nat_tests}
 use Rattle.std.proofs.Common.{◌≡◌, ℕ, ◌-◌, ◌<◌, ◌&&◌, Bool, false, not, List, [], ◌∷◌, ◌++◌}
 use Rattle.std.proofs.Common.{if◌then◌else◌, map, Option, Some, None, is_none, refl, sym}
@@ -21,15 +22,17 @@ use Rattle.sub_rules.specs.Trusted.{reports_order_fault, events_reported_after}
 use Rattle.sub_rules.specs.Trusted.{events_reported_at_step, trusted, trusted_up_to}
 use Rattle.sub_rules.specs.Trusted.{first_correct_of}
 
--- Frame numbers have increased in all steps so far.
+-- No step so far reports that frame numbers do not increase.
 abbrev pub has_risen : List CheckStep → Bool
 has_risen t = not (list_any reports_order_fault t)
 
--- The first frame that one of the events invalidates.
+-- The frame that the events invalidate; `None` if they invalidate no frame. If several events
+-- invalidate a frame, the first of these events counts.
 abbrev pub first_invalidated_frame : List CheckStep → List Event → Option ℕ
 first_invalidated_frame t es = first_match (invalidated_by t) es
 
--- The first frame that is not trusted when frame x is invalidated.
+-- The first frame that is no longer trusted if frame x is invalidated: the frame of the last
+-- `GoesBack` step or, without such a frame, x.
 abbrev pub frame_after_going_back : List CheckStep → ℕ → ℕ
 frame_after_going_back t x = unwrap_or (back_frame_of t) x
 
@@ -43,7 +46,7 @@ pub frame_going_back_stays_after : (t : List CheckStep) (x b : ℕ) → b < x
     → b < frame_after_going_back t x
 frame_going_back_stays_after t x b past h = grind (arith, nat_tests)
 
--- The run after events, which end it if they invalidate a frame.
+-- The first frame of the current run after some events; `None` if the events invalidate a frame d.
 abbrev pub kept : Option ℕ → Option ℕ → Option ℕ
 kept run d = if is_none d then run else None
 
@@ -51,7 +54,8 @@ kept run d = if is_none d then run else None
 unfoldable pub is_order_fault : Event → Bool
 is_order_fault e = reports_order_fault (Emits e)
 
--- The state after the events `es` were reported.
+-- The values that decide about trusted frames after the steps `u` are those after the steps `t` and
+-- then the events `es`.
 pub record AreEmitted (t u : List CheckStep) (es : List Event) : Type 0 where
   pub run_eq : run_of u ≡ kept (run_of t) (first_invalidated_frame t es)
   pub first_correct_eq : first_correct_of u ≡ first_correct_of t
@@ -91,12 +95,12 @@ emits_steps_emit_events t (e ∷ es) = grind (
   (emits_steps_emit_events (Emits e ∷ t) es),
 )
 
--- If the run continues after an event, it existed before, and the event invalidates no frame.
+-- If a run continues after events, it existed before, and the events invalidate no frame.
 pub kept_run_was_valid : (run d : Option ℕ) (from : ℕ) → kept run d ≡ Some from
     → (run ≡ Some from) × (d ≡ None)
 kept_run_was_valid run d from e = grind (arith, nat_tests)
 
--- An event about frame numbers that do not increase ends a run.
+-- An event that reports a frame number out of order invalidates a frame.
 valid_event_is_no_order_fault : (t : List CheckStep) (e : Event) → invalidated_by t e ≡ None →
     is_order_fault e ≡
     false
@@ -110,7 +114,8 @@ valid_events_have_no_order_fault t [] none = refl
 valid_events_have_no_order_fault t (e ∷ es) none = grind
     (arith, nat_tests, valid_event_is_no_order_fault, (valid_events_have_no_order_fault t es))
 
--- The step that sets PES packet number `pes`, before the steps `t`.
+-- The steps `t` and after them the step that sets the PES packet number `pes` (the latest step is
+-- first in the list).
 abbrev pub steps_with_packet_number : ℕ → List CheckStep → List CheckStep
 steps_with_packet_number pes t = AtPes pes ∷ t
 
@@ -121,7 +126,8 @@ module _ (P : ℕ → ℕ → Type 0) where
   numbering_keeps_trusted_property pes (Trusted from to) p = p
   numbering_keeps_trusted_property pes e p = tt
 
-  -- The trusted frames of a run before frame x have the property P.
+  -- If P holds for the frames from a run's first header to frame x - 1, it holds for the trusted
+  -- frames that are reported when the run ends before frame x.
   pub trusted_frames_have_property : (run whole : Option ℕ) (x : ℕ)
       → ((from w : ℕ) → run ≡ Some from → whole ≡ Some w → w < x → P from (x - 1))
       → HoldsForEachTrusted P (trusted run whole x)

@@ -29,7 +29,7 @@ use Rattle.sub_laws.proofs.UnfinishedLemmas.{absent_run_means_finished_frame}
 use Rattle.sub_laws.proofs.UnfinishedLemmas.{run_start_is_first_unfinished}
 use Rattle.sub_laws.proofs.UnfinishedLemmas.{unfinished_at}
 
--- The criteria with an expected page for each frame.
+-- The criteria `g` with other subtitles, which give a known expected page `due` for each frame.
 abbrev pub criteria_with_known_pages : Criteria → (ℕ → Rows) → (ℕ → Option ℕ) → Option ℕ → Option ℕ
     → Criteria
 criteria_with_known_pages g due ending first_tci last_tco =
@@ -86,7 +86,8 @@ module _ (g : Criteria) (due : ℕ → Rows) (ending : ℕ → Option ℕ) (firs
       or_true,
     )
 
-    -- The expected page is known at the last `within` frames up to f, and at f.
+    -- The expected page is known at frame f and at each of the `within` frames before it, from
+    -- frame `first` on.
     abbrev pub IsDueKnownUpTo : ℕ → Type 0
     IsDueKnownUpTo f = (e : ℕ) → first ≤ e → e ≤ f → f ≤ e + g.within → g.undecided e ≡ false
 

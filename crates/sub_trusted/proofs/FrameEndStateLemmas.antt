@@ -1,4 +1,5 @@
--- The state of the tracker after the first step at the end of a frame.
+-- The first steps at the end of a frame only record whether the page is finished or overdue there.
+-- They do not end a run.
 use Rattle.std.proofs.lemmas.Bool.Decides.{nat_tests}
 use Rattle.std.proofs.Common.{◌≡◌, ℕ, ◌≤◌, true, false, not}
 use Rattle.std.proofs.Common.{◌==◌, ◌&&◌, None, if◌then◌else◌, List, [], ◌∷◌}
@@ -25,7 +26,8 @@ use Rattle.sub_rules.specs.Trusted.{frame_if_finished}
 use Rattle.sub_rules.specs.Trusted.{first_correct_of}
 
 module _ (g : Criteria) (frames : Transmission) where
-  -- The end of frame f is checked, after n frames of the transmission.
+  -- The steps `u` are the steps `t` and then the first steps at the end of frame f, after n frames
+  -- of the transmission.
   pub record ChecksFrameEnd (n f : ℕ) (t u : List CheckStep) : Type 0 where
     pub run_eq : run_of u ≡ run_of t
     pub first_correct_eq :
@@ -42,13 +44,14 @@ module _ (g : Criteria) (frames : Transmission) where
         else None)
     pub plain : needs_back_steps g ≡ false → back_frame_of u ≡ back_frame_of t
 
-  -- The tracker has the first frame of the run of unfinished frames up to the end before frame f.
+  -- The frame of the last `GoesBack` step, if any, is the first of the run of unfinished frames up
+  -- to the frame before f.
   abbrev pub IsWrongSince : ℕ → ℕ → List CheckStep → Type 0
   IsWrongSince i f u = (r : ℕ) → back_frame_of u ≡ Some r → first_unfinished_before g frames i f ≡
       Some r
 
-  -- If `within` is not 0, a frame end has a step of its own; otherwise that step would change
-  -- nothing. So only the events after this step matter.
+  -- A relation T holds for all steps at a frame end if it holds for their events, since the steps
+  -- before these events report nothing.
   pub end_steps_are_followed : (T : List CheckStep → List CheckStep → Type 0) (i n f : ℕ)
       (t : List CheckStep)
       → ((g.within == 0) ≡ true → SeesNoLateness t)

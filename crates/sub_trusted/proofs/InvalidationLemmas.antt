@@ -1,5 +1,5 @@
--- A property of all trusted frames in a list of events still holds if runs of skipped PES packets
--- are grouped.
+-- If all trusted frames in a list of events have a property, they still have it after runs of
+-- skipped PES packets are grouped.
 use Rattle.std.proofs.lemmas.Bool.Decides.{nat_tests}
 use Rattle.std.proofs.Common.{◌≡◌, ℕ, Bool, true, false, List, [], ◌∷◌, ◌++◌, All, Contains}
 use Rattle.std.proofs.Common.{zero, suc, arith, cond}
@@ -18,14 +18,14 @@ use Rattle.sub_rules.proofs.AnyReportedLemmas.{has_other_pes_number}
 use Rattle.sub_rules.proofs.PacketLists.{Each-map, Each-none}
 use Rattle.sub_rules.specs.PesPacketEvents.{SkippedRun}
 
--- The property P of the first and last trusted frame holds if the event reports trusted frames.
+-- If the event reports trusted frames, the first and the last of them have the property P.
 abbrev pub HoldsIfTrusted : (ℕ → ℕ → Type 0) → Event → Type 0
 HoldsIfTrusted P (Trusted from to) = P from to
 HoldsIfTrusted P e = ⊤
 
 module _ (P : ℕ → ℕ → Type 0) where
-  -- The property P holds for the first and last trusted frame of each event that reports trusted
-  -- frames.
+  -- The first and the last trusted frame of each event that reports trusted frames have the
+  -- property P.
   abbrev pub HoldsForEachTrusted : List Event → Type 0
   HoldsForEachTrusted es = All (HoldsIfTrusted P) es
 

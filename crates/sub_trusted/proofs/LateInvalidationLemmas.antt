@@ -1,4 +1,5 @@
--- Which frame the events of a frame invalidate.
+-- A broken rule that affects receivers invalidates the frame in which it is broken or, if the page
+-- is overdue, the first frame with the unfinished page.
 use Rattle.std.proofs.lemmas.Bool.Decides.{nat_tests}
 use Rattle.std.proofs.Common.{◌≡◌, ℕ, zero, suc, ◌+◌, ◌-◌, ◌<◌, ◌≤◌, Bool, true, false, cond, List}
 use Rattle.std.proofs.Common.{[], ◌∷◌, ◌++◌, map, take, get_or, length, max, Option, Some, None}
@@ -37,7 +38,7 @@ use Rattle.sub_rules.specs.Trusted.{reports_order_fault}
 use Rattle.sub_rules.specs.declared.active_faults.ActiveFaults.{ActiveFaults}
 use Rattle.sub_trusted.proofs.EmittedStepLemmas.{is_order_fault}
 
--- Packet k, sent after the packets `before`, breaks no rule that affects receivers.
+-- Packet k of `packets`, which follow the packets `before`, breaks no rule that affects receivers.
 abbrev pub KeepsEachRule : Watched → List (List ℕ) → List (List ℕ) → ℕ → Type 0
 KeepsEachRule w before packets k =
     (r : PacketRule)
@@ -70,7 +71,7 @@ keeps_rules_append w before xs ys one two k l r needed = elim (cases_lt k (lengt
 module _ (t : List CheckStep) (w : Watched) (frame from : ℕ)
     (before packets : List (List ℕ))
   where
-    -- The events of a packet invalidate its frame if and only if it breaks a rule that affects
+    -- The fault of a packet invalidates the packet's frame if and only if the broken rule affects
     -- receivers.
     packet_fault_invalidates_its_frame : (k : ℕ) (r : PacketRule)
         → invalidated_by t (Reported (packet_fault r frame k)) ≡ cond (is_needed_by_receivers r)
@@ -157,7 +158,8 @@ module _ (t : List CheckStep) (g : Criteria) (frames : Transmission) where
   unfolding first_header_events invalidated_by
   header_fault_invalidates_nothing i = grind (arith, nat_tests)
 
--- A frame without an event about its number is after the frame before it.
+-- If no event reports that the number of a frame does not increase, the frame is after the one
+-- before it.
 pub no_order_fault_means_rising : (g : Criteria) (frames : Transmission) (i : ℕ)
     → list_any is_order_fault (order_events g frames i) ≡ false
     → 0 < i
@@ -173,7 +175,7 @@ unfolding invalidated_by
 skipped_packet_invalidates_last_packet t pes u = grind (arith, nat_tests)
 
 -- A broken rule invalidates the frame at whose end it is checked or, if the page is overdue, the
--- first frame with the wrong page.
+-- first frame with the unfinished page.
 end_fault_invalidates_run_start : (t : List CheckStep) (rule : EndRule) (f : ℕ) (cell : ℕ × ℕ)
     → invalidated_by t (Reported (end_rule_fault rule f cell)) ≡ Some (unwrap_or (late_run_start t)
     f)
@@ -260,7 +262,8 @@ module _ (g : Criteria) (frames : Transmission) where
     run_start_in_frames_is_bounded,
   )
 
-  -- A run of unfinished frames at the end before frame f begins before f.
+  -- If the page is unfinished at the end of the frame before f, a frame was sent, and the run of
+  -- unfinished frames does not begin after f.
   pub first_unfinished_before_at_most : (n f r : ℕ) → first_unfinished_before g frames n f ≡ Some r
       → (0 < n → latest_frame frames n < f)
       → (0 < n) × (r ≤ f)

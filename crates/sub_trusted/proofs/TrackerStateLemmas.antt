@@ -1,4 +1,5 @@
--- The state of the tracker before, during and after a frame.
+-- Before, during and after a frame, all frames of the current run are fault-free, and their numbers
+-- increase.
 use Rattle.std.proofs.lemmas.Bool.Decides.{nat_tests}
 use Rattle.std.proofs.Common.{◌≡◌, ℕ, suc, ◌+◌, ◌-◌, ◌<◌, ◌≤◌, ◌⊎◌, inl, inr, Bool, true, false}
 use Rattle.std.proofs.Common.{◌&&◌, ◌==◌, ◌∷◌, nat_lt, List, length, Option, Some, None, is_some}
@@ -47,8 +48,8 @@ pub correct_frame_continues_or_begins : (whole first_unfinished : Option ℕ) (f
     → (whole ≡ Some w) ⊎ ((first_unfinished ≡ None) × (f ≡ w))
 correct_frame_continues_or_begins whole first_unfinished f w e = grind (arith, nat_tests)
 
--- `within` is 0, so no frame end is checked for an overdue page, and the page was correct in each
--- run.
+-- The steps record neither an unfinished nor an overdue page, as if `within` is 0, and the current
+-- run, if any, has a frame with a correct page.
 pub record SeesNoLateness (t : List CheckStep) : Type 0 where
   pub first_unfinished : first_unfinished_of t ≡ None
   pub late : late_run_start t ≡ None
@@ -60,7 +61,8 @@ pub finished_frame_gives_correct_frame : (whole first_unfinished : Option ℕ) (
 finished_frame_gives_correct_frame whole first_unfinished f none = grind (arith, nat_tests)
 
 module _ (g : Criteria) (frames : Transmission) where
-  -- If `within` is not 0, the page was correct at the end of frame w of the run.
+  -- Frame w is not before frame `from`, frame numbers increase up to it, and the page is finished
+  -- at its end or `within` is 0.
   pub record IsCorrectFrom (from w : ℕ) : Type 0 where
     pub low : from ≤ w
     pub n : ℕ
@@ -68,8 +70,8 @@ module _ (g : Criteria) (frames : Transmission) where
     pub rises : RiseTo frames n
     pub finished : seen_run_start g frames n w ≡ None
 
-  -- The guarantees hold for the frames `from` to `to`, and the page was correct at the end of one
-  -- of them.
+  -- The frames `from` to `to` belong to a run of fault-free frames, and the page was finished at
+  -- the end of one of them, or `within` is 0.
   pub record IsTrustedCorrect (from to : ℕ) : Type 0 where
     pub stays : RunLastsTo g frames from to
     pub w : ℕ
@@ -125,7 +127,8 @@ module _ (g : Criteria) (frames : Transmission) where
       is = (kept_run_was_valid (run_of t) (first_invalidated_frame t es) from
       (sym emits_steps_emit_events.run_eq ∙ is)).1
 
-  -- A frame end with at most n frames sent is before frame n of the transmission.
+  -- If frame numbers increase, each frame end by which at most n frames were sent is before frame n
+  -- of the transmission.
   pub earlier_end_is_before_frame : (n : ℕ) → RiseTo frames (suc n) → (m f : ℕ) → IsEnd frames m f →
       m ≤ n
       → f < frame_at frames n
@@ -138,7 +141,8 @@ module _ (g : Criteria) (frames : Transmission) where
       let up = rising_frames_are_ordered frames (suc n) rises m n (omega arith) (omega arith)
       in omega arith
 
-  -- A frame end with fewer than n frames sent is not after frame n - 1 of the transmission.
+  -- If frame numbers increase, a frame end by which fewer than n frames were sent is not after
+  -- frame n - 1 of the transmission.
   pub end_in_prefix_is_bounded : (n : ℕ) → RiseTo frames n → (m f : ℕ) → IsEnd frames m f → m < n
       → f ≤ frame_at frames (n - 1)
   end_in_prefix_is_bounded n rises m f (some, within, inl is) l =
@@ -148,7 +152,8 @@ module _ (g : Criteria) (frames : Transmission) where
       let up = rising_frames_are_ordered frames n rises m (n - 1) (omega arith) (omega arith)
       in omega arith
 
-  -- If a run continues, frame numbers increase up to frame n, and frame n - 1 is the latest.
+  -- Frame numbers increase up to frame n of the transmission, and frame n - 1 has the greatest
+  -- number before it. This is so if a run continues.
   pub record RunFacts (n : ℕ) : Type 0 where
     pub some : 0 < n
     pub last : latest_frame frames n ≡ frame_at frames (n - 1)

@@ -34,7 +34,8 @@ use Rattle.sub_trusted.specs.TrustedFrames.{MatchesReadPackets}
 use Rattle.sub_laws.proofs.TransmissionLemmas.{packets_between-split, packets_between-void}
 
 module _ (keeps : Bool) (kind_of : List ℕ → PacketKind) where
-  -- The packets before the last header that erases the page do not change its text.
+  -- If a header among the packets `later` erases the page, the packets before `later` do not change
+  -- the page's text.
   from-later : (before later : List (List ℕ))
       → has_text_beginning keeps kind_of later ≡ true
       → from_text_beginning keeps kind_of (before ++ later) ≡ from_text_beginning keeps kind_of
@@ -43,7 +44,8 @@ module _ (keeps : Bool) (kind_of : List ℕ → PacketKind) where
   from-later (x ∷ before) later e =
       grind (arith, nat_tests, list_any-append, (from-later before later e))
 
--- The text of a row's first packet in a list of packets.
+-- The code in a column of a row: that of the row's first packet in the list, or a space if the list
+-- has no packet of this row.
 abbrev text_codes_of : PageIdValue → List (List ℕ) → ℕ → ℕ → ℕ
 text_codes_of page spanned row column =
     unwrap_or

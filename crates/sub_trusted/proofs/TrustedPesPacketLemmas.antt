@@ -96,7 +96,8 @@ module _ (g : Criteria) (frames : Transmission) (base : ℕ) where
         sent pes_packets,
   )
 
-  -- The state of the tracker after the frames `sent`.
+  -- After the frames `sent`, the steps t have ended all frames or, if `within` is not 0, all frames
+  -- but the last one.
   abbrev pub HasSentFrames : Transmission → List CheckStep → Type 0
   HasSentFrames sent t =
       Sends (List CheckStep) steps_with_packet_number g frames (Goes P)

@@ -1,4 +1,5 @@
--- Runs of fault-free frames.
+-- A run of fault-free frames begins with a header that erases the page, and has no fault that
+-- affects receivers.
 use Rattle.std.proofs.Common.{◌≡◌, ℕ, ◌+◌, ◌-◌, ◌<◌, ◌≤◌, ◌⊎◌, true, false, length}
 use Rattle.sub_rules.specs.Events.{active_faults_at}
 use Rattle.sub_rules.specs.FrameRules.{Criteria, end_frame, frame_at, packets_of_frame}

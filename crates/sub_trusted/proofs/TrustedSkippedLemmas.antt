@@ -129,7 +129,7 @@ module _ (g : Criteria) (earlier : List PesPacket) (u : UnreadReason) (later : L
     invalidation : first_invalidated_frame now es ≡ Some (last_packet_frame now)
     invalidation = skipped_packet_invalidates_last_packet now pes u
 
-    -- A skipped PES packet ends each run.
+    -- A skipped PES packet ends the current run.
     skipped_packet_ends_run : run_of v ≡ None
     skipped_packet_ends_run = let so = emits_steps_emit_events now es in rw invalidation at
         so.run_eq

@@ -129,7 +129,8 @@ module _ (g : Criteria) (frames : Transmission) (base : ℕ) where
       was : (from : ℕ) → run_of u ≡ Some from → run_of t ≡ Some from
       was from is = sym looks.run_eq ∙ is
 
-  -- The events at the end of frame f invalidate no later frame.
+  -- The guarantees hold for the trusted frames that the steps at the end of frame f report, since
+  -- these steps invalidate no frame after f.
   pub end_steps_report_good_stretches : (n m f : ℕ) (t : List CheckStep) (S : List CheckStep → Type
       0)
       → ((from : ℕ) → run_of t ≡ Some from → latest_frame frames m ≤ f)

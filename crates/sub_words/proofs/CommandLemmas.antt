@@ -1,4 +1,5 @@
--- The contract of clap, applied to the program's commands.
+-- The contract of clap determines how the arguments of the program's commands are matched or
+-- refused.
 use Rattle.std.proofs.Common.{◌≡◌, ◌≢◌, ◌∙◌, true, false, List, [], Option, Some, None, Ok, Err}
 use Rattle.std.proofs.Common.{Bool, ◌||◌}
 use Rattle.std.proofs.Common.{refl, ap, subst, sym, inl, inr, arith, drop, get_or, ◌+◌, ◌≤◌}

@@ -1,4 +1,4 @@
--- The flips of listen change at most one bit in each byte of a packet.
+-- The bit flips that `listen` accepts change at most one bit in each byte of a packet.
 use Rattle.std.proofs.Common.{◌≡◌, ◌∙◌, ap, refl, sym, subst, arith, ℕ, zero, suc, ◌<◌}
 use Rattle.std.proofs.Common.{◌^◌, ◌==◌, inl, inr, Bool, true, false, List, []}
 use Rattle.std.proofs.Common.{◌∷◌, ◌++◌, slice_index, Option, Some, None}

@@ -1,4 +1,5 @@
--- The standard library parses digits as their value, which is below a power of the base.
+-- The standard library parses up to 10 decimal or 8 hexadecimal digits as their value, which is
+-- less than 10^10 or 16^8.
 use Rattle.std.proofs.Common.{◌≡◌, ℕ, ◌^◌, ◌<◌, ◌≤◌, ◌∙◌, sym, ap, refl, List, [], ◌∷◌, ◌&&◌}
 use Rattle.std.proofs.Common.{length, Ok, true, false, arith, ◌==◌, lit<, subst}
 use Rattle.std.specs.Prelude.{Result}

@@ -25,11 +25,11 @@ pub trait ParseArguments<'a>: Sized {
     ///
     /// # Errors
     ///
-    /// Returns `Words` if `clap` refuses the arguments. Otherwise the first fault of the command's
-    /// arguments: `BadHex`, `SameFile`, `BadPage`, `Every`, `Origin`, `BadOption`, `Within`, `Pid`,
-    /// `PacketSize`, `Range`, `BadLayout`, `BadTime`, `BadSkip`, `BadFlip`, `BadLose`,
-    /// `BadReceiver`. Returns `Memory` if memory runs out before the fault is known, which needs at
-    /// least one argument.
+    /// Returns `Words` if `clap` refuses the arguments. Otherwise returns the first fault of the
+    /// command's arguments, in this order: `BadHex`, `SameFile`, `BadPage`, `Every`, `Origin`,
+    /// `BadOption`, `Within`, `Pid`, `PacketSize`, `Range`, `BadLayout`, `Pace`, `BadTime`,
+    /// `BadSkip`, `BadFlip`, `BadLose`, `BadReceiver`. Returns `Memory` if there are arguments and
+    /// memory runs out before the fault is known.
     fn parse(alloc: Global, arguments: &'a [&'a str]) -> Result<Self, UsageFault>;
 }
 

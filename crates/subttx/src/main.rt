@@ -38,7 +38,7 @@ fn main(rt: HostRuntime) -> ExitCode {
         Ok(streams) => ExitCode::from(run_with_system(&rt, streams.found())),
         Err(error) => {
             let _ = eprintln!(rt; "subttx: a standard stream is closed: {error}");
-            let printer = ErrorReporter::standard_output(io::writer(&rt), &rt);
+            let printer = ErrorReporter::standard_output(io::writer(&rt), &rt, None);
             ExitCode::from(refuse_to_begin(IntoWrite::new(printer)))
         }
     }
@@ -81,9 +81,10 @@ fn refuse_to_begin<K: Sink + Drop>(standard_output: K) -> u8
 
 // Runs the program with the arguments and files of the system, and returns the exit status.
 fn run_with_system(rt: &HostRuntime, closed_stream: LookupResult) -> u8 {
-    let printer = ErrorReporter::standard_output(io::writer(rt), rt);
     let mut names = [0; NAMES_CAPACITY];
     let kinds = InputKinds::new();
+    let time_fault = Some(&kinds.has_time_fault);
+    let printer = ErrorReporter::standard_output(io::writer(rt), rt, time_fault);
     let run = run(
         rt.alloc(),
         env::args(rt),
@@ -97,7 +98,7 @@ fn run_with_system(rt: &HostRuntime, closed_stream: LookupResult) -> u8 {
 }
 
 // Prints on standard error why the arguments are wrong, or which input has another format than the
-// command reads. Prints nothing if memory runs out after an answer. Not inlined, since the stack of
+// command reads or times in the wrong order. Prints nothing if memory runs out after an answer. Not inlined, since the stack of
 // a run would then hold the names that only an explanation needs.
 #[inline(never)]
 fn explain(rt: &HostRuntime, code: u8, kinds: &InputKinds) {

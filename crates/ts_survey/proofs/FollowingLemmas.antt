@@ -100,7 +100,7 @@ follows-note IsTaken j note more old new false begun is over going =
     let here = rw begun at is in
     rw begun (taken-after IsTaken old here.0 new _ _ here.1 (going here.0 here.2))
 
--- By induction over the events of a PID: the receiver gets exactly the output of these events.
+-- By induction over the events of a PID, the receiver gets exactly the output of these events.
 follows :
     {T : Type 0} (IsTaken : T → List ℕ → T → Type 0) (j : JoiningValue) (all : List PidEvent)
     (old new : T)

@@ -53,10 +53,12 @@ pub fn survey<S: Source, K: Flush>(
     ensures followed { K.buffered out.old ≡ 0
         → failed is_survey_write_failure result ≡ false
         → K.buffered out.new ≡ 0 }
-    // The recording is read to its end, and all of it is examined.
+    // If no fault is returned, the recording was read to its end. That each packet was examined is
+    // tested, not proved.
     ensures ended { OnOk result (IsAtEnd (S.remaining source.new)) }
-    // If the recording was read to its end, all lines were written: the first lines have its first
-    // bytes and its kind, with the requested packet size and PID, and the last line is `over`.
+    // If no fault is returned, the first lines of the output have the recording's first bytes and
+    // its kind, with the requested packet size and PID, and the last line is `over`. Which lines are
+    // between them is tested, not proved.
     ensures listed { OnOk result (ReportsSurvey options (S.remaining source.old)
         (K.contents out.old) (K.contents out.new)) }
 {

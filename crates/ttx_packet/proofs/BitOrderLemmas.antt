@@ -1,4 +1,4 @@
--- Lemmas about reversing the bits of a byte.
+-- Reversing the bits of a byte twice gives the byte back.
 use Rattle.std.proofs.Common.{◌≡◌, ℕ, ◌<◌, List, length, map, slice_index, arith, sym, ◌∙◌}
 use Rattle.std.proofs.Common.{eqb-true}
 use Rattle.std.proofs.lemmas.Bool.Decides.{nat_tests}

@@ -1,4 +1,4 @@
--- Lists that are processed in blocks of 16 items. The masks of the blocks find the first item that
+-- If a list is processed in blocks of 16 items, the masks of the blocks give the first item that
 -- passes a test.
 use Rattle.std.proofs.Common.{◌≡◌, ℕ, zero, suc, ◌+◌, ◌*◌, ◌/◌, ◌^◌, ◌<◌, ◌≤◌, Bool, true, false}
 use Rattle.std.proofs.Common.{not, List, [], ◌++◌, map, length, get_or, take, drop, sym, ap, ap₂}

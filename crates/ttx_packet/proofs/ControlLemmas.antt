@@ -14,7 +14,7 @@ nibble_is_below_16 a b c d = grind (arith, nat_tests, bit_is_below_two)
 abbrev is_bit_set_in : ℕ → ℕ → Bool
 is_bit_set_in n flag = bit_and n flag == flag
 
--- Separates a number into its eleven control bits, and adds these up again.
+-- `join_bits` takes the eleven control bits of a number and adds them up again.
 abbrev pub join_bits : ℕ → ℕ
 join_bits n =
     bit (is_bit_set_in n 1)

@@ -1,4 +1,4 @@
--- Two bytes that pass the computed test differ in at most one bit.
+-- Two bytes that pass the test `is_near` differ in at most one bit.
 use Rattle.std.proofs.Common.{◌≡◌, ℕ, zero, suc, ◌<◌, Bool, true, false, Some, None, refl, arith}
 use Rattle.std.proofs.lemmas.Bool.Decides.{nat_tests}
 use Rattle.ttx_packet.specs.OneBit.{IsNear, first_below, is_near}

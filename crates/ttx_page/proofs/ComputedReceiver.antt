@@ -1,5 +1,5 @@
--- An executable receiver for examples. It keeps the code of a cell for a byte of even parity, and
--- follows the model of a receiver.
+-- The computed receiver of the examples follows the model of a receiver. For a byte of even parity,
+-- it keeps the code of the cell.
 use Rattle.std.proofs.Common.{◌≡◌, ℕ, ◌-◌, Bool, true, false, ◌&&◌, List, [], ◌∷◌, map, get_or}
 use Rattle.std.proofs.Common.{refl, ap, ◌∙◌, arith, inl, inr}
 use Rattle.std.specs.Prelude.{◌==◌, if◌then◌else◌}
@@ -62,7 +62,7 @@ code_after_storing packet y page row column =
 abbrev pub page_after_storing_row : List ℕ → ℕ → Rows → Rows
 page_after_storing_row packet y page = page_from_cells (code_after_storing packet y page)
 
--- The state of the computed receiver after a packet of each kind.
+-- `state_after_kind` is the state of the computed receiver after a packet of each kind.
 abbrev pub state_after_kind : PacketKind → List ℕ → State → State
 state_after_kind (ThisPage h) packet old =
     record { heard = true; is_open = true; page = if c4 h then blank else old.page }
@@ -86,7 +86,7 @@ cell-page_from_cells code row column named =
     ∙ get_or-map-range_with_len (λ column. code row column) 0 40 column column 0 named.2
     (omega arith)
 
--- The computed storing of a row follows the model of a receiver.
+-- The computed receiver stores a row as the model of a receiver allows.
 row_is_stored :
     (packet : List ℕ) (y : ℕ) (page : Rows) → StoresRow packet y page (page_after_storing_row packet
     y page)

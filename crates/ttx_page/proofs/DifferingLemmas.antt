@@ -1,5 +1,5 @@
--- The number of differing cells of two pages: how it changes when a row is replaced, and that pages
--- are equal if it is 0.
+-- Two pages are equal if their number of differing cells is 0. Replacing a row changes this number
+-- only by the cells of that row.
 use Rattle.std.proofs.Common.{◌≡◌, ℕ, zero, suc, ◌+◌, ◌*◌, ◌<◌, ◌≤◌, cond, ◌==◌, List, [], length}
 use Rattle.std.proofs.Common.{get_or, set, refl, arith, get_or-set_same, get_or-set_other, add-one}
 use Rattle.std.proofs.lemmas.Bool.Decides.{nat_tests}
@@ -55,7 +55,7 @@ rows-set_above zero xs ys i row h = refl
 rows-set_above (suc n) xs ys i row h =
     grind (arith, nat_tests, get_or-set_other, rows-set_above n xs ys i row)
 
--- Replacing a row changes a page's number of differing cells by as much as the number for that row.
+-- If a row is replaced, the page's number of differing cells changes by as much as the row's.
 pub rows-set : (n : ℕ) (xs ys : List (List ℕ)) (i : ℕ) (row : List ℕ)
     → i < n
     → i < length xs

@@ -30,7 +30,7 @@ use Rattle.ttx_page.proofs.TextSpan.{beginning-none_keeps, beginning-push, begin
 use Rattle.ttx_page.proofs.TextSpan.{text_begins_at_header, text_span-push}
 use Rattle.ttx_page.proofs.TextStart.{sound_packets_send_text}
 
--- How a packet changes a cell of a receiver that keeps its page at a repeat.
+-- A correctly received packet changes a cell of a receiver in this way.
 record CellAfterPacket
     (keeps : Bool) (w : PageIdValue) (row column : ℕ) (packet : List ℕ) (old new : State)
     : Type 0 where

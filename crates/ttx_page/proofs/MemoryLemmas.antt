@@ -1,4 +1,4 @@
--- How the receivers of this crate store a row, column by column.
+-- The receivers of this crate store a row from its left column to its right column.
 use Rattle.std.proofs.Common.{◌≡◌, ℕ, ◌+◌, ◌<◌, ◌≤◌, List, length, slice_index}
 use Rattle.ttx_page.specs.declared.memory.EvenByte.{EvenByte}
 use Rattle.ttx_page.specs.Page.{AreCodes}

@@ -1,5 +1,5 @@
--- The state of a receiver after one packet, and after many packets, with wrong bits or lost
--- packets.
+-- After packets that were lost or received with wrong bits, a cell of a receiver has the sent code,
+-- is a space, or keeps its code.
 use Rattle.std.proofs.Common.{◌≡◌, ℕ, ◌<◌, ◌⊎◌, inl, inr, true, false, not, ◌&&◌, ◌||◌, List}
 use Rattle.std.proofs.Common.{[], ◌∷◌, ◌++◌, zip, Option, Some, None, Bool, is_some, Contains, refl}
 use Rattle.std.proofs.Common.{IsFalse, ap, arith, cond, subst, sym, ◌∙◌}
@@ -108,7 +108,7 @@ StoresCode class row column sent arrival old new =
     × ((cell new.page row column ≡ cell old.page row column)
     ⊎ (cell new.page row column ≡ space)))
 
--- How a received or lost packet changes the receiver and one cell of its page.
+-- A received or lost packet changes the receiver and one cell of its page in this way.
 record CellAfterItem
     (keeps anew : Bool) (class : ReceiverClass) (w : PageIdValue) (row column : ℕ) (sent : List ℕ)
     (arrival : Option (List ℕ)) (old new : State)
@@ -243,7 +243,7 @@ module _ (keeps anew : Bool) (class : ReceiverClass) (w : PageIdValue) (row colu
       (anew ≡ true)
       ⊎ ((has_text_beginning keeps (kind_of_item w) items ≡ true) ⊎ StartedBlank start)
 
-  -- The state of a receiver and of one cell of its page, after some packets were received or lost.
+  -- The receiver and one cell of its page have this state after packets were received or lost.
   pub record StateAfterItems (start : State) (items : List Item) (now : State) : Type 0 where
     pub heard : now.heard ≡ (has_page_header (kind_of_item w) items || start.heard)
     pub is_open : (has_page_header (kind_of_item w) items || not start.is_open) ≡ true
@@ -452,8 +452,8 @@ module _ (keeps anew : Bool) (class : ReceiverClass) (w : PageIdValue) (row colu
     cell_eq = λ holds. grind arith;
   }
 
-  -- The state of a receiver after all packets, by induction over the packets still to be received
-  -- or lost.
+  -- By induction over the packets still to be received or lost, the receiver has this state after
+  -- all packets.
   pub over : (start : State) (items : List Item) (sent : List (List ℕ)) (arrived : List Bool)
       (got : List (List ℕ)) (old new : State)
       → IsCell row column

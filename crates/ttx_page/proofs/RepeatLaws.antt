@@ -38,7 +38,7 @@ length-arrivals_from_flags (false ∷ ms) got = ap suc (length-arrivals_from_fla
 length-arrivals_from_flags (true ∷ ms) [] = ap suc (length-arrivals_from_flags ms [])
 length-arrivals_from_flags (true ∷ ms) (g ∷ gs) = ap suc (length-arrivals_from_flags ms gs)
 
--- Pairs each sent packet with its received bytes, or with `None` if it was lost.
+-- Each sent packet is paired with its received bytes, or with `None` if it was lost.
 module _ (class : ReceiverClass) (w : PageIdValue) (sent : List (List ℕ)) (arrived : List Bool)
     (got : List (List ℕ)) (may : AllZip LosesNoHeader sent arrived)
     (near : AllZip AreNear (items_where_true arrived sent) got) where

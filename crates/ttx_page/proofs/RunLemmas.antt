@@ -1,5 +1,5 @@
--- The effect of a list of packets on a receiver, for joined and extended lists, and for weaker
--- steps.
+-- The effect of joined lists of packets is the effect of the first list, and then that of the
+-- second.
 use Rattle.std.proofs.Common.{◌≡◌, ℕ, ◌+◌, ◌<◌, List, [], ◌∷◌, ◌++◌, length, take, get_or, refl, ap}
 use Rattle.std.proofs.lemmas.List.{take_more}
 use Rattle.ttx_page.specs.Receiver.{RunsBy}

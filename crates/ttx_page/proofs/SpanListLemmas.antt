@@ -1,4 +1,4 @@
--- How mapping and joining lists change the last page transmission (span).
+-- Mapping a list maps its last page transmission (span). Packets before its header do not matter.
 use Rattle.std.proofs.Common.{◌≡◌, zero, suc, inl, inr, Bool, true, false, ◌||◌, cond, List, []}
 use Rattle.std.proofs.Common.{◌∷◌, ◌++◌, Some, None, map, zip, find, Any, Contains, refl, ap, ◌∙◌}
 use Rattle.std.proofs.Common.{arith}

@@ -1,4 +1,4 @@
--- How one more packet at the end of a list changes the last page transmission (span).
+-- A further packet empties the last page transmission (span), extends it, or leaves it the same.
 use Rattle.std.proofs.Common.{◌≡◌, Bool, true, false, not, ◌&&◌, ◌||◌, cond, List, [], ◌∷◌, ◌++◌}
 use Rattle.std.proofs.Common.{refl, arith}
 use Rattle.std.specs.List.{list_any}
@@ -34,8 +34,8 @@ module _ {A : Type 0} (kind_of : A → PacketKind) where
   before-push [] x = refl
   before-push (y ∷ ys) x = let rest = before-push ys x in grind (arith, nat_tests)
 
-  -- How an appended packet changes the last page transmission (span). After a header of the page it
-  -- is empty; any other packet is added if the page is open and the packet does not end it.
+  -- A header of the page empties the last page transmission (span). Any other packet is appended to
+  -- it if the page is open and the packet does not end it.
   pub span-push : (xs : List A) (x : A)
       → span kind_of (xs ++ x ∷ [])
       ≡ cond (is_this_page (kind_of x)) []

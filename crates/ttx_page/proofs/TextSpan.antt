@@ -1,4 +1,4 @@
--- The transmissions of the current text (long span): how one more packet changes them.
+-- A further packet empties, extends or keeps the transmissions of the current text (long span).
 use Rattle.std.proofs.Common.{◌≡◌, Bool, true, false, not, ◌&&◌, ◌||◌, cond, List, [], ◌∷◌, ◌++◌}
 use Rattle.std.proofs.Common.{refl, sym, ap, ◌∙◌, map, arith, append_assoc}
 use Rattle.std.specs.List.{AllByRecursion, list_any}
@@ -21,7 +21,7 @@ pub header_alone_begins_text : (k : PacketKind) → begins_text false k ≡ is_t
 header_alone_begins_text k = grind (arith, nat_tests)
 
 module _ {A : Type 0} (kind_of : A → PacketKind) where
-  -- The page is open after the items. `is_open` is true if it is open before them.
+  -- The page is open after the items; `is_open` states whether it is open before them.
   abbrev is_open_from : Bool → List A → Bool
   is_open_from is_open [] = is_open
   is_open_from is_open (x ∷ xs) =
@@ -85,9 +85,8 @@ module _ {A : Type 0} (kind_of : A → PacketKind) where
         let opened = from-open xs in
         grind (arith, nat_tests)
 
-    -- How an appended packet changes the packets of the current text (long span). After a header
-    -- that starts a new text there are none; any other packet except a header of the page is added
-    -- if the page is open and the packet does not end it.
+    -- A header that starts a new text empties the long span. Any other packet, except a header of
+    -- the page, is appended if the page is open and the packet does not end it.
     pub text_span-push : (xs : List A) (x : A)
         → text_span keeps kind_of (xs ++ x ∷ [])
         ≡ cond (begins_text keeps (kind_of x)) []

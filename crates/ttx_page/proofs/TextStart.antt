@@ -1,4 +1,4 @@
--- Receivers that start late: the received packets send the same text as all packets.
+-- If a receiver starts late, the packets that it receives send the same text as all packets.
 use Rattle.std.proofs.Common.{◌≡◌, ℕ, suc, ◌<◌, inl, inr, Bool, true, false, not, ◌&&◌, cond, List}
 use Rattle.std.proofs.Common.{[], ◌∷◌, ◌++◌, length, take, slice_index_or, find, Option, Some, None}
 use Rattle.std.proofs.Common.{Contains, option_map, unwrap_or, All, refl, sym, ap}

@@ -8,8 +8,8 @@ use self::lanes::{count_differing_8, count_differing_16};
 
 /// Returns how many of the 40 columns of two rows differ.
 ///
-/// When a row of a page is replaced, the page's number of differing cells changes by as much as
-/// this result.
+/// If a row of a page is replaced, the page's number of differing cells changes by as much as this
+/// result does.
 #[inline(always)]
 pub fn count_differing_columns(a: &[u8; 40], b: &[u8; 40]) -> u16
     ensures value { result ≡ row_difference a.now b.now }

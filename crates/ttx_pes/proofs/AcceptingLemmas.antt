@@ -1,4 +1,4 @@
--- What the consumed bytes of a PES packet determine about the result of reading it.
+-- The consumed bytes of a PES packet determine the result of reading it.
 use Rattle.std.proofs.Common.{◌≡◌, ◌≢◌, ℕ, ◌<◌, ◌≤◌, List, [], length, take, drop, Option, None}
 use Rattle.std.proofs.Common.{Some, Result, Ok, Err, refl, sym, ap, subst, ◌∙◌, append_assoc, arith}
 use Rattle.std.proofs.Common.{length-append, length-take, length-drop, true}

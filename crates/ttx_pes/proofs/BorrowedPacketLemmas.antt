@@ -1,4 +1,4 @@
--- How borrowed bytes are read in several pulls.
+-- If borrowed bytes are read in several pulls, the bytes that a pull leaves are still borrowed.
 use Rattle.std.proofs.Common.{◌≡◌, ◌≢◌, ℕ, ◌+◌, ◌<◌, ◌≤◌, List, [], ◌++◌, length, take, Some, ap}
 use Rattle.std.proofs.Common.{◌∙◌, Bool, Ok, Result, arith, false, length-append}
 use Rattle.std.proofs.Common.{length-take, length-take-le, sym, true}

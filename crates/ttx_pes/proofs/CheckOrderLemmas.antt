@@ -19,7 +19,7 @@ use Rattle.ttx_pes.specs.Reading.{teletext_at, unit_at, units_at, value_at}
 use Rattle.ttx_pes.specs.Refusal.{reported_fault, unit_faults}
 use Rattle.ttx_pes.proofs.LineOrderLemmas.{last_place-push}
 
--- The fault of the first failed test of the list; its first test has number i.
+-- The result is the fault of the first failed test of the list; its first test has number i.
 abbrev pub first_failed_test : List ℕ → ℕ → List Bool → Option PesFault
 first_failed_test b i [] = None
 first_failed_test b i (t ∷ ts) = cond (not t) (Some (reported_fault b i))
@@ -81,8 +81,8 @@ next_place before b0 b2 =
     let u = unit_with_line b0 b2 in
     cond (is_teletext u.id) (cond (eqb u.line 0) before (line_order_place u)) before
 
--- The tests of n data units from number k on. The first unit must follow the line order position
--- `before`.
+-- `units_tests` are the tests of n data units from number k on. The first unit must follow the line
+-- order position `before`.
 abbrev pub units_tests : List ℕ → ℕ → ℕ → ℕ → List Bool
 units_tests b zero k before = []
 units_tests b (suc n) k before =

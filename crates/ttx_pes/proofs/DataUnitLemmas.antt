@@ -113,8 +113,8 @@ valid_unit_decodes u b h =
       length-map,
     )
 
--- The effect of a data unit on the units read so far: its unit, if there is one, is appended and
--- keeps the line order.
+-- A data unit appends its Teletext unit, if it has one, to the units read so far, and keeps them in
+-- line order.
 pub record AppendsUnit (prefix us : List UnitValue) (u : Option UnitValue) : Type 0 where
   pub is : us ≡ prefix ++ option_to_list u
   pub rises : (more : List UnitValue) → AreInLineOrder (last_place 0 us) more

@@ -1,4 +1,4 @@
--- How a limited number of PES packets is read, and how PES packets are skipped.
+-- Each PES packet that is read lowers the limit of a reader by one; at limit 0, its bytes end.
 use Rattle.std.proofs.Common.{◌≡◌, ℕ, zero, suc, ◌+◌, ◌-◌, ◌*◌, ◌≤◌, ◌<◌, List, [], ◌++◌, true}
 use Rattle.std.proofs.Common.{false, length, take, drop, Option, Some, None, Result, Ok, Err, refl}
 use Rattle.std.proofs.Common.{sym, ap, ◌∙◌, subst, inl, inr, arith, append_assoc, length-append}

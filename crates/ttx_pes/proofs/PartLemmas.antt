@@ -1,4 +1,4 @@
--- Reading a range of PES packets: the remaining packets of the range, and their indices.
+-- The bytes and the first index of the part that a reader returns are those of the range.
 use Rattle.std.proofs.Common.{◌≡◌, ℕ, zero, suc, ◌+◌, List, Option, Some, None}
 use Rattle.std.proofs.Common.{refl, ap, ◌∙◌, arith}
 use Rattle.std.specs.Prelude.{option_map}

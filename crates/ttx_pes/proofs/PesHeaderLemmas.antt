@@ -138,7 +138,7 @@ pub pts_and_units_give_value : (b : List ℕ) (t n : ℕ) (us : List UnitValue)
 unfolding value_at
 pts_and_units_give_value b t n us e count eu = rw (e, count, eu) refl
 
--- The bytes of a packet of the grammar from byte 6 on.
+-- `body_of_valid_packet` is a packet of the grammar without its first six bytes.
 unfoldable pub body_of_valid_packet : (v : PesValue) (p : List ℕ) → IsValidPesPacket v p → List ℕ
 body_of_valid_packet v p h =
     (h.flags ∷ h.pts_dts_flags ∷ 36 ∷ [])

@@ -60,7 +60,7 @@ units_fault_is_content_fault (suc n) units b f e = elim
           (bad ∙ sym (ap (λ r. r >>= λ us. units_at n us (drop 46 b)) bad) ∙ e)
     ]
 
--- A fault that is found after the length field of a PES packet is a fault of a complete packet.
+-- A fault that is found after the length field of a PES packet is a fault in its contents.
 value_fault_is_content_fault : (b : List ℕ) (f : PesFault) → value_at b ≡ Err f →
     is_packet_content_fault f ≡ true
 unfolding value_at
@@ -71,7 +71,7 @@ value_fault_is_content_fault b f h1 = grind (
   pts_fault_is_content_fault,
 )
 
--- A wrong start code or length is not a fault of a complete PES packet.
+-- A wrong start code or length is not a fault in the contents of a PES packet.
 size_fault_is_not_content : (b : List ℕ) (f : PesFault) → size_at b ≡ Err f →
     is_packet_content_fault f ≡ false
 unfolding size_at

@@ -1,4 +1,4 @@
--- How PES packets are skipped, counted and limited, one by one.
+-- PES packets are skipped, counted and limited one by one.
 use Rattle.std.proofs.Common.{◌≡◌, ℕ, zero, suc, ◌<◌, ◌≤◌, List, ◌++◌, length, take, drop}
 use Rattle.std.proofs.Common.{Some, None, Result, Ok, Err, refl, sym, ap, ◌∙◌, cond, inl, inr}
 use Rattle.std.proofs.Common.{arith}

@@ -1,4 +1,4 @@
--- Which bytes of a source remain after a PES packet or a fault.
+-- After a valid PES packet, the bytes that follow the packet remain in the source.
 use Rattle.std.proofs.Common.{◌≡◌, ℕ, true, List, [], ◌∷◌, ◌++◌, Option, Some, None, Result, Ok}
 use Rattle.std.proofs.Common.{Err, refl, ap, ◌∙◌, arith}
 use Rattle.std.proofs.lemmas.Bool.Decides.{nat_tests}

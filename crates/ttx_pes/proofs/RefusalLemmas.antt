@@ -139,8 +139,8 @@ agreeing_packets_share_test (suc (suc (suc (suc (suc (suc (suc (suc (suc j))))))
     long all =
     grind (arith, nat_tests, agreeing_packets_share_unit_tests, agree_below)
 
--- A blank PES packet of n payloads, without Teletext packets. It completes bytes that pass the
--- first checks to a packet of the grammar.
+-- `blank` is the PES packet of n payloads without Teletext packets. Its bytes complete the bytes
+-- that pass the first checks to a packet of the grammar.
 abbrev blank_header : ℕ → List ℕ
 blank_header n =
     packet_start ++ (bytes_high_first 2 (packet_length n) ++ (0x80 ∷ 0x80 ∷ 0x24 ∷ pts_bytes 0))
@@ -152,8 +152,8 @@ blank_unit_is_stuffing : (n k i : ℕ) → i < 4 → blank n (unit_place k i) �
     i 0
 blank_unit_is_stuffing n k i lt = grind (arith, nat_tests, unit_place, get_or_past)
 
--- The bytes of b for all checks before number q, and the bytes of a blank packet for the other
--- checks.
+-- `mixed_byte` is the byte of b for all checks before number q, and the byte of the blank packet
+-- for the other checks.
 abbrev mixed_byte : ℕ → ℕ → List ℕ → ℕ → ℕ
 mixed_byte n q b i = cond (ltb (check_of_byte i) q) (get_or b i 0) (blank n i) % 256
 

@@ -1,4 +1,4 @@
--- The PES packets of a request are those in the bytes of its source.
+-- A request is answered from the PES packets that the bytes of its source contain.
 use Rattle.std.proofs.Common.{◌∙◌, rules, sym}
 use Rattle.sub_answer.proofs.EndingLemmas.{answers_second, followed_with_file}
 use Rattle.sub_answer.proofs.EndingLemmas.{followed_of_pes_packets}

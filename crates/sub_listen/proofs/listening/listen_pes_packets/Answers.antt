@@ -1,4 +1,4 @@
--- Each exit of the loop of `listen_pes_packets` determines how reception ends.
+-- `listen_pes_packets` ends at the first PES packet that ends reception, and returns the reason.
 use Rattle.std.proofs.Common.{◌+◌, ◌≤◌, ◌∙◌, Err, List, Ok, Option, Result, Some, ap, arith, length}
 use Rattle.std.proofs.Common.{refl, subst, sym}
 use Rattle.std.proofs.lemmas.Result.{err_from_is_err_and}

@@ -1,4 +1,4 @@
--- `first_lost_header` tests one packet after another.
+-- `first_lost_header` returns the first packet that is listed as lost but must not be lost.
 use Rattle.std.proofs.lemmas.Bool.Decides.{nat_tests}
 use Rattle.std.proofs.Common.{◌<◌, ℕ, length, arith, rules, sym, ◌∙◌}
 use Rattle.std.proofs.lemmas.List.{length-map, nil_from_length}

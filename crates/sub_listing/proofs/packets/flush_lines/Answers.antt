@@ -1,4 +1,4 @@
--- Flushing changes neither the printed lines nor the device.
+-- Flushing keeps the printed lines, and the printer still prints to the same device.
 use Rattle.std.proofs.Common.{◌≡◌, ◌∙◌, ℕ, Bool, List, Option, false, refl, true}
 use Rattle.sub_io.proofs.FlushingLemmas.{error_is_not_ok}
 use Rattle.sub_listing.proofs.PrinterLemmas.{failed_flush_is_recorded, flush_keeps_name}

@@ -1,4 +1,5 @@
--- Either the first PES packet was found and the listing was printed, or the device failed before.
+-- Either the listing was printed from the first PES packet on, or the source failed before this
+-- packet was found.
 use Rattle.std.proofs.Common.{◌≡◌, ◌+◌, arith}
 use Rattle.sub_listing.specs.DeviceCall.{read_call}
 use Rattle.sub_listing.proofs.FirstPacketLemmas.{failed_search_prints_fault}

@@ -1,4 +1,4 @@
--- `is_command`: if a command has another name, the result depends only on the commands after it.
+-- If a command has another name, the result of `is_command` depends only on the commands after it.
 use Rattle.std.proofs.Common.{◌∙◌, sym}
 use Rattle.std.specs.Str.{bytes_eq}
 use Rattle.sub_words.proofs.CommandLemmas.{any_skips_failing_element}

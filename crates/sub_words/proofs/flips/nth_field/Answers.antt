@@ -1,4 +1,4 @@
--- `nth_field` splits the text at its colons.
+-- `nth_field` splits the text at its colons and returns one of the fields.
 use Rattle.std.proofs.Common.{lit<}
 use Rattle.std.proofs.lemmas.Iterator.Consumers.{nth_from_yields_List}
 use Rattle.std.proofs.lemmas.Iterator.Splits.{YieldsList-from_str_split}

@@ -1,4 +1,5 @@
--- The exit status implies the headline by the law about all runs.
+-- By the law about all runs, the main theorem holds for the exit status of a run on files in
+-- memory.
 use Rattle.subttx.proofs.in_memory.run_in_memory.Goals as goal
 
 pub returns-clause-headline : goal.returns-clause-headline

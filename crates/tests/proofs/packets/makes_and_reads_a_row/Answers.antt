@@ -4,7 +4,7 @@ use Rattle.std.proofs.lemmas.List.{get_or_past}
 use Rattle.std.proofs.lemmas.Bool.{agree_below_at, cases_lt, ltb-true}
 use Rattle.tests.proofs.packets.makes_and_reads_a_row.Goals as goal
 
--- All forty codes are below 128, by computing all 40 cases.
+-- Each of the 40 codes is below 128.
 letters : (k : ℕ) → k < 40 → slice_index (replicate 40 0x41) k < 0x80
 letters k l =
     ltb-true _ _

@@ -1,4 +1,4 @@
--- The table entry shows whether a byte is a code word.
+-- A byte is a code word exactly if its entry in the decoding table is below 16.
 use Rattle.std.proofs.Common.{rules, ltb-true}
 use Rattle.std.proofs.lemmas.Bool.{lt-ltb}
 use Rattle.ttx_packet.proofs.Hamming84Lemmas.{code_word_entry_is_small, small_entry_is_code_word}

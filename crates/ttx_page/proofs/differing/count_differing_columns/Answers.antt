@@ -1,4 +1,4 @@
--- Each block of a row adds its number of differing columns.
+-- Each block of a row adds its number of differing columns to the count.
 use Rattle.std.proofs.Common.{◌≡◌, ◌+◌, ◌*◌, drop, arith, rules, sym, ap₂, ◌∙◌}
 use Rattle.std.proofs.lemmas.Bool.Decides.{nat_tests}
 use lib.Lanes.{chunk}

@@ -1,4 +1,4 @@
--- The command `normal` reads the first bytes of its input, up to a limit.
+-- The command reads at most 12,800,897 bytes from the start of its input.
 use Rattle.std.proofs.Common.{◌∙◌}
 use Rattle.sub_listing.proofs.normal.NormalWorkWork.work.Goals as goal
 

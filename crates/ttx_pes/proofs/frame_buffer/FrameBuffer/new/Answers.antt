@@ -1,4 +1,4 @@
--- A new value stores no PES packet.
+-- A new frame buffer stores no PES packet.
 use Rattle.ttx_pes.proofs.FrameBufferLemmas.{empty_buffer_holds_no_packet}
 use Rattle.ttx_pes.proofs.frame_buffer.FrameBuffer.new.Goals as goal
 

@@ -1,4 +1,4 @@
--- For each result, the contents of the buffer and the taker's answer are as specified.
+-- For each result of `next`, the buffer and the answer of the packet's receiver are as specified.
 use Rattle.std.proofs.Common.{List, [], ℕ, arith, refl, rules, subst, sym, take}
 use Rattle.std.specs.Io.KnownBytes.{Consumes, prepend_known}
 use Rattle.ttx_pes.proofs.DataUnitLemmas.{AreBytes-take}
