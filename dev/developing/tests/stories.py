@@ -84,7 +84,7 @@ def describe_part(judged: JudgedPair, index: int) -> str:
 
 ANSWERS: dict[str, Callable[[JudgedPair], str]] = {
     "verdict": lambda judged: judged.word,
-    "line": lambda judged: judged.result["line"],
+    "line": lambda judged: str(judged.result["line"]),
     "last line": lambda judged: judged.said[-1],
     "sentence": lambda judged: judged.verdict.sentence,
     "causes": lambda judged: "; ".join(re.sub(r'subtitle (\d+).* at [\d:]+, ".*?": ', r"\1 ", line)

@@ -254,8 +254,10 @@ class JudgedProgrammes(AirCase):
     def test_a_refused_file_may_be_corrected_until_the_margin_has_passed(self) -> None:
         self.put_segments(0, 900, [(670, 680)])  # a gap after the programme
         fault = {"file": "stl", "severity": "error"}
-        for name, changes in (("its recording was not read", {"inputs": {"recording": None}}),
-                              ("its recording was judged", {"faults": [fault]})):
+        rows: list[tuple[str, dict[str, Any]]] = [
+            ("its recording was not read", {"inputs": {"recording": None}}),
+            ("its recording was judged", {"faults": [fault]})]
+        for name, changes in rows:
             refused = outcome(NAME, "refused", "refused 56 OutOfOrder block 2")
             assert refused.result
             refused.result.update(changes)

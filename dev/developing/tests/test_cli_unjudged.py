@@ -336,7 +336,8 @@ class OutputsAndSignals(CallCase):
                 item.startswith("own.recording") for item in os.listdir(self.path("out"))), part)
 
     def test_stores_the_recording_only_if_requested(self) -> None:
-        names, verdict = OutputNames("one", self.folder, self.folder), mock.Mock(parts=[])
+        names = OutputNames("one", self.folder, self.folder)
+        verdict = mock.Mock(parts=[], **{"request.moved_stl": None, "scope": "pair"})
         for is_kept, count, ending in itertools.product(
                 (False, True), (0, 1), (None, "recording.pes")):
             files = OutputFiles(

@@ -344,8 +344,8 @@ class Tracks(Case):
     def test_a_track_may_follow_only_an_earlier_one(self) -> None:
         base = self.base({})
         # Time base and start frame of a track and of the one before it, and the frames between.
-        self.check_rows(lambda track, before, frames: Track(*track, base).may_follow(
-            Track(*before, base), frames), {
+        self.check_rows(lambda track, before, frames: Track(track[0], track[1], base).may_follow(
+            Track(before[0], before[1], base), frames), {
             "the same start": (((0, 0), (0, 0), 1), True),
             "no frame between": (((0, 0), (0, 0), 0), False),
             "back by as many frames": (((0, 5), (0, 0), 5), False),

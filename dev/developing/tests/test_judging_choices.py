@@ -106,7 +106,9 @@ class Choices(Case):
             make_pes_packet(TICKS * (frame + 250), sent.get(TICKS * frame, []))
             for frame in range(100, 6100) if TICKS * frame in sent or frame % 60 < 25], Shape(100))
         path = self.write("one.ts", join_packets(multiplex))
-        for words, expected in (((), [(None, None, None, 1)]), (("--pace", "none"), [])):
+        rows: list[tuple[tuple[str, ...], list[object]]] = [
+            ((), [(None, None, None, 1)]), (("--pace", "none"), [])]
+        for words, expected in rows:
             name = f"{words}"
             choices = self.judge(name, stl, path, "--origin", f"{TICKS * 250}", *words)
             paces = [choice for choice in choices if choice[0] == "pace"]

@@ -189,7 +189,8 @@ class Sentences(StoryCase):
                    {name: value for name, value in cause.items() if name != "part"})
 
     def test_names_the_subtitle_whose_text_was_sent(self) -> None:
-        for number, words in ((5, []), (1, []), (5, ["--from", "00:00:08:00"])):
+        rows: list[tuple[int, list[str]]] = [(5, []), (1, []), (5, ["--from", "00:00:08:00"])]
+        for number, words in rows:
             judged = self.judge(self.change(f"3 with the text of {number}"), *words)
             text, name = f"Number {number + 49}", f"{number} {words}"
             cause, = judged.result["causes"]

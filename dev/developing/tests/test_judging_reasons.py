@@ -183,7 +183,7 @@ class Reasons(ProgrammeCase):
             "three sub-codes": (("11", "12", "13") * 3, ["0001", "0002", "0003"]),
             "six sub-codes, each once": (("11", "12", "13", "14", "15", "16"), [])})
         once = sent(*("11", "12") * 3, *("11",) * 6)
-        self.check_rows(lambda *inside: len(find_alternating_subcodes(once, inside)), {
+        self.check_rows(lambda first, last: len(find_alternating_subcodes(once, (first, last))), {
             "while they alternate": ((0, 5), 2), "all": ((0, 11), 2),
             "after the first two": ((2, 11), 0), "after they alternate": ((6, 11), 0)})
         self.check("no mismatch", [*explain_mismatch(sent("11", "12"), PAGE)], [])

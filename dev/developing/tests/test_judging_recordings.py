@@ -388,7 +388,7 @@ class Recordings(Case):
         page = self.read("out/one.html").decode()
         row = page.partition('<tr id="s1-pause"')[2].partition("</tr>")[0]
         self.must("row", f"<td>{time}</td><td>{end}</td>" in row and row.startswith(' class="bad')
-                  and 'href="#s1-pause"' in page and "What is wrong</caption>" in page, page)
+                  and 'href="#s1-pause"' in page and "Reasons, worst first</caption>" in page, page)
 
     def test_a_wrong_text_that_comes_early_is_not_in_the_pause(self) -> None:
         stl = bytearray(read_example_file("story.stl"))

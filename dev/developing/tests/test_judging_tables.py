@@ -104,13 +104,13 @@ class PartClocks(unittest.TestCase):
                                   for text in summarize_pictures(found.unchecked)], [True],
                                  (source, count))
 
-
     def test_subtitles_on_time_show_that_the_teletext_clock_did_not_jump(self) -> None:
         subtitle: Any = SimpleNamespace(begin=10, end=20)
-        for judge, is_refused, within, late, expected in (
-                (PairJudge, False, 0, None, [5 + 10 * TICKS, 5 + 20 * TICKS]),
-                (PairJudge, True, 0, None, []), (PairJudge, False, 2, None, []),
-                (PairJudge, False, 0, "0:9", []), (ReadingJudge, False, 0, None, [])):
+        rows: list[tuple[Any, bool, int, str | None, list[int]]] = [
+            (PairJudge, False, 0, None, [5 + 10 * TICKS, 5 + 20 * TICKS]),
+            (PairJudge, True, 0, None, []), (PairJudge, False, 2, None, []),
+            (PairJudge, False, 0, "0:9", []), (ReadingJudge, False, 0, None, [])]
+        for judge, is_refused, within, late, expected in rows:
             part: Any = SimpleNamespace(
                 is_refused=is_refused, request=SimpleNamespace(within=within, late=late),
                 judged_recording=(None, SimpleNamespace(origin=5)))

@@ -181,8 +181,10 @@ class WaivedSubtitles(Case):
                    ["right", "waived", "right", "wrong", "right"])
 
     def test_says_how_to_waive_one_subtitle_if_72_is_waived_in_all(self) -> None:
-        for lines, is_told in ((["72 warning"], True), (["others warning"], True), ([], False),
-                               ([make_waiver(72, 2), make_waiver(72, 4)], False)):
+        rows: list[tuple[list[str], bool]] = [
+            (["72 warning"], True), (["others warning"], True), ([], False),
+            ([make_waiver(72, 2), make_waiver(72, 4)], False)]
+        for lines, is_told in rows:
             notes = self.judge(WRONG_TEXTS, lines)["notes"]
             self.check(f"{lines}", any("to waive it in one: 72 warning at 00:00:08:00 in one.stl "
                                        "until" in note for note in notes), is_told)
@@ -191,8 +193,10 @@ class WaivedSubtitles(Case):
         stl = write_subtitle_file(self, replace_subtitles({
             2: (200, 260, b"Number \x9f 2"), 4: (400, 460, b"Number \x9f 4")}))
         two, four = make_waiver(51, 2), make_waiver(51, 4)
-        for lines, words in (([], "Refused: in subtitle 2 at"),
-                             ([two], "Refused: in subtitle 4 at"), ([two, four], "Waived, ")):
+        rows: list[tuple[list[str], str]] = [
+            ([], "Refused: in subtitle 2 at"), ([two], "Refused: in subtitle 4 at"),
+            ([two, four], "Waived, ")]
+        for lines, words in rows:
             self.write("severity", "\n".join(lines).encode())
             process = self.tool("qc", "--file-only", stl, "--severity", self.path("severity"), "-p",
                                 self.bench.program)
@@ -201,7 +205,8 @@ class WaivedSubtitles(Case):
     def test_a_refused_subtitle_needs_a_waiver_for_the_unknown_page_too(self) -> None:
         programme = replace_subtitles({4: (400, 460, b"Number \x9f 4")})
         fifty, unknown = make_waiver(51, 4), make_waiver(78, 4)
-        for lines, verdict in (([], REFUSED), ([fifty], REFUSED), ([unknown], REFUSED),
-                               ([fifty, unknown], WAIVED)):
+        rows: list[tuple[list[str], str]] = [
+            ([], REFUSED), ([fifty], REFUSED), ([unknown], REFUSED), ([fifty, unknown], WAIVED)]
+        for lines, verdict in rows:
             result = self.judge(PROGRAMME, lines, programme)
             self.check(f"{lines}", result["verdict"], verdict)

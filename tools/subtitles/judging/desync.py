@@ -85,9 +85,9 @@ def has_own_clock(several: Sequence[Departure], sent: Sequence[int],
                   changes: Sequence[int]) -> bool:
     """Return whether the Teletext clock does not jump where pictures leave, and may come back.
 
-    If pictures leave by a frame or more, it is sure if a subtitle changes at its expected time after
-    the jump, or if the PTS never go back and are closer together than the jump is long. If they do
-    not leave by whole frames, it is sure if no PTS is a fraction of a frame off.
+    If pictures leave by a frame or more, it is sure if a subtitle changes at its expected time
+    after the jump, or if the PTS never go back and are closer together than the jump is long. If
+    they do not leave by whole frames, it is sure if no PTS is a fraction of a frame off.
     """
     begin, ticks = several[0].pts, several[0].ticks or 0
     length = subtract_pts(begin, several[1].pts) if len(several) > 1 else None

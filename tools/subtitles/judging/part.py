@@ -190,8 +190,9 @@ class Part:
         assert self.causes
         subtitles, index = self.causes.expected.subtitles, cause.subtitle_index
         of_ends = self.causes.frames_by_end_fault
-        indices = {BEGIN: {0, of_ends.get(BEGIN)}, END: {len(subtitles) - 1, of_ends.get(END)},
-                   CONTENT: {index}}
+        indices: dict[int, set[int | None]] = {
+            BEGIN: {0, of_ends.get(BEGIN)}, END: {len(subtitles) - 1, of_ends.get(END)},
+            CONTENT: {index}}
         errors = {number for number in self.error_numbers & FAULTS_WITH_CAUSE
                   if index in indices[number]}
         if errors == {CONTENT} and cause.frame is None:  # not a text in a pause

@@ -56,7 +56,8 @@ def parse_waiver(path: str, line_number: int, line: str) -> Waiver:
     place = f"{path}, line {line_number}"
     if match is None:
         raise Stop(f"{place}: a waiver for one subtitle is a line such as `{EXAMPLE}`")
-    waiver = Waiver(int(match["number"]), *match.groups()[1:], line_number)
+    waiver = Waiver(int(match["number"]), match["time"], match["file"], match["until"],
+                    match["author"], match["reason"], line_number)
     if waiver.number not in WAIVABLE:
         raise Stop(f"{place}: fault {waiver.number} can't be waived for one subtitle")
     if parse_frame(waiver.time) is None:

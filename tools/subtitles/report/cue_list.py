@@ -65,7 +65,7 @@ class WrongRow(NamedTuple):
 
     rank: Rank
     text: str
-    count: Value
+    amount: Value
     anchor: str
     frame: int | None
 
@@ -196,7 +196,7 @@ class CueList:
             'scope="col">Reason</th><th scope="col">How much</th><th scope="col">First, into the '
             "recording</th></tr></thead><tbody>{}</tbody></table>", join_markup(
                 markup('<tr><td>{}{}</td><td><a href="#{}">{}</a></td><td>{}</td></tr>',
-                       row.text[0].upper(), row.text[1:], row.anchor, row.count,
+                       row.text[0].upper(), row.text[1:], row.anchor, row.amount,
                        "" if row.frame is None else self.format_offset(row.frame))
                 for row in rows)) if rows else NO_MARKUP
 
