@@ -202,6 +202,13 @@ class Recorded(AirCase):
                                                       (20.0, text[20:30]), (30.0, text[30:])])
         self.check("only the first is new", self.are_new(), [True, False, False, False])
 
+    def test_a_pause_of_the_feed_ends_a_segment(self) -> None:
+        item = self.recorder(length=60)
+        for at in (0, 5, 11, 12):
+            self.now = DAY + at
+            item.take(b"%d" % at)
+        self.check("contents", self.read_segments(), [(0.0, b"05"), (11.0, b"1112")])
+
     def test_each_start_begins_a_new_segment(self) -> None:
         for at in (0, 3, 3, 9):
             self.now = DAY + at

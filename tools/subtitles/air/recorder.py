@@ -24,6 +24,7 @@ WRITE_RETRY, WRITE_PATIENCE = 0.1, 5.0
 # files on the disk delete the recording before an alarm is noticed.
 MAX_DELETED_SEGMENTS = 2
 MAX_STEP_BACK = 10.0  # seconds by which the names of segments may be ahead of the clock
+MAX_SILENCE = 5.0  # seconds without a byte after which a segment ends, so that `judge` sees them
 # Errors of a full disk or quota, and seconds without room after which the note is written. On a
 # disk that several recorders share, there is room for a moment after each of them deletes segments.
 FULL_ERRORS, NOTE_SECONDS = (errno.ENOSPC, errno.EDQUOT), 60.0
@@ -50,14 +51,18 @@ class Recorder:
         self.is_new = True  # data before the next segment may be missing
         self.segment_begin = self.latest = 0.0  # segment start, and the time in the segment's name
         self.latest_wrong = 0.0  # the latest time in a name before the clock was set back
-        # Monotonic times of the start, when enough disk space was free, and when bytes were lost.
+        # Monotonic times of the start, when enough disk space was free, when bytes were lost, and
+        # until when the last bytes were to be written.
         self.start = self.last_room = time.monotonic()
-        self.last_loss = -math.inf
+        self.last_loss, self.deadline = -math.inf, math.inf
 
     def take(self, data: bytes) -> None:
         """Write bytes. If the disk is full, delete the oldest segments. Bytes that still can't be
         written are dropped, and the name of the next segment shows the loss."""
         left, deadline = memoryview(data), time.monotonic() + WRITE_PATIENCE
+        if deadline > self.deadline + MAX_SILENCE:
+            self.close()
+        self.deadline = deadline
         self.has_room()
         while left:
             try:
