@@ -21,7 +21,7 @@ from subtitles.judging.status import (
 from subtitles.reading.dates import find_date
 from subtitles.reading.received import (
     ShownPage, choose_header_option, choose_language, find_likely_errors, find_undecided_option,
-    join_late_pages, mark_cuts)
+    join_late_pages, mark_cuts, store_pages)
 from subtitles.request.request import Unclear
 from subtitles.results.schema import find_misfit
 from subtitles.stream.receiver import BLANK_PAGE, Rows
@@ -141,6 +141,17 @@ class ReceivedPages(Case):
             self.check(name, (options[0].word, len(options)), (word, count))
         with self.assertRaises(Unclear):
             choose_header_option(7, ["pol"])
+
+    def test_takes_the_undecided_option_that_can_store_all_pages(self) -> None:
+        polish, mosaic = page((22, b"\x0b\x0bkt\x7e\x0a\x0a")), page((22, b"\x0b\x11a"))
+        for name, rows, word in (("both can", [ONE], "english"),
+                                 ("one can", [ONE, polish], "polish"),
+                                 ("none can", [polish, mosaic], "english")):
+            sent, pages = store_pages(choose_header_option(0, []), [
+                ShownPage(at, at + 1, item, "") for at, item in enumerate(rows)])
+            self.check(f"{name}: option", (sent.options[0].word, len(sent.options)), (word, 2))
+            self.check(f"{name}: stored", [isinstance(item.stored, str) for item in pages],
+                       [name == "none can"] * len(rows))
 
     def test_lists_pages_whose_characters_no_option_decides(self) -> None:
         sent, pounds = choose_header_option(0, []), page((22, b"\x0b#5"))

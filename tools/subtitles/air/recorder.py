@@ -51,10 +51,9 @@ class Recorder:
         self.is_new = True  # data before the next segment may be missing
         self.segment_begin = self.latest = 0.0  # segment start, and the time in the segment's name
         self.latest_wrong = 0.0  # the latest time in a name before the clock was set back
-        # Monotonic times of the start, when enough disk space was free, when bytes were lost, and
-        # until when the last bytes were to be written.
+        # Monotonic times of the start, when enough disk space was free, and when bytes were lost.
         self.start = self.last_room = time.monotonic()
-        self.last_loss, self.deadline = -math.inf, math.inf
+        self.last_loss, self.deadline = -math.inf, math.inf  # of writing the last bytes
 
     def take(self, data: bytes) -> None:
         """Write bytes. If the disk is full, delete the oldest segments. Bytes that still can't be

@@ -229,9 +229,9 @@ def read_pages(packets: Packets, request: Request, clock: Clock | None,
             f"last, so reading ends there. Read the rest with {call(*rest)}", time))
     if subcodes := find_alternating_subcodes(packets, pes):
         faults.append(NamedFault(SUB_PAGES, describe_subpages(subcodes, request.page_name)))
-    pages = [page._replace(stored=store_page(page.rows, sent.options[0]))
-             for page in mark_cuts(join_late_pages([*list_spans(timeline)], request.within))
-             if page.rows != BLANK_PAGE]
+    sent, pages = store_pages(sent, [
+        page for page in mark_cuts(join_late_pages([*list_spans(timeline)], request.within))
+        if page.rows != BLANK_PAGE])
     reading = Reading(pes, clock, timeline, sent.options[0], pages, faults, [
         *unchecked, *find_undecided_option(sent, pages),
         *find_beginning(packets, pes, request.pes, clock.origin)], day_begin)
@@ -239,6 +239,18 @@ def read_pages(packets: Packets, request: Request, clock: Clock | None,
                           format_frame(page.begin), format_frame(page.end - 1))
                for page in pages if isinstance(page.stored, str)]
     return reading
+
+
+def store_pages(sent: SentOption, pages: Sequence[ShownPage]) -> tuple[SentOption, list[ShownPage]]:
+    """Store the pages by the first national option that can store all of them, or by the first one
+    if none can. Return the options, beginning with this one, and the pages."""
+    found: list[list[ShownPage]] = []
+    for option in sent.options:
+        found.append([page._replace(stored=store_page(page.rows, option)) for page in pages])
+        if not any(isinstance(page.stored, str) for page in found[-1]):
+            others = [other for other in sent.options if other != option]
+            return sent._replace(options=[option, *others]), found[-1]
+    return sent, found[0]
 
 
 def find_beginning(packets: Packets, pes: Range, inside: Range | None, origin: int) \
