@@ -14,7 +14,7 @@ from subtitles.air.segments import (
     parse_segment_begin)
 from .air import AirCase, DAY
 from .streams import change_packet_size, multiplex_frames
-from .programmes import BEGIN
+from .programmes import BEGIN, SECOND
 
 NAMES = {
     "20261201T080000.000Z.ts": DAY,
@@ -55,6 +55,7 @@ JOINT_CASES = {
     "it started again, and lost a packet": (900, 901, "0-10 !11-20", "0-10 11-20"),
     "15 packets are lost in a stall": (895, 910, "0-10 18-20", "0-10 18-20"),
     "a frame is lost in a stall": (900, 917, "0-10 18-20", "0-10 18-20"),
+    "a frame is lost in a stall near a PCR jump": (900, 917, "0-10 18-20", "0-10 18-20"),
     "a packet is lost on air": (900, 901, "0-10 10-20", "0-20"),
     "the first is cut in a packet": (880.3, 900.5, "0-10 10-20 20-30", "0-10 20-30"),
     "the first is cut between packets": (880, 900, "0-10 10-20", "10-20"),
@@ -91,12 +92,13 @@ class Segments(AirCase):
 
     @mock.patch.object(segments, "BLOCK", 100_000)
     def test_detects_losses_by_counters_between_segments(self) -> None:
-        feed = b"".join(multiplex_frames([], BEGIN, 110, 1))
+        feed, later = (b"".join(multiplex_frames([], begin, 110, 1))
+                       for begin in (BEGIN, BEGIN + SECOND))
         packets = [feed[at:at + 188] for at in range(0, len(feed), 188)]
         feeds = {"PCR": b"".join(packet for packet in packets if packet[3] & 0x10),
                  "tables": b"".join(
             packet[:3] + b"\x10" + packet[4:] if packet[1] in (0x40, 0x41) else packet
-            for packet in packets)}
+            for packet in packets), "jump": feed[:700 * 188] + later[700 * 188:]}
         for name, (end, begin, text, expected) in JOINT_CASES.items():
             for size in (188, 192, 204):
                 data = change_packet_size(feeds.get(name.split()[-1], feed), size)
@@ -110,6 +112,7 @@ class Segments(AirCase):
         Return the intervals between losses. A gap of up to `pause` seconds is not a loss.
         """
         self.delete_all("segments")
+        segments.is_continued.cache_clear()  # other rows have the same names, sizes and times
         for number, word in enumerate(text.split()):
             begin, end = map(float, word.strip("!").split("-"))
             self.put_segment(begin, end, b"".join(data[number:number + 1]), word[0] == "!")

@@ -182,10 +182,11 @@ def is_continued(before: Segment, after: Segment) -> bool | None:
 
 
 def is_usual_step(before: Sequence[int], after: Sequence[int]) -> bool:
-    """Return whether the PCR step from one segment to the next is as short as other PCR steps."""
+    """Return whether the PCR step from one segment to the next is as short as other PCR steps. The
+    longest of those is ignored, since the PCR may jump there."""
     step, *steps = (subtract_pts(first, second) for pcrs in (
         [before[-1], after[0]], before, after) for first, second in zip(pcrs, pcrs[1:]))
-    return 0 <= 2 * step <= 3 * max(steps)
+    return 0 <= 2 * step <= 3 * sorted(steps)[-2:][0]
 
 
 def find_unbroken_runs(segments: Iterable[Segment], longest_pause: float) -> Iterator[UnbrokenRun]:
