@@ -40,13 +40,13 @@ class FakeChecker:
                  fails: Callable[[], bool] = lambda: False) -> None:
         self.sent, self.fails, self.work, self.calls = sent, fails, os.devnull, list[str]()
 
-    def check(self, programme: Programme, stretch: UnbrokenRun) -> Outcome:
+    def check(self, programme: Programme, stretch: UnbrokenRun, end: float) -> Outcome:
         name, begin = programme.name, programme.begin
         self.calls.append(name)
         if self.fails():
             return Outcome(None, "the machine failed")
         sent = self.sent.get(name)
-        first, last = max(stretch.begin, begin - MARGIN_SECONDS) - DAY, stretch.end - DAY
+        first, last = max(stretch.begin, begin - MARGIN_SECONDS) - DAY, min(stretch.end, end) - DAY
         if sent is None or sent.begin >= last or sent.end <= first:
             return outcome(name, "not judged", "no cue agrees")
         if sent.begin > begin - DAY + MARGIN_SECONDS:

@@ -47,6 +47,8 @@ AIR_CASES = {
                                               "not judged", False, NO_BEGINNING),
     "it begins within the margin": RecordingCase((0, ALL), False, 0, 5, "relative", True,
                                                  "relative"),
+    "it is repeated after the margin": RecordingCase((0, 2 * ALL), False, 0, 5, "relative", True,
+                                                     "relative"),
     "it begins later": RecordingCase((0, ALL), False, 0, 2, "not judged", False,
                                      "the programme did not begin within 2 s of "
                                      "2026-12-01T08:00:00Z, but later"),
@@ -87,13 +89,13 @@ class Checks(Feeds):
         stretch, = find_unbroken_runs(find_segments(self.path("segments"), DAY, DAY + 60), 5)
         out = self.path("out")
         checker = Checker(program or self.bench.program, "qc", out, out)
-        result = checker.check(item, stretch)
+        result = checker.check(item, stretch, item.begin + LASTS + margin)
         checker.clear()
         self.check("files that are left", os.listdir(out), [])
         return result
 
     def test_each_recording_gets_its_verdict(self) -> None:
-        feeds = [self.feed(is_wrong) for is_wrong in (False, True)]
+        feeds = [2 * self.feed(is_wrong) for is_wrong in (False, True)]
         for name, trial in AIR_CASES.items():
             first, last = trial.recorded
             result = self.judged(feeds[trial.is_wrong][first * 25:last * 25], first, trial.air,

@@ -360,7 +360,7 @@ class JudgedProgrammes(AirCase):
             sent, checker = SentProgramme(640, 700), FakeChecker({})
             real = checker.check
             checker.sent = {NAME: sent}
-            checker.check = lambda item, stretch: real(item, stretch) if (  # type: ignore
+            checker.check = lambda item, *run: real(item, *run) if (  # type: ignore
                 item.begin + item.late >= DAY + sent.begin) else outcome(
                     item.name, early, "it began later")._replace(is_finished=False)
             judge = self.make_judge(checker)

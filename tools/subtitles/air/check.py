@@ -5,11 +5,10 @@ from __future__ import annotations
 import contextlib
 import dataclasses
 import itertools
-import math
 import os
 import shutil
 import time
-from typing import Any, Callable, Mapping, NamedTuple
+from typing import Any, Callable, NamedTuple
 
 from ..cli import single
 from ..cli.batch import ForkedProcess, hold_signals, wait_for_any
@@ -71,20 +70,19 @@ class Outcome(NamedTuple):
     def is_final(self) -> bool:
         """Return whether later segments can't change the result."""
         return self.verdict in CORRECT_VERDICTS or (
-            self.verdict not in (None, NOT_JUDGED) and self.is_finished
-            and not self.is_file_refused)
+            self.verdict == REFUSED and self.is_finished and not self.is_file_refused)
 
 
 class BeginCheck(NamedTuple):
     """A check that a programme began at most `early` seconds before its air time, and less than
-    `late` seconds after it. The recording begins at `first`. `count_packets_until` returns for each
-    PID the number of PES packets recorded before a given time."""
+    `late` seconds after it. The recording begins at `first`. `count_packets` returns the number of
+    PES packets of a PID that were recorded before a given time."""
 
     air_time: float
     early: float
     late: float
     first: float
-    count_packets_until: Callable[[float], Mapping[int, int]]
+    count_packets: Callable[[int, float], int]
 
     def examine(self, verdict: Verdict) -> None:
         """Add a note to the verdict if the programme began within the margins of its air time.
@@ -100,12 +98,11 @@ class BeginCheck(NamedTuple):
         pid, _ = part.stream or (0, 0)
         missing_seconds = count_seconds_before_first(part)
         if verdict.word not in CORRECT_VERDICTS and missing_seconds > 0 and \
-                self.count_packets_until(self.first + missing_seconds + MAX_PMT_SECONDS).get(pid,
-                                                                                             0):
+                self.count_packets(pid, self.first + missing_seconds + MAX_PMT_SECONDS):
             raise Unclear("the first subtitle was expected before the first recorded PES packet of "
                           f"the page: the programme did not begin within {words}, or its beginning "
                           "was not recorded")
-        if begin_number(part) >= self.count_packets_until(self.air_time + self.late).get(pid, 0):
+        if begin_number(part) >= self.count_packets(pid, self.air_time + self.late):
             raise Unclear(f"the programme did not begin within {words}, but later")
         verdict.notes.append(f"begun within {words}")
 
@@ -156,19 +153,19 @@ class Checker:
             if name.startswith(WORK):
                 shutil.rmtree(os.path.join(self.place, name), ignore_errors=True)
 
-    def check(self, programme: Programme, stretch: UnbrokenRun) -> Outcome:
-        """Judge a programme from a continuous part of the feed."""
+    def check(self, programme: Programme, stretch: UnbrokenRun, last: float) -> Outcome:
+        """Judge a programme from a continuous part of the feed, up to the time `last`."""
         self.clear()
         self.work = make_temporary_name(self.place, WORK)
         first = max(stretch.begin, programme.begin - programme.early)
-        size = stretch.size(first, math.inf)
+        size = stretch.size(first, last)
         needed_bytes = size + stretch.size(first, programme.begin + programme.late) + SPARE_BYTES
         try:
             os.mkdir(self.work)
             if shutil.disk_usage(self.work).free < needed_bytes:
                 return Outcome(None, f"no room in {self.place} for {needed_bytes:,} bytes")
             status, lines = run_forked(
-                lambda: run_main(lambda _: self.judge(programme, stretch), ()),
+                lambda: run_main(lambda _: self.judge(programme, stretch, last), ()),
                 MIN_SECONDS + size / BYTES_PER_SECOND, self.report)
         except (OSError, Stop) as reason:
             return Outcome(None, format_error(reason))
@@ -184,27 +181,27 @@ class Checker:
         return Outcome(result, result["reason"] or result["worst_fault"] or result["line"],
                        status != UNFINISHED)
 
-    def judge(self, programme: Programme, stretch: UnbrokenRun) -> int:
+    def judge(self, programme: Programme, stretch: UnbrokenRun, last: float) -> int:
         """Judge a programme in the current process. Return the exit status."""
         air_time, request = programme.begin, programme.request
         recording, first = os.path.join(self.work, RECORDING), air_time - programme.early
 
-        def count_packets_until(end: float) -> Mapping[int, int]:
+        def count_packets(pid: int, end: float) -> int:
             head = os.path.join(self.work, HEAD_FILE)
             with open(head, "wb") as file:
                 file.writelines(stretch.read(first, end))
             program = CommandPaths(self.program_name, self.program).program_path
             found = survey(program, head, request.page)
-            return {pid: packets.count for pid, packets in found.by_pid.items()}
+            return found.by_pid[pid].count if pid in found.by_pid else 0
 
         begin = BeginCheck(air_time, programme.early, programme.late, max(first, stretch.begin),
-                           count_packets_until)
+                           count_packets)
         call = single.PairOptions(self.program, out=self.out, staging_folder=self.work,
                                   name=programme.name, is_claimed=True, is_kept=self.is_kept,
                                   examine=begin.examine)
         try:
             with open(recording, "xb") as file:
-                file.writelines(stretch.read(first, math.inf))
+                file.writelines(stretch.read(first, last))
             request = dataclasses.replace(request, recording=recording)
             return exit_status(single.judge_and_report(request, call, self.program_name))
         except (OSError, MemoryError) as reason:  # for example if a segment was deleted

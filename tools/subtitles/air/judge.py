@@ -201,7 +201,7 @@ class Judge:
             return Outcome(None, delivery.fault, error_kind=INPUT)
         recorded_runs, outcomes = [*find_unbroken_runs(segments, self.args.pause)], list[Outcome]()
         for stretch in filter(window.can_contain, recorded_runs):
-            outcomes.append(self.checker.check(programme, stretch))
+            outcomes.append(self.checker.check(programme, stretch, window.last))
             if outcomes[-1].is_final or outcomes[-1].result is None or outcomes[-1].is_file_refused:
                 break
         if self.read_delivery(programme, now).version != delivery.version:
