@@ -14,7 +14,7 @@ from subtitles.formats.layout import PLAIN, draw_text, make_page_rows
 from subtitles.formats.listing import NEVER_SENT, SUB_PAGES
 from subtitles.formats.stl_writer import StoredPage, store_page
 from subtitles.formats.teletext import (
-    CROATIAN, ENGLISH, FRENCH, GERMAN, OPTIONS, NationalOption, SentOption)
+    CROATIAN, ENGLISH, FRENCH, GERMAN, OPTIONS, NationalOption)
 from subtitles.judging.cues import CERTAIN, NOT_CERTAIN
 from subtitles.judging.status import (
     AS_SHOWN, CheckSummary, DIFFERS, Grounds, NOT_READ, SAME, Severity, WITH_FAULTS, decide_reading)
@@ -22,7 +22,6 @@ from subtitles.reading.dates import find_date
 from subtitles.reading.received import (
     ShownPage, choose_header_option, choose_language, find_likely_errors, find_undecided_option,
     join_late_pages, mark_cuts, store_pages)
-from subtitles.request.request import Unclear
 from subtitles.results.schema import find_misfit
 from subtitles.stream.receiver import BLANK_PAGE, Rows
 from .bench import Case, CompletedCall
@@ -135,12 +134,10 @@ class ReceivedPages(Case):
             "the second one": ((0, ["deu", "pol", "eng"]), ("polish", 1)),
             "not announced": ((0, []), ("english", 2)),
             "another one": ((2, ["pol"]), ("swedish", 2)),
-            "reserved in the default region": ((7, ["ron"]), ("romanian", 1))}
+            "reserved in the default region": ((7, ["pol"]), ("romanian", 1))}
         for name, (values, (word, count)) in rows.items():
             options = choose_header_option(*values).options
             self.check(name, (options[0].word, len(options)), (word, count))
-        with self.assertRaises(Unclear):
-            choose_header_option(7, ["pol"])
 
     def test_takes_the_undecided_option_that_can_store_all_pages(self) -> None:
         polish, mosaic = page((22, b"\x0b\x0bkt\x7e\x0a\x0a")), page((22, b"\x0b\x11a"))
@@ -154,17 +151,21 @@ class ReceivedPages(Case):
                        [name == "none can"] * len(rows))
 
     def test_lists_pages_whose_characters_no_option_decides(self) -> None:
-        sent, pounds = choose_header_option(0, []), page((22, b"\x0b#5"))
-        text = "the characters of 1 subtitle: C12 to C14 of the headers select english or " \
-            "polish, by the region to which the receiver is set, no announced language decides " \
-            "it, and the text was read as english"
-        cases: tuple[tuple[str, SentOption, list[Rows], list[str]], ...] = (
-                ("no such character", sent, [ONE, TWO], []),
-                ("one of two", sent, [ONE, pounds], [text]),
-                ("decided", choose_header_option(0, ["eng"]), [pounds], []))
-        for name, options, rows, expected in cases:
+        pounds, start = page((22, b"\x0b#5")), "the characters of 1 subtitle: C12 to C14 of the " \
+            "headers select "
+        end = ", no announced language decides it, and the text was read as "
+        both = f"{start}english or polish, by the region to which the receiver is set{end}english"
+        cases: dict[str, tuple[int, list[str], list[Rows], list[str]]] = {
+            "no such character": (0, [], [ONE, TWO], []),
+            "one of two": (0, [], [ONE, pounds], [both]),
+            "decided": (0, ["eng"], [pounds], []),
+            "the same in both": (2, [], [pounds], []),
+            "reserved in the default region": (7, ["pol"], [ONE, pounds], [
+                f"{start}romanian, but nothing in region 0000{end}romanian"]),
+            "reserved, decided": (7, ["ron"], [pounds], [])}
+        for name, (bits, languages, rows, expected) in cases.items():
             pages = [ShownPage(at, at + 1, item, "") for at, item in enumerate(rows)]
-            found = find_undecided_option(options, pages)
+            found = find_undecided_option(choose_header_option(bits, languages), languages, pages)
             self.check(name, [(item.kind, item.text) for item in found],
                        [(OPTION, text) for text in expected])
 
@@ -304,7 +305,9 @@ class WholeCalls(Case):
         for name, frames, args, status, begin in (
                 ("two options", [(0, text), (25, blank), (50, other), (75, blank)], (), 1,
                  "refused 67"),
-                ("reserved bits", [(0, [RESERVED_OPTION, CLOSING])], (), 2, "C12, C13 and C14"),
+                ("reserved bits", [(0, [RESERVED_OPTION, make_numbered_row(22, b"#"), CLOSING]),
+                                   (25, [RESERVED_OPTION, CLOSING])], (), 0,
+                 "1 subtitle in 26 frames; not checked: no_video, losses, clock, option"),
                 ("no such page", [(0, text)], ("--page", "889"), 2, "no header of the page"),
                 ("row 24", row_24, (), 1, "not in the file, row 24 has text: xxx"),
                 ("PTS go back", jumping, (), 1, "time goes back, at 00:00:01:00, where the PTS of "

@@ -142,28 +142,29 @@ def find_header_bits(packets: Packets, pes: Range) -> int:
 def choose_header_option(bits: int, languages: Sequence[str]) -> SentOption:
     """Return the national options whose C12 to C14 are `bits`, first the one to use: that of the
     first announced language with such an option, which then is the only one, or else that of the
-    default region. Raise `Unclear` if the default region has none."""
+    default region, if it has one."""
     for option in map(choose_track_option, languages):
         if option and option.bits == bits:
             return SentOption([option], [option])
-    sent = find_sent_option(bits, ENGLISH, ())
-    option = sent.options[0]
-    if option.region:
-        raise Unclear("C12, C13 and C14 are set in the headers of the page, which is reserved in "
-                      f"region 0000: {option.word} has these bits, but the announced languages do "
-                      "not choose it")
-    return sent
+    return find_sent_option(bits, ENGLISH, ())
 
 
-def find_undecided_option(sent: SentOption, pages: Sequence[ShownPage]) -> list[Unchecked]:
-    """Return an entry if several regions have a national option, no announced language decides
-    which, and a page has a character that differs between them."""
-    codes = bytes(code for at, code in enumerate(NATIONAL_CODES)
-                  if len({option.characters[at] for option in sent.options}) > 1)
-    count = sum(any(code in codes for code in b"".join(page.rows)) for page in pages)
+def find_undecided_option(sent: SentOption, languages: Sequence[str],
+                          pages: Sequence[ShownPage]) -> list[Unchecked]:
+    """Return an entry if no announced language decides which national option receivers use, and a
+    page has a character that differs between the options. If the default region has none, all
+    characters of the option differ."""
+    options = sent.options
+    if options[0] in map(choose_track_option, languages):
+        return []
+    is_reserved = all(option.region for option in options)
+    characters = zip(NATIONAL_CODES, *(option.characters for option in options))
+    codes = {code for code, *several in characters if is_reserved or len({*several}) > 1}
+    count = sum(not codes.isdisjoint(b"".join(page.rows)) for page in pages)
     return [Unchecked(OPTION, f"the characters of {counted(count, 'subtitle')}: C12 to C14 of the "
-                      f"headers select {sent.words}, no announced language decides it, and the "
-                      f"text was read as {sent.options[0].word}")] if count else []
+                      f"headers select {sent.words}{', but nothing in region 0000' * is_reserved}, "
+                      "no announced language decides it, and the text was read as "
+                      f"{options[0].word}")] if count else []
 
 
 def list_spans(timeline: Timeline) -> Iterator[ShownPage]:
@@ -233,7 +234,7 @@ def read_pages(packets: Packets, request: Request, clock: Clock | None,
         page for page in mark_cuts(join_late_pages([*list_spans(timeline)], request.within))
         if page.rows != BLANK_PAGE])
     reading = Reading(pes, clock, timeline, sent.options[0], pages, faults, [
-        *unchecked, *find_undecided_option(sent, pages),
+        *unchecked, *find_undecided_option(sent, languages, pages),
         *find_beginning(packets, pes, request.pes, clock.origin)], day_begin)
     faults += [NamedFault(NOT_IN_FILE, f"{page.stored}: {reading.format_text(page)}",
                           format_frame(page.begin), format_frame(page.end - 1))
