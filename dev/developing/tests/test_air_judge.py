@@ -453,12 +453,15 @@ class JudgedProgrammes(AirCase):
         self.check("results", self.verdicts(), {NAME: "relative", PAGE_NAME: "refused"})
 
     def test_a_restart_of_the_recorder_is_a_gap(self) -> None:
-        self.put_segments(0, 900)
-        os.rename(*(self.path(f"segments/{make_segment_name(DAY + 630, is_new)}")
-                    for is_new in (False, True)))
-        self.run_judge(FakeChecker({NAME: SentProgramme(600, 660)}), 1000)
-        self.check("reason", self.result(NAME)["reason"], "not recorded: 2026-12-01T08:10:30Z to "
-                   "2026-12-01T08:10:30Z; of the rest: refused 74")
+        for begin in (630, 625):  # then the clock was set back
+            self.delete_all("segments", "out")
+            self.put_segments(0, 900)
+            os.rename(self.path(f"segments/{make_segment_name(DAY + 630)}"),
+                      self.path(f"segments/{make_segment_name(DAY + begin, True)}"))
+            self.run_judge(FakeChecker({NAME: SentProgramme(600, 660)}), 1000)
+            self.check("reason", self.result(NAME)["reason"],
+                       f"not recorded: 2026-12-01T08:10:{begin - 600}Z to 2026-12-01T08:10:30Z; of "
+                       "the rest: refused 74")
 
     def test_ignores_an_end_before_the_last_subtitle(self) -> None:
         self.write_schedule("2026-12-01T08:10:00Z/2026-12-01T08:10:01Z one.stl")

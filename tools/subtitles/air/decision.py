@@ -52,8 +52,9 @@ def describe_gaps(window: Window, recorded_runs: Sequence[UnbrokenRun],
     """Describe the periods of a window that were not recorded or were deleted later."""
     ends = [window.first, *(stretch.end for stretch in recorded_runs)]
     begins = [*(stretch.begin for stretch in recorded_runs), window.last]
-    return [f"{date(end)} to {date(begin)}" for number, (end, begin) in enumerate(zip(ends, begins))
-            if 0 < number < len(recorded_runs) or begin - end > longest_pause]
+    # If the clock was set back, a part may begin before the end of the last.
+    return [" to ".join(map(date, sorted(times))) for number, times in enumerate(zip(ends, begins))
+            if 0 < number < len(recorded_runs) or times[1] - times[0] > longest_pause]
 
 
 def decide(name: str, outcomes: Sequence[Outcome], gaps: Sequence[str], has_passed: bool,
