@@ -516,15 +516,36 @@ class TwoRecordings(Case):
                 ("another text at the end", [*frames[:3], (75, text)], 0, 1),
                 ("an earlier beginning", [(-10, text), *frames], 0, 0),
                 ("a later beginning", frames[1:], 0, 0),
+                ("nothing sent for a change at the end", [*frames[:3], (225, blank)], 0, 1),
+                ("nothing sent for a change at the beginning", [(-10, blank), *frames[4:]], 0, 1),
                 ("no text", [(0, blank), (175, blank)], 0, 1)):
             self.write_stream("b.ts", sent, delay)
             expected = (status, f"{SAME} as a.ts" if status == 0 else DIFFERS)
             self.check(name, self.compare("a.ts", "b.ts", "--start", "10:00:00:00",
                                           "--reference-start", "10:00:00:00"), expected)
+        self.write_stream("a.ts", [*frames[:6], (175, text)])
+        self.write_stream("b.ts", [*frames[:6], (225, text)])
+        self.check("nothing sent at the end", self.compare("a.ts", "b.ts", "--same-start"),
+                   (0, f"{SAME} as a.ts"))
+        self.write_stream("a.ts", frames)
         self.write_stream("b.ts", frames, 2)
         self.check("no clock", self.compare("a.ts", "b.ts"), (3, "relative, same as a.ts"))
         self.write_stream("a.ts", [(0, text), (300, blank)])
         self.check("a reference with faults", self.compare("a.ts", "b.ts")[0], 2)
+
+    def test_names_a_fault_of_the_transmission_unless_a_subtitle_differs(self) -> None:
+        frames = [(0, self.BLANK), (25, self.TEXT), (50, self.BLANK)]
+        self.write_stream("a.ts", frames)
+        differs = "b.ts does not show what a.ts shows: subtitle 1 at 10:00:01:00"
+        for name, sent, begin in (
+                ("not closed", (25, [HEADER, ROW]), "The transmission in b.ts has a fault: at "
+                 "10:00:01:00, the page is still open"),
+                ("late", (26, self.TEXT), differs), ("both", (26, [HEADER, ROW]), differs)):
+            self.write_stream("b.ts", [frames[0], sent, frames[2], (60, self.TEXT)])
+            call = self.tool("qc", "--reference", "a.ts", "b.ts", "--same-start")
+            self.must(name, call.out.decode().splitlines()[-2].startswith(begin), call)
+            self.must(f"{name}: outside", "qc: not checked: 1 subtitle of b.ts after 10:00:02:00, "
+                      "when one ends" in call.told, call)
 
     def test_rejects_arguments_that_two_recordings_do_not_take(self) -> None:
         self.write_stream("a.ts", [(0, self.BLANK), (25, self.TEXT), (50, self.BLANK)])

@@ -4,32 +4,31 @@ from __future__ import annotations
 import argparse
 import contextlib
 import os
-from typing import Any, Iterator, NamedTuple, Sequence
+from typing import Any, Iterator, Sequence
 
-from ..common.command_line import Stop, ToolParser, UsageError, decode_page
+from ..common.command_line import Stop, ToolParser, UsageError
 from ..common.files import (
-    Inputs, STANDARD, STANDARD_OUTPUTS, make_safe_name, make_temporary_folder, read_stamp)
+    Inputs, STANDARD, make_safe_name, make_temporary_folder, read_stamp)
 from ..common.times import begin_day_at
 from ..formats.teletext import Page, page_name
 from ..judging.status import combine_statuses
-from ..reading.judge import ReadingJudge
+from ..reading.judge import RangeJudge, ReadingJudge
 from ..reading.result import ReadingVerdict
 from ..recording.recording import Recording
-from ..request.commands import CommandPaths, Listener, OutputNames, Printer, Progress
+from ..request.commands import CommandPaths, Listener, OutputNames
 from ..request.request import OPTIONS, Option, Request, Unclear, add_options, make_file_request
 from ..results.files import describe_inputs
-from ..stream.survey import SUBTITLE_KINDS, Survey
+from ..stream.survey import DEFAULT_PAGE
 from .main import CALL_OPTIONS, report_failures
 from .single import (
-    OutputFiles, PairOptions, judge_pair, lock_pair, make_verdict, refuse_file, refuse_outputs,
-    refuse_pair_files, remove_results, report_pair)
+    OutputFiles, judge_pair, lock_pair, make_verdict, read_pair_options, refuse_file,
+    refuse_outputs, refuse_pair_files, remove_results, report_pair)
 
 
 OWN_OPTIONS = ("--page", "--pid", "--pes", "--origin", "--start", "--every", "--within",
                "--no-complete", "--keeping", "--pace", "--allow-lost", "--require",
                "-o", "--json", "--csv", "--junit", "-p")
 RESULT_OPTIONS = ("json", "csv", "junit")
-FIRST_PAGE = 0, 0x88  # the page to look for first, if none is given
 NO_CLOCK_TEXT = "times count from the first PES packet"
 # The values of options that differ from those of qc
 CHANGES: dict[str, dict[str, Any]] = {
@@ -41,17 +40,6 @@ CHANGES: dict[str, dict[str, Any]] = {
            "of each page, to DIR"},
     "--csv": {"description": "write a CSV file with a line for each subtitle"},
     "--junit": {"description": "write a test case for the page, for CI"}}
-
-
-class SentPage(NamedTuple):
-    """A subtitle page of a recording, and its announced languages."""
-
-    page: Page
-    languages: Sequence[str]
-
-    @property
-    def name(self) -> str:
-        return page_name(*self.page)
 
 
 def list_options() -> Iterator[Option]:
@@ -67,29 +55,9 @@ def make_parser(text: str) -> ToolParser:
     parser = ToolParser(text)
     parser.add_argument("recording", metavar="RECORDING",
                         help="the recording, - for standard input")
+    parser.set_defaults(**{option.field: option.default for option in (*OPTIONS, *CALL_OPTIONS)})
     add_options(parser, list_options())
-    names = {option.field for option in list_options()}
-    parser.set_defaults(**{option.field: option.default for option in OPTIONS
-                           if option.field not in names})
     return parser
-
-
-def list_pages(found: Survey, page: Page | None, pid: int | None) -> list[SentPage]:
-    """Return the subtitle pages that a recording sends with C6 set, or announces as subtitles. If
-    `page` is given, return only this page."""
-    languages: dict[Page, dict[str, None]] = {}
-    for packets in found.by_pid.values():
-        for number in filter(None, map(decode_page, packets.header_counts)):
-            languages.setdefault(number, {})
-    for program_map in found.programmes:
-        for announced_pid, announcements in program_map.pages.items():
-            for announced in announcements:
-                if announced.kind in SUBTITLE_KINDS and pid in (None, announced_pid):
-                    languages.setdefault(announced.page, {})[announced.language] = None
-    if page is not None:
-        languages = {page: languages.get(page, {})}
-    return [SentPage(number, [*known]) for number, known in
-            sorted(languages.items(), key=lambda item: page_name(*item[0]))]
 
 
 class PageReader:
@@ -97,25 +65,26 @@ class PageReader:
     folder."""
 
     def __init__(self, args: argparse.Namespace, program_name: str, folder: str) -> None:
-        self.args, self.folder = args, folder
-        self.call = PairOptions(args.program, args.out, json=args.json, csv=args.csv,
-                                junit=args.junit)
-        outputs = [getattr(args, name) for name in RESULT_OPTIONS]
-        self.printer = Printer(Progress(), any(path in STANDARD_OUTPUTS for path in outputs))
+        self.args, self.folder, self.call = args, folder, read_pair_options(args)
+        self.printer = self.call.make_printer()
         self.command_paths = CommandPaths(program_name, args.program)
         self.stamps = {args.recording: read_stamp(args.recording)}
-        first = self.make_request(SentPage(args.page or FIRST_PAGE, []))
+        first = self.make_request(args.page or DEFAULT_PAGE)
         refuse_outputs(self.call, first, None, "")
         self.recording = self.make_recording(first, Listener(self.printer))
 
-    def make_request(self, sent: SentPage) -> Request:
+    def make_request(self, page: Page) -> Request:
         """Return the request to read a page, and to judge the recording by it."""
-        args = argparse.Namespace(**{**vars(self.args), "page": sent.page})
-        request = make_file_request(os.path.join(args.out or "", f"{sent.name}.stl"),
+        args = argparse.Namespace(**{**vars(self.args), "page": page})
+        request = make_file_request(self.make_stl_path(self.args.out or "", page),
                                     args.recording, args)
         request.is_reading = True
-        request.kept_stl = os.path.join(self.folder, f"{sent.name}.stl")
+        request.kept_stl = self.make_stl_path(self.folder, page)
         return request
+
+    @staticmethod
+    def make_stl_path(folder: str, page: Page) -> str:
+        return os.path.join(folder, f"{page_name(*page)}.stl")
 
     def make_recording(self, request: Request, listener: Listener) -> Recording:
         return Recording(request, self.command_paths, self.make_names(request), listener)
@@ -123,45 +92,52 @@ class PageReader:
     def make_names(self, request: Request) -> OutputNames:
         return OutputNames(request.page_name, self.folder, self.args.out)
 
-    def find_pages(self) -> list[SentPage]:
+    def find_pages(self) -> list[Page]:
         """Read the recording, and return the pages to read. Raise `Stop` if there is none."""
+        args = self.args
         try:
-            self.recording.read_contents(any([self.args.out, self.args.json, self.args.csv]))
+            self.recording.read_contents(any([args.out, args.json, args.csv]),
+                                         is_any_page=args.page is None)
         except Unclear as reason:
             raise Stop(reason.reason) from None
         found = self.recording.survey
-        pages = list_pages(found, self.args.page, self.args.pid)
+        pages = [*found.list_pages(args.pid)] if args.page is None else [args.page]
         if not pages:
             raise Stop("\n".join(["not read: no subtitle page is announced or sent",
                                   *found.lines()]))
         return pages
 
-    def clear_folder(self, pages: Sequence[SentPage]) -> None:
+    def clear_folder(self, pages: Sequence[Page]) -> None:
         """Remove earlier results. Raise `Stop` if a result would replace the recording, or a file
         that these tools did not write."""
         out, inputs = self.args.out, Inputs(self.args.recording)
-        for sent in pages:
-            refuse_pair_files(out, sent.name, inputs)
-            refuse_file(os.path.join(out, f"{sent.name}.stl"), inputs)
-        for sent in pages:
-            remove_results(out, sent.name)
+        for page in pages:
+            refuse_pair_files(out, page_name(*page), inputs)
+            refuse_file(self.make_stl_path(out, page), inputs)
+        for page in pages:
+            remove_results(out, page_name(*page))
             with contextlib.suppress(FileNotFoundError):
-                os.unlink(os.path.join(out, f"{sent.name}.stl"))
+                os.unlink(self.make_stl_path(out, page))
 
-    def read(self, sent: SentPage) -> ReadingVerdict:
+    def read(self, page: Page) -> ReadingVerdict:
         """Read a page, judge the recording by it, print the verdict and write the files."""
-        request, listener = self.make_request(sent), Listener(self.printer)
+        request, listener = self.make_request(page), Listener(self.printer)
         verdict = make_verdict(request, listener, ReadingVerdict)
-        verdict.languages = sent.languages
         names = self.make_names(request)
         files = OutputFiles(self.call, verdict, self.command_paths, names, self.stamps)
-        verdict.files_at_start = {**describe_inputs(request), "stl": None}
-        with begin_day_at(0):  # a recording over midnight changes this
-            judge_pair(ReadingJudge(
-                verdict, self.command_paths, names, listener, self.make_recording(
-                    request, listener), self.recording, files.needs_sums()), files)
-            report_pair(verdict, self.printer, files)
+        judge_range(ReadingJudge(
+            verdict, self.command_paths, names, listener, self.make_recording(request, listener),
+            self.recording, files.needs_sums()), files)
         return verdict
+
+
+def judge_range(judge: RangeJudge, files: OutputFiles) -> None:
+    """Judge a recording by the subtitles that `judge` reads, print the verdict and write the files.
+    """
+    judge.verdict.files_at_start = {**describe_inputs(judge.request), "stl": None}
+    with begin_day_at(0):  # reading a recording over midnight changes this
+        judge_pair(judge, files)
+        report_pair(judge.verdict, judge.listener.printer, files)
 
 
 def main(text: str, program_name: str, line: list[str]) -> int:
@@ -187,15 +163,15 @@ def read_command(args: argparse.Namespace, program_name: str) -> int:
         pages = reader.find_pages()
         with contextlib.ExitStack() as locks:
             if args.out is not None:
-                for sent in pages:
-                    locks.enter_context(lock_pair(args.out, sent.name))
+                for page in pages:
+                    locks.enter_context(lock_pair(args.out, page_name(*page)))
                 reader.clear_folder(pages)
             lines, statuses = list[str](), list[int]()
-            for sent in pages:
-                verdict = reader.read(sent)
+            for page in pages:
+                verdict = reader.read(page)
                 statuses.append(verdict.status)
                 if len(pages) > 1 or not verdict.is_judged:
-                    lines.append(f"{sent.name} {verdict.last_line}")
+                    lines.append(f"{page_name(*page)} {verdict.last_line}")
                 if verdict.is_stopped:
                     break
             for text in lines:

@@ -7,22 +7,17 @@ import os
 from typing import Sequence
 
 from ..common.command_line import Stop, UsageError
-from ..common.files import (
-    Inputs, STANDARD, STANDARD_OUTPUTS, make_safe_name, make_temporary_folder, sum_file)
-from ..common.times import begin_day_at
-from ..judging.status import AS_SHOWN
+from ..common.files import Inputs, STANDARD, make_safe_name, make_temporary_folder, sum_file
 from ..reading.judge import ReadingJudge
 from ..reading.reference import ReferenceJudge, ReferenceVerdict
 from ..reading.result import ReadingVerdict
 from ..recording.recording import Recording
-from ..request.commands import (
-    CommandPaths, Listener, OutputNames, Printer, Progress, make_pair_name)
-from ..request.request import Request, Unclear, make_file_request
-from ..results.files import describe_inputs
-from .read import list_pages
+from ..request.commands import CommandPaths, Listener, OutputNames, make_pair_name
+from ..request.request import Request, make_file_request
+from .read import judge_range
 from .single import (
-    OutputFiles, PairOptions, judge_pair, lock_pair, make_verdict, refuse_file, refuse_outputs,
-    remove_results, report_pair, stamp_inputs)
+    OutputFiles, lock_pair, make_verdict, read_pair_options, refuse_file, refuse_outputs,
+    remove_results, stamp_inputs)
 
 # The options for a pair that two recordings accept
 ACCEPTED_OPTIONS = {
@@ -57,30 +52,24 @@ def judge_reference(args: argparse.Namespace, program_name: str) -> int:
         raise UsageError("--reference needs two files: standard input can be read only once")
     if sum_file(name, name).sha256 == sum_file(reference, reference).sha256:
         raise Stop(f"{name} and {reference} have the same bytes: give another recording")
-    outputs = [args.json, args.csv, args.junit]
-    printer = Printer(Progress(), any(path in STANDARD_OUTPUTS for path in outputs))
-    printer.is_quiet = args.is_quiet
-    paths = CommandPaths(program_name, args.program)
-    call = PairOptions(args.program, args.out or None, json=args.json, csv=args.csv,
-                       junit=args.junit)
+    call, paths = read_pair_options(args), CommandPaths(program_name, args.program)
+    printer = call.make_printer()
     with make_temporary_folder("subttx-reference-") as folder:
         names = OutputNames(make_pair_name(name), folder, call.out)
-        request = make_request(args, name, names)
-        listener = Listener(printer)
+        request, listener = make_request(args, name, names), Listener(printer)
         verdict = make_verdict(request, listener, ReferenceVerdict)
         verdict.reference = reference
-        files = OutputFiles(call, verdict, paths, names, {
-            **stamp_inputs(dataclasses.replace(request, stl=reference))})
-        refuse_outputs(call, dataclasses.replace(request, stl=reference), call.out, names.name)
+        inputs = dataclasses.replace(request, stl=reference)
+        files = OutputFiles(call, verdict, paths, names, stamp_inputs(inputs))
+        refuse_outputs(call, inputs, call.out, names.name)
         with lock_pair(call.out, names.name):
             if call.out is not None:
                 refuse_file(request.stl, Inputs(name, reference))
                 remove_results(call.out, names.name)
-            verdict.files_at_start = {**describe_inputs(request), "stl": None}
-            judge = ReferenceJudge(verdict, paths, names, listener, files.needs_sums())
-            with begin_day_at(0):  # reading a recording over midnight changes this
-                judge_pair(TwoRecordings(judge, args), files)
-                report_pair(verdict, printer, files)
+            judge_range(ReferenceJudge(
+                verdict, paths, names, listener, Recording(request, paths, names, listener),
+                make_reader(args, reference, paths, os.path.join(folder, "reference"), listener),
+                files.needs_sums()), files)
     return verdict.status
 
 
@@ -91,37 +80,12 @@ def make_request(args: argparse.Namespace, recording: str, names: OutputNames) -
     return request
 
 
-class TwoRecordings:
-    """Reads the reference, then judges the other recording by it. It has the interface of
-    `PairJudge` that `judge_pair` uses."""
-
-    def __init__(self, judge: ReferenceJudge, args: argparse.Namespace) -> None:
-        self.other, self.args, self.verdict = judge, args, judge.verdict
-
-    @property
-    def recording(self) -> Recording | None:
-        return self.other.recording
-
-    def stop(self, now: str) -> str:
-        return self.other.stop(now)
-
-    def judge(self) -> None:
-        """Read the reference, and judge the other recording by it."""
-        other, printer = self.other, self.other.listener.printer
-        folder = os.path.join(other.names.folder, "reference")
-        os.mkdir(folder)
-        listener, names = Listener(printer), OutputNames("reference", folder, None)
-        request = make_request(self.args, other.reference_verdict.reference, names)
-        request.is_reading, request.start = True, self.args.reference_start
-        verdict = make_verdict(request, listener, ReadingVerdict)
-        recording = Recording(request, other.command_paths, names, listener)
-        recording.read_contents(False)
-        verdict.languages = list_pages(recording.survey, request.page, request.pid)[0].languages
-        ReadingJudge(verdict, other.command_paths, names, listener, recording, recording,
-                     False).judge()
-        if verdict.word != AS_SHOWN or not verdict.reading:
-            raise Unclear(f"{request.recording}, page {request.page_name}: {verdict.last_line}")
-        if verdict.reading.day_begin:
-            raise Unclear(f"{request.recording} runs over midnight: cut both recordings there")
-        printer.print_line(f"{request.recording}: {verdict.last_line}")
-        other.judge_by(verdict.reading, verdict.languages)
+def make_reader(args: argparse.Namespace, reference: str, paths: CommandPaths, folder: str,
+                listener: Listener) -> ReadingJudge:
+    """Return the judge that reads the reference. Its files are in a new folder."""
+    os.mkdir(folder)
+    names, own = OutputNames("reference", folder, None), Listener(listener.printer)
+    request = make_request(args, reference, names)
+    request.is_reading, request.start = True, args.reference_start
+    return ReadingJudge(make_verdict(request, own, ReadingVerdict), paths, names, own,
+                        Recording(request, paths, names, own), None, False)

@@ -11,7 +11,7 @@ import re
 import signal
 import stat
 import time
-from typing import Callable, Iterator, Mapping, NamedTuple, Protocol, TypeVar
+from typing import Callable, Iterator, Mapping, NamedTuple, TypeVar
 
 from ..common.command_line import (
     BUG, ProgramInterrupted, RESOURCE, SIGNAL, Stop, classify_error, counted, discard_output,
@@ -203,21 +203,30 @@ class PairOptions(NamedTuple):
     # Called with the verdict before it is written. If it raises `Unclear`, the pair is not judged.
     examine: Callable[[Verdict], None] = lambda _: None
 
+    def make_printer(self) -> Printer:
+        """Return the printer. If standard output is for a result, it prints to standard error."""
+        printer = Printer(Progress(), any(path in STANDARD_OUTPUTS
+                                          for path in (self.json, self.csv, self.junit)))
+        printer.is_quiet = self.is_quiet
+        return printer
+
+
+def read_pair_options(args: argparse.Namespace) -> PairOptions:
+    """Return the program and the output files that a command line names."""
+    return PairOptions(args.program, args.out or None, args.is_kept, args.json, args.csv,
+                       args.junit, is_quiet=args.is_quiet)
+
 
 def judge_command(args: argparse.Namespace, program_name: str) -> int:
     """Judge the pair on a command line. Return the exit status."""
-    return judge_and_report(make_request(args), PairOptions(
-        args.program, args.out or None, args.is_kept, args.json, args.csv, args.junit,
-        is_quiet=args.is_quiet), program_name).status
+    return judge_and_report(make_request(args), read_pair_options(args), program_name).status
 
 
 def judge_and_report(request: Request, call: PairOptions, program_name: str) -> Verdict:
     """Judge a pair, print the verdict and write the output files. Return the verdict."""
     out, staging_folder = call.out, call.staging_folder or call.out
-    is_output_taken = any(path in STANDARD_OUTPUTS for path in (call.json, call.csv, call.junit))
-    printer = Printer(Progress(), is_output_taken)
+    printer = call.make_printer()
     printer.before_last_line = ignore_signals  # so that the last line agrees with the exit status
-    printer.is_quiet = call.is_quiet
     if request.profile:
         printer.print_line(format_profile(request.profile))
     command_paths = CommandPaths(program_name, call.program)
@@ -270,23 +279,7 @@ def refuse_outputs(call: PairOptions, request: Request, out: str | None, name: s
         refuse_pair_files(out, name, inputs)
 
 
-class PairSteps(Protocol):
-    """What `judge_pair` needs of a judge, such as `PairJudge`."""
-
-    verdict: Verdict
-
-    @property
-    def recording(self) -> Recording | None:
-        ...
-
-    def judge(self) -> None:
-        ...
-
-    def stop(self, now: str) -> str:
-        ...
-
-
-def judge_pair(pair: PairSteps, files: OutputFiles) -> None:
+def judge_pair(pair: PairJudge, files: OutputFiles) -> None:
     """Judge a pair and write its output files. The verdict says why a pair is not judged."""
     verdict, start_time = pair.verdict, time.monotonic()
     try:

@@ -342,6 +342,10 @@ class Verdict:
     @property
     def sentence(self) -> str:
         """Return the verdict as one sentence."""
+        return write_sentence(self.collect_facts())
+
+    def collect_facts(self) -> Facts:
+        """Return the facts for the sentence."""
         refused, counts = self.worst_part, count_fault_numbers(self.parts, self.count_reported)
         facts = Facts(
             self.word, self.subtitle_count, option=self.request.option,
@@ -363,7 +367,7 @@ class Verdict:
                                                    of_block=refused.block_subtitle,
                                                    causes=refused.reported_causes),
                                     refused.worst_fault)
-        return write_sentence(facts)
+        return facts
 
     def count_reported(self, part: Part) -> collections.Counter[int]:
         """Return the number of faults of a part with each number: of the errors if the pair is

@@ -23,7 +23,7 @@ from ..request.request import PES_CHOICE, Selection, write_moved_copy
 from ..stream.packets import Range
 from .dates import find_date
 from .received import CUT_TEXTS, Reading, ShownPage, make_stl, read_pages
-from .result import ReadingVerdict
+from .result import JudgedRange, RangeVerdict, ReadingVerdict
 
 # The warnings that forbid `as shown`: receivers may show other characters, or the times are not
 # those of the pictures
@@ -33,19 +33,54 @@ BEFORE, AFTER = "the in-cue may be earlier, since check does not trust the frame
     "the out-cue may be later, since check does not trust the frame after it"
 
 
-class ReadingJudge(PairJudge):
-    """Reads a page, writes the subtitles to the file of the request, and judges all PES packets by
-    them, not only those around the subtitles. The clock is known, so it is not estimated. A page
-    without subtitles is judged, too."""
+class RangeJudge(PairJudge):
+    """Judges a range of a recording by subtitles that were read from a recording. The clock is
+    known, so it is not estimated. A range without subtitles is judged, too."""
 
     may_be_empty = True
+    range_text = ""  # says which PES packets are judged
+
+    def __init__(self, verdict: RangeVerdict, command_paths: CommandPaths, names: OutputNames,
+                 listener: Listener, recording: Recording, is_result_written: bool) -> None:
+        super().__init__(verdict, command_paths, names, listener, is_result_written)
+        self.range_verdict = verdict
+        self.recording = self.source = recording
+
+    @property
+    def judged(self) -> JudgedRange:
+        assert self.range_verdict.judged
+        return self.range_verdict.judged
+
+    @functools.cached_property
+    def located_recording(self) -> LocatedRecording:
+        """Return the recording with a single part, the judged range."""
+        subtitles = self.find_subtitles()
+        self.verdict.subtitle_count = len(subtitles)
+        part = TimedPart(self.judged.begin, self.judged.end, self.judged.clock)
+        return LocatedRecording(self.source, PartClocks(PartSearch(self.request, part, None),
+                                                        [part], [], ""), subtitles)
+
+    def find_packets(self, part: Part, programme: PartSearch) -> Range:
+        """Return the range of PES packets to judge, and report it."""
+        (first, last), count = self.judged.pes, part.packets.count
+        self.listener.add_selection(Selection(
+            PES_CHOICE, f"{first}-{last}", f"range: {last - first + 1} of {count} PES packets, "
+            f"{self.range_text}", last - first + 1, count, part.number))
+        return first, last
+
+
+class ReadingJudge(RangeJudge):
+    """Reads a page, writes the subtitles to the file of the request, and judges all PES packets by
+    them, not only those around the subtitles. `other` is the same recording, if it was read before.
+    """
+
+    range_text = "from the first header of the page on"
 
     def __init__(self, verdict: ReadingVerdict, command_paths: CommandPaths, names: OutputNames,
-                 listener: Listener, recording: Recording, first: Recording,
+                 listener: Listener, recording: Recording, other: Recording | None,
                  is_result_written: bool) -> None:
-        super().__init__(verdict, command_paths, names, listener, is_result_written)
-        self.reading_verdict, self.first = verdict, first
-        self.recording = self.source = recording
+        super().__init__(verdict, command_paths, names, listener, recording, is_result_written)
+        self.reading_verdict, self.other = verdict, other
 
     @property
     def reading(self) -> Reading:
@@ -54,8 +89,10 @@ class ReadingJudge(PairJudge):
 
     def judge(self) -> None:
         """Read the page, and judge the recording by it."""
-        self.source.read_contents(False, self.first)
+        self.source.read_contents(False, self.other)
         self.verdict.recording = self.source.file
+        self.reading_verdict.languages = self.source.survey.list_pages(self.request.pid).get(
+            self.request.page, [])
         with self.catch_missing_page():
             self.source.choose_packets()
             self.read_page()
@@ -67,6 +104,8 @@ class ReadingJudge(PairJudge):
         verdict.reading = reading = read_pages(
             recording.packets, request, self.find_clock(), verdict.languages,
             lambda first, last: self.format_call("--pes", f"{first}-{last}"))
+        verdict.judged = JudgedRange(reading.first, reading.last + 1, reading.pes, reading.clock,
+                                     reading.is_cut)
         verdict.named_faults += reading.faults
         verdict.unchecked += reading.unchecked
         request.option = reading.option.word
@@ -91,24 +130,6 @@ class ReadingJudge(PairJudge):
             return compute_start_clock(request, recording.survey, recording.packets).clock
         except NoFirstPicture as reason:
             raise recording.make_picture_error(reason) from None
-
-    @functools.cached_property
-    def located_recording(self) -> LocatedRecording:
-        """Return the recording with a single part: everything that was read."""
-        subtitles, reading = self.find_subtitles(), self.reading
-        self.verdict.subtitle_count = len(subtitles)
-        part = TimedPart(reading.first, reading.last + 1, reading.clock)
-        search = PartSearch(self.request, part, None)
-        return LocatedRecording(self.source, PartClocks(search, [part], [], ""), subtitles)
-
-    def find_packets(self, part: Part, programme: PartSearch) -> Range:
-        """Return the range of PES packets that was read, and report it."""
-        first, last = self.reading.pes
-        count = part.packets.count
-        self.listener.add_selection(Selection(
-            PES_CHOICE, f"{first}-{last}", f"range: {last - first + 1} of {count} PES packets, "
-            "from the first header of the page on", last - first + 1, count, part.number))
-        return self.reading.pes
 
     def add_recording_warnings(self, recording: Recording, origin: int, part: TimedPart) -> None:
         """Add warnings about the recording and the PID. Some of them are faults of a reading."""

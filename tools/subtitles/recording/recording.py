@@ -24,7 +24,7 @@ from ..stream.gaps import (
     LossPlace, describe_gap_markers, explain_refusal, find_loss_places, find_recorded_range)
 from ..stream.packets import HEADER, PES, PTSPair, Packets
 from ..stream.proved import PacketsCommand, has_proved_numbers
-from ..stream.survey import Survey, survey
+from ..stream.survey import Survey, find_any_page, survey
 from .notices import Notice, find_announcements, refuse_unsent_page, find_silent_pids
 
 
@@ -149,9 +149,10 @@ class Recording:
         self.read_contents(is_summed)
         self.choose_packets()
 
-    def read_contents(self, is_summed: bool, other: Recording | None = None) -> None:
+    def read_contents(self, is_summed: bool, other: Recording | None = None,
+                      is_any_page: bool = False) -> None:
         """Read the whole recording with `survey`. `other` is the same recording, if it was read
-        before, perhaps for another page."""
+        before, perhaps for another page. If `is_any_page` is true, request one of its pages."""
         if other:
             self.path, self.file = other.path, other.file
             if self.request.page == other.request.page:
@@ -160,6 +161,9 @@ class Recording:
         elif self.is_piped:
             self.file = copy_piped(self.name, self.path, self.listener.printer)
         background_sum = BackgroundChecksum(self.name) if is_summed and not self.is_piped else None
+        if is_any_page:
+            self.request.page = find_any_page(self.command_paths.program_path, self.path,
+                                              self.request.pid)
         self.survey = survey(self.command_paths.program_path, self.path, self.request.page,
                              self.request.pid, look=self.show_progress)
         self.file = background_sum.result() if background_sum else self.file

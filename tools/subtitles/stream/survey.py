@@ -17,6 +17,8 @@ from .steps import StepRange
 # The manual describes each output line. Unknown lines of a later version are skipped.
 
 VERSION = "1"
+DEFAULT_PAGE: Page = (0, 0x88)
+TIME_FILLING = 0xFF  # the number of no page
 MAX_PAGES = 12  # maximum number of pages in a line
 SUBTITLE_KINDS = (2, 5)
 KINDS = {1: "initial page", 2: "subtitles", 3: "additional information", 4: "programme schedule",
@@ -141,7 +143,7 @@ class Survey:
         self.programmes[-1].kinds[int(pid)] = int(kind)
 
     def parse_announce(self, pid: str, page: str, language: str, kind: str, *_: str) -> None:
-        escape_hidden = decode_page(page) or (int(page[0]) % 8, 0xFF)
+        escape_hidden = decode_page(page) or (int(page[0]) % 8, TIME_FILLING)
         self.programmes[-1].pages.setdefault(int(pid), []).append(
             Announced(escape_hidden, bytes.fromhex(language).decode("latin-1"), int(kind)))
 
@@ -248,6 +250,22 @@ class Survey:
         """Return the PMTs that contain a PID."""
         return [program_map for program_map in self.programmes if pid in program_map.kinds]
 
+    def list_pages(self, pid: int | None) -> dict[Page, list[str]]:
+        """Return the subtitle pages that are announced, or sent with C6 set, and their announced
+        languages. If `pid` is given, consider only that PID."""
+        languages: dict[Page, dict[str, None]] = {}
+        for packets in self.by_pid.values():
+            for page in filter(None, map(decode_page, packets.header_counts)):
+                languages.setdefault(page, {})
+        for program_map in self.programmes:
+            for announced_pid, announcements in program_map.pages.items():
+                for announced in announcements:
+                    if announced.kind in SUBTITLE_KINDS and pid in (None, announced_pid) and \
+                            announced.page[1] != TIME_FILLING:
+                        languages.setdefault(announced.page, {})[announced.language] = None
+        return {page: [*languages[page]] for page in sorted(languages,
+                                                            key=lambda page: page_name(*page))}
+
     def get_pcr_range(self, pid: int) -> tuple[int, int] | None:
         """Return the first and last PCR of the programme of a PID, if they are known."""
         known = self.find_programmes(pid)
@@ -287,6 +305,16 @@ def read_lines(answer: Survey, program: str, name: str, page: Page, pid: int | N
             answer.read_line(line.rstrip("\n"))
             yield
     answer.refuse(process.returncode)
+
+
+def find_any_page(program: str, name: str, pid: int | None) -> Page:
+    """Return a subtitle page of a recording, or page 888 if it has none. Stop `survey`, which
+    decodes only one page, as soon as a page is known."""
+    answer = Survey()
+    for _ in read_lines(answer, program, name, DEFAULT_PAGE, pid):
+        if pages := answer.list_pages(pid):
+            return next(iter(pages))
+    return DEFAULT_PAGE
 
 
 def survey_runs(program: str, name: str, page: Page) -> Iterator[tuple[PacketRun, Texts | None]]:
