@@ -1,9 +1,9 @@
-"""Generate man pages, shell completion, the option table in qc's chapter, and the JSON schema.
+"""Generate man pages, shell completion, the lists of keys in results, and the JSON schema.
 
 The program's page is made from the usage text of ./subttx and the option table in
-docs/manual/reference.md, and each tool's page from its --help text. qc's option table and the
-schema are made from qc's definitions of options and results. Generated parts of a file are between
-the comment lines `made: NAME` and `end`.
+docs/manual/reference.md, and each tool's page from its --help text. The schema and the lists of
+keys are made from the definition of results. Generated parts of a file are between the comment
+lines `made: NAME` and `end`.
 """
 from __future__ import annotations
 
@@ -30,7 +30,6 @@ AIR_PAGE = os.path.join("docs", "subttx-air.1")
 READ_PAGE = os.path.join("docs", "subttx-read.1")
 SCHEMA = os.path.join("docs", "verdict.schema.json")
 NUMBERS = os.path.join("docs", "ASSURANCE.md")  # the document with the table of proof numbers
-QC_CHAPTER = os.path.join("docs", "manual", "qc.md")
 RESULTS_CHAPTER = os.path.join("docs", "manual", "results.md")
 MADE = re.compile(r'^((?:\.\\"|#|<!--) made: (\w+)(?: -->)?\n)(.*?)'
                   r'^((?:\.\\"|#|<!--) end(?: -->)?\n)', re.M | re.S)
@@ -205,21 +204,6 @@ def make_air_parts(text: str, help_texts: dict[str, str]) -> dict[str, str]:
             **commands}
 
 
-def make_chapter_parts(table: str = "") -> dict[str, str]:
-    """Return the table of options in the manual's chapter on qc.
-
-    It omits options that cancel another option, and the options of `check`, which have their own
-    table.
-    """
-    check_options = {option.name for option in parse_options(table) if "check" in option.commands}
-    rows = ["| Option | What it does |", "|---|---|"]
-    for option in request.OPTIONS:
-        if option.name not in check_options and not option.name.startswith("--no-"):
-            form = option.form.replace("|", "\\|")
-            rows.append(f"| `{form}` | {option.description} |")
-    return {"options": "\n".join(rows) + "\n"}
-
-
 # The CSV column prefix for the values of each object in JSON results.
 PREFIXES = {"verdict": "", "fault": "", "request": "", "subtitle": "subtitle_", "cause": "cause_",
             "part": "part_", "counts": "subtitle_counts_"}
@@ -382,7 +366,7 @@ def make_pages() -> dict[str, str]:
              QC_PAGE: make_tool_parts(help_texts["qc"]),
              AIR_PAGE: make_air_parts(help_texts["air"], command_helps),
              READ_PAGE: make_tool_parts(help_texts["read"], "read"),
-             QC_CHAPTER: make_chapter_parts(table), RESULTS_CHAPTER: make_results_parts(),
+             RESULTS_CHAPTER: make_results_parts(),
              COMPLETION: make_completion_parts(usage, table,
                                                [*help_texts.values(), *command_helps.values()])}
     numbers = text(NUMBERS)

@@ -192,12 +192,6 @@ class GeneratedParts(unittest.TestCase):
         self.assertIn("Which one. WORD is a, b.", result["options"])
         self.assertIn("[\\-\\-from TIME] [\\-o OUT]", result["synopsis"])
 
-    def test_makes_the_table_of_a_chapter(self) -> None:
-        result = pages.make_chapter_parts("| `--page P` | `check` | the page | 888 |\n")["options"]
-        for name, is_there in (("--page P", False), ("--every N", True), ("--strict", True),
-                               ("--no-keeping", False)):
-            self.assertEqual(f"| `{name}` | " in result, is_there, name)
-
     def test_makes_a_completion(self) -> None:
         completion_parts = pages.make_completion_parts(USAGE, TABLE, [HELP])
         self.assertIn("--kind) _subttx_words 'a b c'", completion_parts["values"])

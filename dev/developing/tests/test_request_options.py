@@ -18,7 +18,7 @@ from subtitles.request.commands import CommandPaths, format_profile, make_comman
 from subtitles.request.lines import read_pairs, read_profile, make_line_request
 from subtitles.request.request import (
     ALONE, JUDGED, LINE, MEASURE, OPTIONS, Option, Request, add_options, keep_stl,
-    list_arguments as options_of, remove_markup, make_file_request)
+    list_arguments as options_of, make_file_request)
 from subtitles.results.schema import REQUEST
 from .. import DEV
 from .bench import Case, get_example_path
@@ -33,7 +33,7 @@ import dataclasses, json, sys, developing
 from subtitles.common.shapes import Flag, Maybe, Text
 from subtitles.request import request as options
 options.OPTIONS = (*options.OPTIONS, options.Option(
-    "--new-one", "K", "a [new](x.md) `one`", options.JUDGED, "`none`", "new_one",
+    "--new-one", "K", "a new one", options.JUDGED, "none", "new_one",
     check_default=None, changes_pages=True, shape=Maybe(Text()), note="What is new."),
     options.Option(
     "--newer", None, "it is newer", options.PAIRS, "", "newer", default=False, check_default=False,
@@ -69,7 +69,6 @@ none = make_request(make_parser("").parse_args(pair))
 help = make_parser("").format_help()
 print(json.dumps({
     "help": help, "man page": pages.make_tool_parts(help)["options"],
-    "chapter": pages.make_chapter_parts()["options"],
     "completion": pages.make_completion_parts("  check STL PES  does\\n", "", [help])["values"],
     "asked": REQUEST.to_json(asked), "left out": REQUEST.to_json(none),
     "call": list_call_arguments(asked),
@@ -111,8 +110,6 @@ class NewOptions(Case):
                 ("man page",
                  ".TP\n\\fB\\-\\-new\\-one\\fP \\fIK\\fP\nA new one (default: none).\n"),
                 ("man page", ".TP\n\\fB\\-\\-newer\\fP\nIt is newer.\n"),
-                ("chapter", "| `--new-one K` | a [new](x.md) `one` |\n"),
-                ("chapter", "| `--newer` | it is newer |\n"),
                 ("completion", " --new-one ")):
             self.must(name, line in output[name], output[name])
         self.must("a flag has no value", "--newer" not in output["completion"])
@@ -172,8 +169,7 @@ class OptionRows(Case):
     def test_each_row_is_complete(self) -> None:
         for item in OPTIONS:
             self.must(item.name, bool(item.description and item.default_text and item.modes) and
-                      {*item.modes} <= {*JUDGED, MEASURE} and item.help == remove_markup(item.help),
-                      item)
+                      {*item.modes} <= {*JUDGED, MEASURE} and not {*item.help} & {*"`["}, item)
             self.must(f"{item.name}: member",
                       (item.member is None) == item.name.startswith("--no-"))
             self.must(f"{item.name}: lines", LINE in item.modes, item.modes)
@@ -202,9 +198,6 @@ class OptionRows(Case):
                                    (flag, False, []), (flag, True, ["--f"]), (other, True, []),
                                    (other, False, ["--no-f"])):
             self.must(f"{item.name} {value}", item.format_arguments(value, item.default) == words)
-        for text, expected in (("a [b c](d.md#e) `f` [g](h)", "a b c f g"), ("none", "none"),
-                               ("[a](b)", "a"), ("`[x]`", "[x]")):
-            self.must(text, remove_markup(text) == expected, remove_markup(text))
 
 
 STORY, RECORDING = get_example_path("story.stl"), get_example_path("recording.ts")

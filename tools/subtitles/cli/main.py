@@ -46,12 +46,11 @@ MODE_OPTIONS = (
     Option("--collect", "DIR", "combine the JSON results in DIR into one table and one HTML page",
            (COLLECT,), field="collect"),
     Option("--watch", "IN", "judge pairs as they arrive in a folder", (WATCH,), field="watch"),
-    Option("--measure", "STL RECORDING", "print a [profile](#a-profile) made from correct "
-           "recordings, given as pairs or as a list of pairs", (MEASURE,), field="measure",
-           nargs="+"))
+    Option("--measure", "STL RECORDING", "print a profile made from correct recordings, given as "
+           "pairs or as a list of pairs", (MEASURE,), field="measure", nargs="+"))
 CALL_OPTIONS = (
-    Option("--reference", "RECORDING", "judge by [another recording](#two-recordings), not by a "
-           "subtitle file", (PAIR,), field="reference"),
+    Option("--reference", "RECORDING", "judge by another recording, not by a subtitle file",
+           (PAIR,), field="reference"),
     Option("--reference-start", "TIME", "take TIME as the time code of the first picture of the "
            "reference", (PAIR,), field="reference_start", read=check_time),
     Option("--same-start", None, "the first pictures of both recordings have the same time",

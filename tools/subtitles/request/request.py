@@ -29,8 +29,8 @@ from ..formats.teletext import OPTION_WORDS, choose_language_option, page_name
 
 # The options for a pair
 #
-# The table `OPTIONS` defines the parser and its help, the man page, the completion, the manual's
-# table, the arguments of `qc` and `check`, and the members of a JSON result that --resume compares.
+# The table `OPTIONS` defines the parser and its help, the man page, the completion, the arguments
+# of `qc` and `check`, and the members of a JSON result that --resume compares.
 # To add an option, add a row to the table and a field to `Request`.
 
 
@@ -62,7 +62,7 @@ class Option(NamedTuple):
 
     name: str
     metavar: str | None  # name of the option's value, or `None` for a flag
-    description: str  # in the imperative; may have Markdown links
+    description: str  # in the imperative
     modes: Sequence[Mode]
     default_text: str = ""
     field: str = ""  # field in `Request` or in the parsed arguments
@@ -83,19 +83,14 @@ class Option(NamedTuple):
     @property
     def help(self) -> str:
         default = f" (default: {self.default_text})" if self.default_text and self.metavar else ""
-        return remove_markup(self.description + default)
-
-    @property
-    def form(self) -> str:
-        """Return the option, followed by the name of its value if it has one."""
-        return f"{self.name} {self.metavar}" if self.metavar else self.name
+        return self.description + default
 
     @property
     def member(self) -> Member | None:
         """Return the option's member in the object `request` of a JSON result, if any."""
         if self.shape is None:
             return None
-        meaning = remove_markup(self.description[0].upper() + self.description[1:] + ".")
+        meaning = self.description[0].upper() + self.description[1:] + "."
         return Member(self.name.strip("-").replace("-", "_"), self.shape,
                       f"{meaning} {self.note}".strip(), lambda request: self.result_value(
                           self.get_value(request)))
@@ -110,15 +105,6 @@ class Option(NamedTuple):
         if self.metavar:
             return [self.name, self.write(value)]
         return [self.name] if value == self.flag_value else []
-
-
-def remove_markup(text: str) -> str:
-    """Remove Markdown links and backquotes from a text."""
-    while "](" in text:
-        before, _, rest = text.partition("](")
-        start = before.rindex("[")
-        text = before[:start] + before[start + 1:] + rest.partition(")")[2]
-    return text.replace("`", "")
 
 
 def check_time(text: str) -> str:
@@ -165,14 +151,13 @@ OPTIONS: tuple[Option, ...] = (
     Option("--every", "N", "allow at most N frames from one header of the page to the next", PAIRS,
            "250", field="every", default=250, read=parse_repeat_interval, check_default=250,
            is_in_profile=True, shape=Integer(1, MAX_EVERY)),
-    Option("--option", "O", "use this national option; `auto`: choose it by the language of the "
+    Option("--option", "O", "use this national option; auto: choose it by the language of the "
            "subtitle file (LC)", MEASURED, "english", field="option", default="english",
            choices=(*OPTION_WORDS, AUTO), check_default="english", is_in_profile=True,
            shape=OneOf(*OPTION_WORDS)),
     Option("--origin", "T", "take T as the PTS of 00:00:00:00", MEASURED_PAIRS, "estimated",
            field="origin", read=parse_origin, is_in_profile=True, shape=Maybe(PTS), note=PART_NOTE),
-    Option("--complete", None, "require a [terminator header]"
-           "(streams.md#closing-headers---complete) after each page", PAIRS, "required",
+    Option("--complete", None, "require a terminator header after each page", PAIRS, "required",
            field="is_complete", default=True, check_default=False, is_in_profile=True,
            shape=Flag()),
     Option("--no-complete", None, "do not require terminator headers", PAIRS, "required",
@@ -187,34 +172,32 @@ OPTIONS: tuple[Option, ...] = (
            "them", PAIRS, "they are errors", field="is_loss_allowed", default=False,
            flag_value=False),
     Option("--severity", "FILE", "read from FILE which faults are only warnings, in lines such as "
-           "`67 warning` or `others warning`", JUDGED, "all are errors",
+           "67 warning or others warning", JUDGED, "all are errors",
            field="severity", is_in_profile=True, shape=Maybe(Text())),
-    Option("--breaks", "N", "expect N [breaks](#programmes-with-breaks) in the programme; each "
-           "part has its own clock", PAIRS, "0", field="breaks", default=0,
-           read=parse_break_count, shape=COUNT),
+    Option("--breaks", "N", "expect N breaks in the programme; each part has its own clock",
+           PAIRS, "0", field="breaks", default=0, read=parse_break_count, shape=COUNT),
     Option("--pes", "I-J", "judge only PES packets I to J, for a recording that contains the "
            "programme twice", MEASURED_PAIRS, "all", field="pes", read=parse_packet_range,
            write=format_range, shape=Maybe(ListOf(COUNT, 2, 2))),
-    Option("--start", "TIME|tcp", "take TIME as the time code of the recording's [first picture]"
-           "(#the-clock-by-the-first-picture); `tcp`: use the TCP of the GSI block",
-           MEASURED_PAIRS, "estimated", field="start", read=validate_start_time, is_in_profile=True,
-           shape=Maybe(Text())),
-    Option("--relative", None, "exit with status 0, not 3, if the verdict is [`relative`]"
-           "(#verdicts-and-exit-status)", PAIRS, "status 3", field="is_relative_allowed",
-           default=False, is_in_profile=True, shape=Flag()),
+    Option("--start", "TIME|tcp", "take TIME as the time code of the recording's first picture; "
+           "tcp: use the TCP of the GSI block", MEASURED_PAIRS, "estimated", field="start",
+           read=validate_start_time, is_in_profile=True, shape=Maybe(Text())),
+    Option("--relative", None, "exit with status 0, not 3, if the verdict is relative",
+           PAIRS, "status 3", field="is_relative_allowed", default=False, is_in_profile=True,
+           shape=Flag()),
     Option("--within", "N", "accept pages that are complete at most N frames after their cues",
            MEASURED_PAIRS, "0", field="within", default=0, read=parse_within, check_default=0,
            is_in_profile=True, shape=Integer(0, MAX_WITHIN)),
     Option("--late", "SHARES", "choose the likeliest clock by the usual delays of in-cues and, "
            "after a slash, out-cues: each delay in frames and its share, for example "
-           "`0:31,1:40,2:29/0:100`; only with `--within`",
+           "0:31,1:40,2:29/0:100; only with --within",
            PAIRS, "none", field="late", read=parse_lateness, write=format_lateness,
            is_in_profile=True,
            shape=Maybe(Text()), result_value=lambda late: late and format_lateness(late)),
-    Option("--strict", None, "treat [warnings](#warnings) about the recording as faults", JUDGED,
+    Option("--strict", None, "treat warnings about the recording as faults", JUDGED,
            "they change nothing", field="is_strict", default=False, shape=Flag()),
-    Option("--require", "KINDS", "do not judge a recording if one of these [checks](#not-checked) "
-           "was not made everywhere: kinds separated by commas, or `all`", PAIRS, "none",
+    Option("--require", "KINDS", "do not judge a recording if one of these checks was not made "
+           "everywhere: kinds separated by commas, or all", PAIRS, "none",
            field="required", default=(), read=parse_required_kinds, write=",".join,
            is_in_profile=True, shape=ListOf(OneOf(*CHECK_KINDS), len(CHECK_KINDS)),
            result_value=list),
@@ -222,8 +205,7 @@ OPTIONS: tuple[Option, ...] = (
            field="from_time", read=check_time, check_default=None, shape=Maybe(TIME)),
     Option("--to", "TIME", "judge only subtitles with a TCI before TIME", MEASURED, "all",
            field="to_time", read=check_time, check_default=None, shape=Maybe(TIME)),
-    Option("--layout", "TEXT", "expect pages in the [layout]"
-           "(subtitle-files.md#as-your-inserter-draws-it---layout) of your inserter", JUDGED,
+    Option("--layout", "TEXT", "expect pages in the layout of your inserter", JUDGED,
            "the layout that check expects", field="layout", read=check_layout, check_default=None,
            changes_pages=True, is_in_profile=True, shape=Maybe(Text())),
     Option("--open", None, "accept a file of open subtitles", MEASURED, "it is refused",
@@ -234,11 +216,11 @@ OPTIONS: tuple[Option, ...] = (
     Option("--no-keeping", None, "require C4 in headers that repeat the page, even if the "
            "profile has --keeping",
            PAIRS, "it must be set", field="may_keep", default=False, flag_value=False),
-    Option("--pace", "K|none", "allow at most K frames from one PES packet to the next (the [pace]"
-           "(#the-pace)); `none`: do not check this", PAIRS, "measured", field="pace_word",
+    Option("--pace", "K|none", "allow at most K frames from one PES packet to the next (the pace); "
+           "none: do not check this", PAIRS, "measured", field="pace_word",
            read=parse_pace_or_none, check_default=None, is_in_profile=True,
            shape=Maybe(Text(r"(none|[1-9][0-9]{0,6})")), note=PART_NOTE),
-    Option("--profile", "FILE", "read options from FILE, [one per line](#a-profile); options on "
+    Option("--profile", "FILE", "read options from FILE, one per line; options on "
            "the command line override them", PAIRS, "none", field="profile",
            write=lambda profile: str(profile.name), shape=Maybe(PROFILE),
            note="The other keys have its options."),
