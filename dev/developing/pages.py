@@ -1,13 +1,12 @@
-"""Generate man pages, shell completion, the lists of keys in results, and the JSON schema.
+"""Generate man pages, shell completion, and the JSON schema.
 
 The program's page is made from the usage text of ./subttx and the option table in
-docs/manual/reference.md, and each tool's page from its --help text. The schema and the lists of
-keys are made from the definition of results. Generated parts of a file are between the comment
-lines `made: NAME` and `end`.
+docs/manual/reference.md, and each tool's page from its --help text. The schema is made from the
+definition of results. Generated parts of a file are between the comment lines `made: NAME` and
+`end`.
 """
 from __future__ import annotations
 
-import itertools
 import json
 import os
 import re
@@ -18,10 +17,8 @@ from typing import NamedTuple
 
 from subtitles.common.command_line import INSTALLED, Stop
 from subtitles.common.program import COMPLETION, TOOLS, TOP, read
-from subtitles.common.shapes import Member, Record, Shape
 from subtitles.request import request
-from subtitles.results.files import COLUMNS, FILE_COLUMNS
-from subtitles.results.schema import CAUSE, CUE, LISTED_CAUSE, REQUEST, VERDICT, schema
+from subtitles.results.schema import schema
 from .cited import correct_number_rows
 
 TABLE = os.path.join("docs", "manual", "reference.md")
@@ -30,7 +27,6 @@ AIR_PAGE = os.path.join("docs", "subttx-air.1")
 READ_PAGE = os.path.join("docs", "subttx-read.1")
 SCHEMA = os.path.join("docs", "verdict.schema.json")
 NUMBERS = os.path.join("docs", "ASSURANCE.md")  # the document with the table of proof numbers
-RESULTS_CHAPTER = os.path.join("docs", "manual", "results.md")
 MADE = re.compile(r'^((?:\.\\"|#|<!--) made: (\w+)(?: -->)?\n)(.*?)'
                   r'^((?:\.\\"|#|<!--) end(?: -->)?\n)', re.M | re.S)
 COMMAND = re.compile(r"^  ([a-z]+) ([A-Z]\S*(?: (?:[A-Z]\S*|--\w+))*) +(?=[a-z])", re.M)
@@ -204,92 +200,6 @@ def make_air_parts(text: str, help_texts: dict[str, str]) -> dict[str, str]:
             **commands}
 
 
-# The CSV column prefix for the values of each object in JSON results.
-PREFIXES = {"verdict": "", "fault": "", "request": "", "subtitle": "subtitle_", "cause": "cause_",
-            "part": "part_", "counts": "subtitle_counts_"}
-
-
-def make_results_parts() -> dict[str, str]:
-    """Return the lists of keys in JSON results, one list for each object.
-
-    A key is marked if a CSV column contains its value. Consecutive keys with the same description,
-    or without a description, share a line.
-    """
-    lines = list[str]()
-    for record in filter(needs_table, list_records(VERDICT)):
-        lines += ["", f"## {to_title(record)}", ""]
-        if record.meaning:
-            lines += [*textwrap.wrap(record.meaning, WIDTH), ""]
-        if record is REQUEST:
-            names = ", ".join(format_key(record, member) for member in record.members)
-            lines += [textwrap.fill(f"{names}.", WIDTH, break_on_hyphens=False)]
-            continue
-        for meaning, members in itertools.groupby(record.members, describe_member):
-            names = ", ".join(format_key(record, member) for member in members)
-            lines += textwrap.wrap(": ".join(filter(None, [names, meaning])), WIDTH,
-                                   initial_indent="- ", subsequent_indent="  ",
-                                   break_on_hyphens=False)
-    return {"results": "\n".join(lines) + "\n"}
-
-
-def to_title(record: Record) -> str:
-    """Return the heading for an object."""
-    return record.name.replace("_", " ").capitalize()
-
-
-def format_key(record: Record, member: Member) -> str:
-    """Return a key with a link to its object, and with an asterisk if it has a CSV column."""
-    inner_record = find_record(member)
-    key = f"`{member.name}`" + "\\*" * (record is not CUE and bool(find_column(record, member)))
-    return f"[{key}](#{inner_record.name.replace('_', '-')})" if inner_record \
-        and needs_table(inner_record) else key
-
-
-def find_record(member: Member) -> Record | None:
-    """Return the object that a member contains, either directly or in a list, or `None`."""
-    record = next((shape for shape in (member.shape, *member.shape.list_inner_shapes())
-                   if isinstance(shape, Record)), None)
-    return CAUSE if record is LISTED_CAUSE else record
-
-
-def list_records(shape: Shape, result: tuple[Record, ...] = ()) -> tuple[Record, ...]:
-    """Return the distinct objects in a result, each after the first object that contains it."""
-    if isinstance(shape, Record):
-        if shape in result:
-            return result
-        result = (*result, shape)
-    for inner_record in shape.list_inner_shapes():
-        result = list_records(inner_record, result)
-    return result
-
-
-def needs_table(record: Record) -> bool:
-    """Return whether an object needs its own table because its keys need an explanation."""
-    return record is not LISTED_CAUSE and any(member.meaning for member in record.members)
-
-
-def find_column(record: Record, member: Member) -> str:
-    """Return the name of the CSV column with a member's value, or an empty string."""
-    if record is CUE:
-        return member.name
-    column = PREFIXES.get(record.name, "-") + member.name
-    return column if column in (FILE_COLUMNS if record is REQUEST else COLUMNS) else ""
-
-
-def describe_member(member: Member) -> str:
-    """Return the description of a member's value, and the description of the member.
-
-    Omit the description of the value if it has a table of its own.
-    """
-    shape = next((shape for shape in (member.shape, *member.shape.list_inner_shapes())
-                  if shape.name),
-                 None)
-    inner_record = find_record(member)
-    shape_meaning = "" if shape is None or inner_record and needs_table(inner_record) \
-        else shape.meaning
-    return " ".join(text for text in (shape_meaning, member.meaning) if text)
-
-
 def make_completion_parts(usage: str, table: str, help_texts: list[str]) -> dict[str, str]:
     """Return the generated parts of the shell completion script."""
     program_commands, table_options = parse_commands(usage), parse_options(table)
@@ -366,7 +276,6 @@ def make_pages() -> dict[str, str]:
              QC_PAGE: make_tool_parts(help_texts["qc"]),
              AIR_PAGE: make_air_parts(help_texts["air"], command_helps),
              READ_PAGE: make_tool_parts(help_texts["read"], "read"),
-             RESULTS_CHAPTER: make_results_parts(),
              COMPLETION: make_completion_parts(usage, table,
                                                [*help_texts.values(), *command_helps.values()])}
     numbers = text(NUMBERS)

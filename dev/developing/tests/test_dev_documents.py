@@ -328,7 +328,7 @@ BREAK_SECONDS = NUMBER_WORDS[MIN_BREAK_FRAMES // FRAMES_A_SECOND]
 STATED: list[tuple[str, str, object]] = [
     ("MANUAL.md", "back once, by {} hours or more", MIN_STEP_BACK // (FRAMES_OF_A_DAY // 24)),
     ("manual/results.md", "The format number is {}.", FORMAT),
-    ("manual/many-pairs.md", "exit status {} is a `failure`", " or ".join(
+    ("manual/results.md", "exit status {} is a `failure`", " or ".join(
         f"{status}" for status in sorted({*STATUSES.values()} - {0, STATUSES[NOT_JUDGED]}))),
     ("manual/qc.md", "means all remaining faults except {}:", LOST_PACKETS),
     ("manual/qc.md", "have status {} for wrong arguments", USAGE_STATUS),

@@ -1,7 +1,7 @@
 """The members of JSON results, in tables with their names, shapes, meanings and sources.
 
 The tables are used to write and check results, and `dev/make-pages` makes docs/verdict.schema.json
-and docs/manual/results.md from them. To add a member, add a row here or in `request.members`.
+from them. To add a member, add a row here or in `request.members`.
 """
 from __future__ import annotations
 
