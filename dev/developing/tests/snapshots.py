@@ -14,16 +14,16 @@ import json
 import os
 import re
 import tempfile
-from typing import Any, Callable, Iterable, Iterator, NamedTuple
+from typing import Any, Callable, Iterable, Iterator
 
 from subtitles.common.program import TOP
 from . import named_calls, test_report_random as reports
 from .bench import BENCH
+from .failures import MAX_LINES_PRINTED
 
 FOLDER = os.path.join(TOP, "dev", "snapshots")
 HEAD, TAIL = 16, 4  # number of lines stored from the start and end of a long list
 REPORT_LINES = 60  # number of lines stored from the start of a report
-MAX_CHANGES = 12  # maximum number of different changes in a failure message
 WIDTH = 300  # maximum number of characters stored from a line
 OMITTED = re.compile(r"date$|seconds$|^files_at_start\.|^inputs\.|^commands\b|^omitted\.|^format$")
 
@@ -133,81 +133,20 @@ def store(group: str, texts: dict[str, list[str]]) -> None:
             file.write("\n".join([f"=== {name}", *lines, ""]))
 
 
-class Change(NamedTuple):
-    """The words of a line before and after a change."""
-
-    before: str
-    after: str
-
-
-def change_of(before: str, after: str) -> Change:
-    """Return the words from the first to the last difference between two lines."""
-    old, new = before.split(" "), after.split(" ")
-    first = len(os.path.commonprefix([old, new]))
-    last = len(os.path.commonprefix([old[first:][::-1], new[first:][::-1]]))
-    return Change(" ".join(old[first:len(old) - last]), " ".join(new[first:len(new) - last]))
-
-
-def changes_in(before: list[str], after: list[str]) -> Iterator[tuple[Change, str, str]]:
-    """Yield each change between two texts, with the old and the new line.
-
-    The missing line of an addition or a deletion is an empty string.
-    """
-    matcher = difflib.SequenceMatcher(None, before, after, autojunk=False)
-    for kind, first, end, start, stop in matcher.get_opcodes():
-        if kind == "replace" and end - first == stop - start:
-            for old, new in zip(before[first:end], after[start:stop]):
-                yield change_of(old, new), old, new
-        elif kind != "equal":
-            for line in before[first:end]:
-                yield Change(line, ""), line, ""
-            for line in after[start:stop]:
-                yield Change("", line), "", line
-
-
-def is_hash(change: Change) -> bool:
-    return all(re.fullmatch(r"[0-9a-f]{8}", word) for word in change)
-
-
-def crop_line(line: str, change: str) -> str:
-    at = max(0, line.find(change) - 50)
-    return ".." * bool(at) + line[at:at + 150] + ".." * (len(line) > at + 150)
-
-
-def summary(changed: dict[str, list[tuple[Change, str, str]]]) -> list[str]:
-    """Return each distinct change once, with the number of runs and the first run that has it."""
-    calls: dict[Change, list[str]] = {}
-    lines: dict[Change, tuple[str, str]] = {}
-    for name, changes in changed.items():
-        kept = [each for each in changes if not is_hash(each[0])] or [
-            (Change("", ""), "", "only hashes, of files or of lines that are left out")]
-        for change, old, new in kept:
-            calls.setdefault(change, []).append(name)
-            lines.setdefault(change, (old, new))
-    result: list[str] = []
-    for change, names in sorted(calls.items(), key=lambda item: -len(set(item[1])))[:MAX_CHANGES]:
-        old, new = lines[change]
-        result.append(f"  in {len(set(names))} calls, first in {names[0]}:")
-        result += [f"    - {crop_line(old, change.before)}"] * bool(old)
-        result += [f"    + {crop_line(new, change.after)}"] * bool(new)
-    return [*result,
-            *[f"  and {len(calls) - MAX_CHANGES} more changes"] * (len(calls) > MAX_CHANGES)]
-
-
 def compare(group: str, make: Callable[[str], list[str]], is_updated: bool) -> str:
     """Compare all runs in a group with their stored lines.
 
-    Return a message about the changes, or an empty string. Store the lines if `is_updated`.
+    Return a message with the changed lines, or an empty string. Store the lines if `is_updated`.
     """
     before = stored(group)
     after = {name: make(name) for name in before}
     if is_updated:
         store(group, after)
         return ""
-    changes = {name: [*changes_in(before[name], after[name])] for name in before
-               if before[name] != after[name]}
-    if not changes:
-        return ""
-    return "\n".join([f"{len(changes)} of {len(before)} calls of dev/snapshots/{group}.txt "
-                      "changed; dev/check-tools --update test_snapshots writes them again",
-                      *summary(changes)])
+    changed = [name for name in before if before[name] != after[name]]
+    lines = [line for name in changed for line in (f"  in {name}:", *(
+        f"    {line}" for line in difflib.ndiff(before[name], after[name]) if line[0] in "-+"))]
+    head = f"{len(changed)} of {len(before)} calls of dev/snapshots/{group}.txt changed; " \
+        "dev/check-tools --update test_snapshots writes them again"
+    more = [f"  .. {len(lines) - MAX_LINES_PRINTED} more lines"] * (len(lines) > MAX_LINES_PRINTED)
+    return "\n".join([head, *lines[:MAX_LINES_PRINTED], *more]) if changed else ""

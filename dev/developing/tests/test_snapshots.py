@@ -2,12 +2,11 @@
 from __future__ import annotations
 
 import os
-import unittest
 from typing import Callable
 
 from .bench import BENCH, Case
 from .failures import Mismatch
-from .snapshots import FOLDER, compare, summary, run_for_snapshot, changes_in
+from .snapshots import FOLDER, compare, run_for_snapshot
 
 
 class Snapshots(Case):
@@ -26,12 +25,3 @@ def make_test(group: str) -> Callable[[Snapshots], None]:
 for FILE in sorted(os.listdir(FOLDER)):
     GROUP = FILE.partition(".")[0]
     setattr(Snapshots, f"test_{GROUP}", make_test(GROUP))
-
-
-class Failures(unittest.TestCase):
-    def test_shows_a_change_once_with_its_count(self) -> None:
-        before = {name: ["status 0", "too few to measure", f"whole: {name:0>8}"] for name in "abc"}
-        after = {name: ["status 0", "too few", f"whole: {name}1111111"] for name in "abc"}
-        changed = {name: [*changes_in(before[name], after[name])] for name in before}
-        self.assertEqual(summary(changed), ["  in 3 calls, first in a:",
-                                            "    - too few to measure", "    + too few"])
