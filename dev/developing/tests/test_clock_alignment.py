@@ -437,6 +437,7 @@ class LossesInParts(unittest.TestCase):
                           LossPlace(TICKS * 150, TICKS * 151, gap_marker=mark),
                           LossPlace(TICKS * 300, None, gap_marker=mark)):
                 self.assertEqual(belongs_to_part(place, part), expected, mark)
+        self.assertFalse(belongs_to_part(LossPlace(1, 2), make_part(None, None, None)), "no clock")
 
     def test_returns_the_frames_that_a_loss_hides(self) -> None:
         day = FRAMES_OF_A_DAY

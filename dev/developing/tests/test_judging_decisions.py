@@ -10,19 +10,18 @@ from typing import Callable
 from unittest import mock
 
 from developing.pes import make_pes_packet
-from developing.stl import make_gsi_block, make_tti_block
+from developing.stl import make_gsi_block
 from subtitles.cli.batch import FolderState, FolderWatch
 from subtitles.clock.origin import OriginEstimate
 from subtitles.clock.start import Clock, RECORDING, START, TimedPart
 from subtitles.common.times import FrameRange, Span, TICKS
-from subtitles.formats.stl import Subtitle, SubtitleFile
+from subtitles.formats.stl import Subtitle
 from subtitles.judging import pair
 from subtitles.judging.pair import PairJudge
 from subtitles.judging.part import choose_parts, refuse_missing_subtitles
 from subtitles.judging.timing import add_delay, make_unclear_origin
 from subtitles.judging.verdict import measure_delay
-from subtitles.recording.notices import (
-    find_character_set_notices, find_count_notices, find_page_notices)
+from subtitles.recording.notices import find_character_set_notices, find_page_notices
 from subtitles.request.commands import OutputNames
 from subtitles.request.lines import find_folder_pairs, make_line_request
 from subtitles.request.request import Unclear
@@ -199,12 +198,6 @@ class SubtitleFiles(Case):
                       for character_set_notice in find_character_set_notices(packets, request)]
             self.assertEqual(len(result), len(reported), result)
             self.assertTrue(all(map(str.__contains__, result, reported)), result)
-
-    def test_warns_of_missing_counts_in_the_gsi_block(self) -> None:
-        data = make_gsi_block(b"", 0, 0) + make_tti_block(1, 25, 45, 20, 2, b"a")
-        result = [count_notice.kind
-                  for count_notice in find_count_notices(SubtitleFile(self.write("one.stl", data)))]
-        self.must("both", result == ["blocks", "subtitles"], result)
 
 
 class EstimatedOrigins(Case):

@@ -30,8 +30,8 @@ from subtitles.judging.transmissions import describe_control_bits
 from subtitles.judging.unchecked import summarize_pictures
 from subtitles.reading.judge import ReadingJudge
 from subtitles.recording.notices import (
-    Notice, format_presence, format_duration, find_character_set_notices, find_count_notices,
-    find_jump_notices, find_pause_notices, find_pmt_notices, find_repeat_notices)
+    Notice, format_presence, format_duration, find_count_notices, find_jump_notices,
+    find_pause_notices, find_pmt_notices, find_repeat_notices)
 from subtitles.recording.recording import is_recording
 from subtitles.request.commands import (
     CommandPaths, ListNames, OutputNames, list_pair_files, make_pair_name, make_part_name,
@@ -45,9 +45,8 @@ from subtitles.stream.receiver import BLANK_PAGE
 from subtitles.stream.pictures import Departure
 from subtitles.stream.survey import Announced
 from .bench import Case
-from .parts import make_example_request, survey_packets
-from .transmissions import CLOSING, HEADER, PAGE
-from .test_formats_characters import make_character_set_packet
+from .parts import make_example_request
+from .transmissions import PAGE
 
 
 def said(warned: Iterable[Notice]) -> list[tuple[str, str, str | None]]:
@@ -159,19 +158,9 @@ class Notices(Case):
             self.assertEqual([kind for kind, *_ in result], ["page"] * bool(words), pages)
             self.assertTrue(not result or result[0][1].endswith(words), result)
 
-    def test_warns_of_each_other_character_set(self) -> None:
-        for sets, count in (((0,), 0), ((8,), 1), ((0, 8), 1), ((8, 0), 1), ((8, 9), 2)):
-            packets = survey_packets(self, make_pes_packet(0, [HEADER, *(
-                make_character_set_packet(number, item) for number, item in zip((29, 28), sets)),
-                                                               CLOSING]))
-            result = said(find_character_set_notices(packets,
-                                                     make_example_request("one.stl", "one.ts")))
-            self.assertEqual([item[0] for item in result], ["character_set"] * count,
-                             (sets, result))
-
     def test_warns_of_wrong_counts_in_the_gsi_block(self) -> None:
         blocks = [make_subtitle_blocks(at, 25 * at, 25 * at + 20, 20, 2, b"a") for at in (1, 2)]
-        for told_blocks, told_subtitles in itertools.product((1, 2, 3), repeat=2):
+        for told_blocks, told_subtitles in itertools.product(range(4), repeat=2):
             data = make_gsi_block(b"", told_blocks, told_subtitles) + b"".join(blocks)
             result = said(find_count_notices(SubtitleFile(self.write("one.stl", data))))
             kinds = ["blocks"] * (told_blocks != 2) + ["subtitles"] * (told_subtitles != 2)

@@ -15,7 +15,7 @@ from subtitles.common.times import CLOCK, Span, TICKS, format_frame
 from subtitles.formats.listing import NamedFault, NEVER_SENT, PICTURES_LEFT
 from subtitles.formats.teletext import ENGLISH, GERMAN, ROMANIAN, SWEDISH
 from subtitles.judging.check import CheckOutput, NO_END
-from subtitles.judging.part import Part, belongs_to_part, find_part_causes
+from subtitles.judging.part import Part, find_part_causes
 from subtitles.judging.status import Severity
 from subtitles.judging.subtitles import SubtitleCounts, ValidSubtitles
 from subtitles.judging.verdict import (
@@ -162,19 +162,6 @@ class Verdicts(Case):
         alone = verdict.narrow_to_part(verdict.parts[1], verdict.gaps[3:4])
         self.must("of a part", (alone.parts, alone.gaps) == (verdict.parts[1:2], verdict.gaps[3:4])
                   and "and in" not in alone.sentence, alone.sentence)
-
-    def test_finds_the_losses_of_a_part(self) -> None:
-        part = make_part(100, 199, 0, pes=(5, 9))
-        marks = [mark for mark in range(12)
-                 if belongs_to_part(LossPlace(None, None, 1, gap_marker=mark), part)]
-        self.must("marks", marks == [*range(5, 10)], marks)
-        ends = (None, 0, 99, 100, 101, 198, 199, 200)
-        for before, after in itertools.product(ends, repeat=2):
-            is_of = (after is None or after > 100) and (before is None or before < 199)
-            self.must(f"{before} {after}",
-                      belongs_to_part(make_loss_between(before, after), part) == is_of)
-        self.must("no clock",
-                  not belongs_to_part(make_loss_between(1, 2), make_part(None, None, None)))
 
     def test_counts_losses_of_any_part(self) -> None:
         for shift in (0, CLOCK - 150 * TICKS):

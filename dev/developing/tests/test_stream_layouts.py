@@ -183,9 +183,6 @@ class LayoutSearch(Case):
         self.must("in turns", not result.is_clear and result.total == 120
                   and result.as_sent >= len(turns) - count_misdrawn(PLAIN, turns, ENGLISH,
                                                                     len(turns)), result)
-        self.must("nine in ten", LayoutChoice(PLAIN, 90, 100).is_clear
-                  and not LayoutChoice(PLAIN, 89, 100).is_clear
-                  and not LayoutChoice(PLAIN, 9, 9).is_clear)
 
 
 class StoredRows(Case):

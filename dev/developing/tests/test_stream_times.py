@@ -8,10 +8,8 @@ import unittest
 from types import SimpleNamespace
 from typing import Any, Iterator, Sequence
 
-from subtitles.clock.alignment import ExpectedSubtitle, MAX_BASES, find_time_bases
-from subtitles.clock.start import count_skipped, find_frame_offset, find_largest_offset
-from subtitles.clock.stretches import (
-    MIN_BREAK_FRAMES, MIN_GAP_FRAMES, Stretch, find_stretches, split_at_breaks)
+from subtitles.clock.start import find_frame_offset, find_largest_offset
+from subtitles.clock.stretches import MIN_BREAK_FRAMES, MIN_GAP_FRAMES, Stretch, split_at_breaks
 from subtitles.common.times import (
     CLOCK, EARLY_TICKS, FRAMES_OF_A_DAY, NO_FRAME, Spans, TICKS, compute_frame, find_frame_of_day,
     find_frames_of_day, join_spans, pts_of, subtract_origin, subtract_pts, subtract_pts_within,
@@ -91,14 +89,6 @@ class ClockTables(unittest.TestCase):
                         after, after, min(after % TICKS, -after % TICKS), after % TICKS)
             self.assertEqual(result, expected, (origin, ticks))
 
-    def test_counts_missing_pictures_for_any_first_pts(self) -> None:
-        chance = random.Random(27)
-        for origin in (0, CLOCK - 5 * TICKS, *(chance.randrange(CLOCK) for _ in range(50))):
-            for missing in range(4):
-                pts = [(origin + TICKS * (at + missing * (at > 7))) % CLOCK
-                       for at in chance.sample(range(20), 20)]
-                self.assertEqual(count_skipped(pts, False), missing, (origin, pts))
-
     def test_spans_agree_with_a_list_of_frames(self) -> None:
         chance = random.Random(7)
         for _ in range(300):
@@ -118,15 +108,6 @@ class ClockTables(unittest.TestCase):
         falling = Spans([(7, 9), (1, 3), (4, 8)])
         self.assertEqual((list(falling), falling.is_rising()), ([(7, 9), (1, 8)], False))
         self.assertEqual(list(join_spans([falling])), [(1, 9)])
-
-    def test_computes_a_distance_around_a_wrap(self) -> None:
-        for length, first in itertools.product(
-                (0, TICKS, CLOCK // 2 - 1, CLOCK // 2 + TICKS, TICKS * FRAMES_OF_A_DAY),
-                (0, 5, CLOCK // 2, CLOCK - 1)):
-            room = (CLOCK - length) // 2
-            for later in (-room, -1, 0, 1, length // 2, length, length + room - 1):
-                self.assertEqual(subtract_pts_within(first, length, (first + later) % CLOCK), later,
-                                 (length, first))
 
     def test_packets_agree_with_a_list_of_pes_packets(self) -> None:
         chance = random.Random(7)
@@ -168,24 +149,6 @@ class ClockTables(unittest.TestCase):
             bases = make_packets_with_pts(pts).split_time_bases()
             self.assertEqual(bases, [range(*pair) for pair in zip(begins, [*begins[1:], len(pts)])],
                              pts)
-
-    def test_selects_the_time_bases_with_the_most_changes(self) -> None:
-        edges = [ExpectedSubtitle(100 * at, 100 * at + 50, at, b"%d" % at) for at in range(400)]
-        for count, expected in ((MAX_BASES, MAX_BASES), (5000, MAX_BASES)):
-            packets = make_packets_with_pts([10 ** 9 - TICKS * at for at in range(count + 2)])
-            packets.changes = [PageChange(run.pts or 0, b"x", run.first) for run in packets.runs]
-            bases = find_time_bases(edges, packets, 0)
-            self.assertEqual((len(bases), find_stretches(bases)), (expected, []), count)
-        long = [*range(9000, 9400, 10), *range(5000, 0, -1)]
-        packets = make_packets_with_pts([TICKS * at for at in long])
-        packets.changes = [PageChange(run.pts or 0, b"x%d" % run.first, run.first)
-                           for run in packets.runs]
-        self.assertEqual(find_time_bases(edges, packets, 0)[0].packets, (0, 39))
-
-    def test_uses_the_pcr_before_each_pmt(self) -> None:
-        survey = read_survey("pcr 513 7", *(f"programme 1 {512 + at % 2}" for at in range(200)))
-        self.assertEqual({programme.after for programme in survey.programmes[2:]}, {7})
-        self.assertIsNone(survey.programmes[0].after)
 
     def test_splits_a_programme_at_breaks(self) -> None:
         five = MIN_BREAK_FRAMES
