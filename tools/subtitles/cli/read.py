@@ -16,7 +16,7 @@ from ..reading.judge import RangeJudge, ReadingJudge
 from ..reading.result import ReadingVerdict
 from ..recording.recording import Recording
 from ..request.commands import CommandPaths, Listener, OutputNames
-from ..request.request import OPTIONS, Option, Request, Unclear, add_options, make_file_request
+from ..request.request import OPTIONS, Option, Unclear, add_options, make_file_request
 from ..results.files import describe_inputs
 from ..stream.survey import DEFAULT_PAGE
 from .main import CALL_OPTIONS, report_failures
@@ -69,28 +69,21 @@ class PageReader:
         self.printer = self.call.make_printer()
         self.command_paths = CommandPaths(program_name, args.program)
         self.stamps = {args.recording: read_stamp(args.recording)}
-        first = self.make_request(args.page or DEFAULT_PAGE)
-        refuse_outputs(self.call, first, None, "")
-        self.recording = self.make_recording(first, Listener(self.printer))
+        self.recording = self.make_recording(args.page or DEFAULT_PAGE)
+        refuse_outputs(self.call, self.recording.request, None, "")
 
-    def make_request(self, page: Page) -> Request:
-        """Return the request to read a page, and to judge the recording by it."""
+    def make_recording(self, page: Page) -> Recording:
+        """Return the recording with the request to read a page, and to judge it by this page."""
         args = argparse.Namespace(**{**vars(self.args), "page": page})
-        request = make_file_request(self.make_stl_path(self.args.out or "", page),
-                                    args.recording, args)
+        request = make_file_request(self.make_stl_path(args.out or "", page), args.recording, args)
         request.is_reading = True
         request.kept_stl = self.make_stl_path(self.folder, page)
-        return request
+        names = OutputNames(request.page_name, self.folder, args.out)
+        return Recording(request, self.command_paths, names, Listener(self.printer))
 
     @staticmethod
     def make_stl_path(folder: str, page: Page) -> str:
         return os.path.join(folder, f"{page_name(*page)}.stl")
-
-    def make_recording(self, request: Request, listener: Listener) -> Recording:
-        return Recording(request, self.command_paths, self.make_names(request), listener)
-
-    def make_names(self, request: Request) -> OutputNames:
-        return OutputNames(request.page_name, self.folder, self.args.out)
 
     def find_pages(self) -> list[Page]:
         """Read the recording, and return the pages to read. Raise `Stop` if there is none."""
@@ -121,13 +114,10 @@ class PageReader:
 
     def read(self, page: Page) -> ReadingVerdict:
         """Read a page, judge the recording by it, print the verdict and write the files."""
-        request, listener = self.make_request(page), Listener(self.printer)
-        verdict = make_verdict(request, listener, ReadingVerdict)
-        names = self.make_names(request)
-        files = OutputFiles(self.call, verdict, self.command_paths, names, self.stamps)
-        judge_range(ReadingJudge(
-            verdict, self.command_paths, names, listener, self.make_recording(request, listener),
-            self.recording, files.needs_sums()), files)
+        recording = self.make_recording(page)
+        verdict = make_verdict(recording.request, recording.listener, ReadingVerdict)
+        files = OutputFiles(self.call, verdict, self.command_paths, recording.names, self.stamps)
+        judge_range(ReadingJudge(verdict, recording, self.recording, files.needs_sums()), files)
         return verdict
 
 

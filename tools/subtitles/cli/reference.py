@@ -13,7 +13,7 @@ from ..reading.reference import ReferenceJudge, ReferenceVerdict
 from ..reading.result import ReadingVerdict
 from ..recording.recording import Recording
 from ..request.commands import CommandPaths, Listener, OutputNames, make_pair_name
-from ..request.request import Request, make_file_request
+from ..request.request import make_file_request
 from .read import judge_range
 from .single import (
     OutputFiles, lock_pair, make_verdict, read_pair_options, refuse_file, refuse_outputs,
@@ -53,39 +53,37 @@ def judge_reference(args: argparse.Namespace, program_name: str) -> int:
     if sum_file(name, name).sha256 == sum_file(reference, reference).sha256:
         raise Stop(f"{name} and {reference} have the same bytes: give another recording")
     call, paths = read_pair_options(args), CommandPaths(program_name, args.program)
-    printer = call.make_printer()
     with make_temporary_folder("subttx-reference-") as folder:
         names = OutputNames(make_pair_name(name), folder, call.out)
-        request, listener = make_request(args, name, names), Listener(printer)
-        verdict = make_verdict(request, listener, ReferenceVerdict)
+        recording = make_recording(args, name, paths, names, Listener(call.make_printer()))
+        verdict = make_verdict(recording.request, recording.listener, ReferenceVerdict)
         verdict.reference = reference
-        inputs = dataclasses.replace(request, stl=reference)
+        inputs = dataclasses.replace(recording.request, stl=reference)
         files = OutputFiles(call, verdict, paths, names, stamp_inputs(inputs))
         refuse_outputs(call, inputs, call.out, names.name)
         with lock_pair(call.out, names.name):
             if call.out is not None:
-                refuse_file(request.stl, Inputs(name, reference))
+                refuse_file(recording.request.stl, Inputs(name, reference))
                 remove_results(call.out, names.name)
-            judge_range(ReferenceJudge(
-                verdict, paths, names, listener, Recording(request, paths, names, listener),
-                make_reader(args, reference, paths, os.path.join(folder, "reference"), listener),
-                files.needs_sums()), files)
+            reader = make_reader(args, reference, recording)
+            judge_range(ReferenceJudge(verdict, recording, reader, files.needs_sums()), files)
     return verdict.status
 
 
-def make_request(args: argparse.Namespace, recording: str, names: OutputNames) -> Request:
-    """Return the request to judge `recording`, or to read it as the reference."""
-    request = make_file_request(names.make_display_path("stl"), recording, args)
+def make_recording(args: argparse.Namespace, name: str, paths: CommandPaths, names: OutputNames,
+                   listener: Listener) -> Recording:
+    """Return a recording with the request to judge it, or to read it as the reference."""
+    request = make_file_request(names.make_display_path("stl"), name, args)
     request.kept_stl = names.make_temporary_path("stl")
-    return request
+    return Recording(request, paths, names, listener)
 
 
-def make_reader(args: argparse.Namespace, reference: str, paths: CommandPaths, folder: str,
-                listener: Listener) -> ReadingJudge:
+def make_reader(args: argparse.Namespace, reference: str, judged: Recording) -> ReadingJudge:
     """Return the judge that reads the reference. Its files are in a new folder."""
+    folder = os.path.join(judged.names.folder, "reference")
     os.mkdir(folder)
-    names, own = OutputNames("reference", folder, None), Listener(listener.printer)
-    request = make_request(args, reference, names)
-    request.is_reading, request.start = True, args.reference_start
-    return ReadingJudge(make_verdict(request, own, ReadingVerdict), paths, names, own,
-                        Recording(request, paths, names, own), None, False)
+    recording = make_recording(args, reference, judged.command_paths, OutputNames(
+        "reference", folder, None), Listener(judged.listener.printer))
+    recording.request.is_reading, recording.request.start = True, args.reference_start
+    verdict = make_verdict(recording.request, recording.listener, ReadingVerdict)
+    return ReadingJudge(verdict, recording, None, False)

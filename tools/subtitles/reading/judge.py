@@ -6,8 +6,8 @@ import functools
 import os
 from typing import Iterator, Sequence
 
-from ..clock.start import Clock, GIVEN, NoFirstPicture, TimedPart, compute_start_clock
-from ..common.times import FRAMES_OF_A_DAY, Spans, format_frame
+from ..clock.start import TimedPart
+from ..common.times import FRAMES_OF_A_DAY, Spans
 from ..formats.listing import CHARACTER_SET, CLOCK_JUMP, NamedFault
 from ..formats.midnight import move_times
 from ..formats.stl import Subtitle
@@ -16,18 +16,19 @@ from ..judging.cues import Cue, CueJudge
 from ..judging.pair import LocatedRecording, PairJudge
 from ..judging.part import Part
 from ..judging.status import ACCEPTED
-from ..judging.timing import PartClocks, PartSearch
+from ..judging.timing import (
+    NO_CLOCK, PartClocks, PartSearch, find_start_clock, get_given_clock)
 from ..recording.recording import Recording
-from ..request.commands import CommandPaths, Listener, OutputNames
 from ..request.request import PES_CHOICE, Selection, write_moved_copy
 from ..stream.packets import Range
 from .dates import find_date
-from .received import CUT_TEXTS, Reading, ShownPage, make_stl, read_pages
+from .received import CUT_TEXTS, Reading, make_stl, read_pages
 from .result import JudgedRange, RangeVerdict, ReadingVerdict
 
 # The warnings that forbid `as shown`: receivers may show other characters, or the times are not
 # those of the pictures
 FAULTS_BY_WARNING = {"character_set": CHARACTER_SET, "clock_jump": CLOCK_JUMP}
+WHOLE_DAY = TimedPart(0, FRAMES_OF_A_DAY, NO_CLOCK)
 ENHANCED = 70  # a packet X/25 to X/28 while the page is open
 BEFORE, AFTER = "the in-cue may be earlier, since check does not trust the frame before it", \
     "the out-cue may be later, since check does not trust the frame after it"
@@ -40,9 +41,10 @@ class RangeJudge(PairJudge):
     may_be_empty = True
     range_text = ""  # says which PES packets are judged
 
-    def __init__(self, verdict: RangeVerdict, command_paths: CommandPaths, names: OutputNames,
-                 listener: Listener, recording: Recording, is_result_written: bool) -> None:
-        super().__init__(verdict, command_paths, names, listener, is_result_written)
+    def __init__(self, verdict: RangeVerdict, recording: Recording,
+                 is_result_written: bool) -> None:
+        super().__init__(verdict, recording.command_paths, recording.names, recording.listener,
+                         is_result_written)
         self.range_verdict = verdict
         self.recording = self.source = recording
 
@@ -76,10 +78,9 @@ class ReadingJudge(RangeJudge):
 
     range_text = "from the first header of the page on"
 
-    def __init__(self, verdict: ReadingVerdict, command_paths: CommandPaths, names: OutputNames,
-                 listener: Listener, recording: Recording, other: Recording | None,
+    def __init__(self, verdict: ReadingVerdict, recording: Recording, other: Recording | None,
                  is_result_written: bool) -> None:
-        super().__init__(verdict, command_paths, names, listener, recording, is_result_written)
+        super().__init__(verdict, recording, is_result_written)
         self.reading_verdict, self.other = verdict, other
 
     @property
@@ -101,8 +102,10 @@ class ReadingJudge(RangeJudge):
     def read_page(self) -> None:
         """Store in the verdict what is shown on the page, and write the subtitle file."""
         verdict, request, recording = self.reading_verdict, self.request, self.source
+        clock = get_given_clock(request) or find_start_clock(
+            PartSearch(request, WHOLE_DAY, None), recording, self.listener)
         verdict.reading = reading = read_pages(
-            recording.packets, request, self.find_clock(), verdict.languages,
+            recording.packets, request, clock, verdict.languages,
             lambda first, last: self.format_call("--pes", f"{first}-{last}"))
         verdict.judged = JudgedRange(reading.first, reading.last + 1, reading.pes, reading.clock,
                                      reading.is_cut)
@@ -116,20 +119,6 @@ class ReadingJudge(RangeJudge):
         if reading.day_begin:
             write_moved_copy(request, move_times(data, reading.day_begin), self.names.folder)
         self.names.set_subtitle_file(request.stl_path, request.moved_stl is not None)
-
-    def find_clock(self) -> Clock | None:
-        """Return the clock from --origin or --start. Return `None` if neither is given."""
-        request, recording = self.request, self.source
-        if request.origin is not None:
-            return Clock(request.origin, GIVEN)
-        if request.start is None:
-            return None
-        try:
-            if not recording.is_stream:
-                raise NoFirstPicture("a file of Teletext PES packets has no pictures")
-            return compute_start_clock(request, recording.survey, recording.packets).clock
-        except NoFirstPicture as reason:
-            raise recording.make_picture_error(reason) from None
 
     def add_recording_warnings(self, recording: Recording, origin: int, part: TimedPart) -> None:
         """Add warnings about the recording and the PID. Some of them are faults of a reading."""

@@ -17,7 +17,6 @@ from ..judging.timing import NO_CLOCK, PartSearch, find_parts
 from ..judging.unchecked import Unchecked
 from ..judging.verdict import SCOPE_REFERENCE
 from ..recording.recording import Recording
-from ..request.commands import CommandPaths, Listener, OutputNames
 from ..request.request import Request, Unclear
 from ..stream.packets import HEADER, Packets
 from ..stream.receiver import BLANK_PAGE, Timeline
@@ -87,10 +86,9 @@ class ReferenceJudge(RangeJudge):
 
     range_text = "in which both recordings are on"
 
-    def __init__(self, verdict: ReferenceVerdict, command_paths: CommandPaths, names: OutputNames,
-                 listener: Listener, recording: Recording, reader: ReadingJudge,
+    def __init__(self, verdict: ReferenceVerdict, recording: Recording, reader: ReadingJudge,
                  is_result_written: bool) -> None:
-        super().__init__(verdict, command_paths, names, listener, recording, is_result_written)
+        super().__init__(verdict, recording, is_result_written)
         self.reference_verdict, self.reader = verdict, reader
 
     def judge(self) -> None:
