@@ -23,7 +23,7 @@ from subtitles.judging import faults, subtitles
 from subtitles.report import page as report
 from .bench import get_example_path
 from .parts import MEANINGS
-from .results import list_all_violations, list_choice_errors
+from .results import list_choice_errors, list_violations
 
 VOLATILE_PATTERNS = [(re.compile(r"\d{4}-\d\d-\d\d[T ]\d\d:\d\d:\d\d(\.\d+)?"), "DATE"),
                      (re.compile('<dl class="made">.*?</dl>|PROGRAM</td><td.*?</tr>'), "MADE"),
@@ -138,7 +138,7 @@ def run_call(words: list[str], program: str) -> CallOutput:
         with open(name, encoding="utf-8") as file:
             files[name] = file.read()
     for text in {text for name, text in files.items() if name.endswith(".json")}:
-        misfits = list_all_violations(json.loads(text))
+        misfits = list_violations(json.loads(text))
         assert not misfits, (words, misfits)
     known = json.loads(files.get("one.json", "{}"))
     unsaid = [*list_choice_errors(known, (out + reported).splitlines())] if "choices" in known \

@@ -1,14 +1,10 @@
-"""JSON results for tests, and a validator for docs/verdict.schema.json.
-
-The validator is independent of the tools.
-"""
+"""JSON results for tests, and their validation by docs/verdict.schema.json."""
 from __future__ import annotations
 
 import functools
 import importlib
 import json
 import os
-import re
 from typing import Any, Iterator, Sequence
 
 from subtitles.common.program import TOP
@@ -16,18 +12,9 @@ from subtitles.judging.causes import CAUSE_NAMES
 from subtitles.judging.status import ACCEPTED, NOT_JUDGED, STATUSES, VALID
 from subtitles.results.files import Row, make_row
 from subtitles.results.schema import FORMAT, LISTS
-from .bench import Case
+from .bench import BENCH, Case
 
 SCHEMA = os.path.join(TOP, "docs", "verdict.schema.json")
-KINDS: dict[str, Any] = {"object": dict, "array": list, "string": str, "null": type(None),
-                         "boolean": bool, "integer": int, "number": (int, float)}
-# The keywords that occur in the schema, and for each type the keywords that limit its values.
-WORDS = frozenset("""description $schema $comment title definitions $ref type const enum anyOf oneOf
-    allOf required additionalProperties properties items minItems maxItems pattern minLength
-    maxLength minimum maximum""".split())
-ENDS: dict[type, tuple[str, str]] = {
-    str: ("minLength", "maxLength"), list: ("minItems", "maxItems"),
-    int: ("minimum", "maximum"), float: ("minimum", "maximum")}
 # Number of items validated at the start of a list. Of the later items, every 50th is validated.
 SOME = 20
 REQUEST = {
@@ -65,64 +52,6 @@ def make_result(verdict: str = "refused", **more: Any) -> dict[str, Any]:
         "omitted": {item.name: 0 for item in LISTS}, **more}
 
 
-@functools.lru_cache(maxsize=None)
-def schema() -> dict[str, Any]:
-    with open(SCHEMA, encoding="utf-8") as file:
-        known: dict[str, Any] = json.load(file)
-    return known
-
-
-def list_violations(value: Any, known: dict[str, Any], at: str = "") -> Iterator[str]:
-    """Yield the violations of a JSON schema in a value; `at` is the path of the value."""
-    assert known.keys() <= WORDS, known.keys() - WORDS
-    if "$ref" in known:
-        yield from list_violations(value,
-                                   schema()["definitions"][known["$ref"].rpartition("/")[2]], at)
-    if "type" in known and not is_of_kind(value, known["type"]):
-        yield f"{at}: no {known['type']}"
-        return
-    values = known.get("enum", [known["const"]] if "const" in known else None)
-    if values is not None and not any(type(item) is type(value) and item == value
-                                      for item in values):
-        yield f"{at}: none of {values}"
-    if "anyOf" in known and all(any(list_violations(value, item)) for item in known["anyOf"]):
-        yield f"{at}: anyOf"
-    if "oneOf" in known and sum(not any(list_violations(value, item))
-                                for item in known["oneOf"]) != 1:
-        yield f"{at}: oneOf"
-    for item in known.get("allOf", ()):
-        yield from list_violations(value, item, at)
-    if isinstance(value, (dict, list)):
-        yield from list_inner_violations(value, known, at)
-    ends = ENDS.get(type(value))
-    if ends and not known.keys().isdisjoint(ends):
-        size = len(value) if isinstance(value, (str, list)) else value
-        if not known.get(ends[0], size) <= size <= known.get(ends[1], size):
-            yield f"{at}: its bounds"
-    if isinstance(value, str) and "pattern" in known and not re.search(known["pattern"], value):
-        yield f"{at}: {known['pattern']}"
-
-
-def list_inner_violations(value: Any, known: dict[str, Any], at: str) -> Iterator[str]:
-    """Yield the violations of a JSON schema in the members of an object or the items of a list."""
-    if isinstance(value, dict):
-        members, is_closed = known.get("properties", {}), known.get("additionalProperties") is False
-        yield from (f"{at}: no {name}" for name in known.get("required", ()) if name not in value)
-        for name, item in value.items():
-            if name in members:
-                yield from list_violations(item, members[name], f"{at}.{name}")
-            elif is_closed:
-                yield f"{at}: {name}"
-    elif "items" in known:
-        for number, item in enumerate(value):
-            yield from list_violations(item, known["items"], f"{at}[{number}]")
-
-
-def is_of_kind(value: Any, kind: str) -> bool:
-    is_bool = isinstance(value, bool)
-    return isinstance(value, KINDS[kind]) and is_bool == (kind == "boolean")
-
-
 def list_choice_errors(known: dict[str, Any], lines: Sequence[str]) -> Iterator[object]:
     """Yield the errors in the choices that a result lists.
 
@@ -149,20 +78,24 @@ def list_choice_errors(known: dict[str, Any], lines: Sequence[str]) -> Iterator[
 
 
 @functools.lru_cache(maxsize=None)
-def make_second_validator() -> Any:
-    """Return the validator of python3-jsonschema, or `None` if it is not installed."""
+def make_validator() -> Any:
+    """Return a validator by the schema, or `None` if python3-jsonschema is not installed."""
     try:
         jsonschema = importlib.import_module("jsonschema")  # has no type stubs
     except ImportError:
+        BENCH.over.append("the schema of results, since there is no python3-jsonschema")
         return None
-    jsonschema.Draft7Validator.check_schema(schema())
-    return jsonschema.Draft7Validator(schema())
+    with open(SCHEMA, encoding="utf-8") as file:
+        schema = json.load(file)
+    jsonschema.Draft7Validator.check_schema(schema)
+    return jsonschema.Draft7Validator(schema)
 
 
-def list_all_violations(value: Any) -> list[str]:
-    reader = make_second_validator()
-    others = [error.message for error in reader.iter_errors(make_sample(value))] if reader else []
-    return [*list_violations(value, schema()), *others]
+def list_violations(value: dict[str, Any]) -> list[str]:
+    """Return the violations of the schema; none if there is no validator."""
+    validator = make_validator()
+    return [error.message for error in validator.iter_errors(make_sample(value))] \
+        if validator else []
 
 
 def make_sample(value: dict[str, Any]) -> dict[str, Any]:
@@ -178,8 +111,4 @@ def row(name: str, verdict: str, line: str = "", hint: str = "", faults: int = 0
 
 
 def check_schema(case: Case, verdict: Any, name: str = "the schema") -> None:
-    over = "a second reader of docs/verdict.schema.json, since there is no python3-jsonschema"
-    if make_second_validator() is None and over not in case.bench.over:
-        case.bench.over.append(over)
-    wrong = list_all_violations(verdict)
-    case.must(name, not wrong, wrong)
+    case.check(name, list_violations(verdict), [])

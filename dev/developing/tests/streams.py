@@ -241,37 +241,6 @@ class Packet(NamedTuple):
     data: bytes
 
 
-def make_teletext_stream(pes: list[bytes], begin: int, end: int, rate: int = 200,
-                         pid: int = TELETEXT_PID,
-                         before: StreamMaker | None = None) -> tuple[list[Packet], StreamMaker]:
-    """Return the packets of a transport stream from PTS `begin` to `end`, and their `StreamMaker`.
-
-    The stream has PES packets of Teletext, `rate` video and audio packets per second, a PCR every
-    40 ms, and tables twice a second. It continues the continuity counters of `before`.
-    """
-    maker = StreamMaker(make_components(AUDIO, pid=pid))
-    maker.counters = before.counters if before else maker.counters
-    result: list[Packet] = []
-    due = [*map(decode_pts, pes), None]
-    second, at, clock = TICKS * 25, 0, 0
-    for number in range((end - begin) * rate // second):
-        now = begin + number * second // rate
-        if number % (rate // 2) == 0:
-            maker.put_tables()
-            result += maker.list_taken_packets(0)
-        if now - begin >= clock:
-            clock += TICKS
-            maker.put_pcr(now - PTS_AHEAD)
-            result += maker.list_taken_packets(VIDEO_PID)
-        while (pts := due[at]) is not None and subtract_pts(pts, wrap_pts(now)) >= 0:
-            maker.put(pid, pes[at])
-            result += maker.list_taken_packets(pid)
-            at += 1
-        own = AUDIO_PID if number % 9 == 0 else VIDEO_PID
-        result.append(filler(own, maker.counters))
-    return result, maker
-
-
 def filler(pid: int, counters: dict[int, int]) -> Packet:
     counter = counters[pid] = counters.get(pid, 15) + 1 & 15
     return FILLER_PACKETS[pid][counter]

@@ -29,13 +29,12 @@ from .bench import Case, read_example_file
 from .judged import judge_files
 from .parts import make_example_request, make_default_options
 from .results import (
-    REQUEST, FAULT, make_result, row, schema as read_schema, make_second_validator,
-    list_all_violations, list_violations)
+    REQUEST, FAULT, list_violations, make_result, make_validator, row)
 
 
 # Test that all results match the schema, and that other files are read as unjudged pairs.
 
-SEED, CHANGES = 20261128, 900
+SEED, CHANGES = 20261128, 300
 INVALID_VALUES: list[Any] = [
     None, True, False, -1, 0, 1, 80, 5.5, 1 << 53, 1 << 62, "", "x", "refused 72 X", "\x1b[31m",
     "\ud800", "\udce9", "<script>alert(1)</script>", "=1+1", "99:99:99:99", "x" * 70_000, "\n", [],
@@ -82,8 +81,6 @@ class WrittenResults(Case):
     def test_the_schema_file_is_up_to_date(self) -> None:
         self.must("made", read(os.path.join(TOP, SCHEMA)) == format_json(schema()) + "\n",
                   "dev/make-pages")
-        self.must("read", make_second_validator() is None
-                  or make_second_validator().schema == read_schema())
 
     def test_a_new_row_of_the_table_is_used_everywhere(self) -> None:
         row = ROWS_OF_FAULT.members[0]._replace(name="new", shape=Integer(3, 3), getter=lambda _: 3)
@@ -105,12 +102,17 @@ class WrittenResults(Case):
         return judge_files(self, stl,
                            self.write("x.pes", read_example_file("five-faults.pes"))).result
 
+    def require_validator(self) -> None:
+        if make_validator() is None:
+            self.skipTest("the schema of results, since there is no python3-jsonschema")
+
     def test_the_schema_allows_all_fault_numbers(self) -> None:
+        self.require_validator()
         for number, fits in ((9, False), (10, True), (UNDECIDED, True), (SILENT, True),
                              (80, False)):
             known = make_result(faults=[{**FAULT, "number": number}])
-            self.must(f"{number}", (find_misfit(known) is None) == fits != any(
-                list_violations(known, read_schema())))
+            self.check(f"{number}", (find_misfit(known) is None, not list_violations(known)),
+                       (fits, fits))
 
     def test_counts_omitted_items_of_each_list(self) -> None:
         whole = self.judge()
@@ -132,6 +134,7 @@ class WrittenResults(Case):
                 self.must(f"{room}", self.judge()["omitted"]["subtitles"] == left)
 
     def test_rejects_an_accepted_result_without_a_clock(self) -> None:
+        self.require_validator()
         rows: list[tuple[str, int, dict[str, Any], bool]] = [
             ("accepted", 0, {"origin": 0}, True), ("accepted", 0, {"start": "tcp"}, True),
             ("accepted", 0, {}, False), ("accepted", 0, {"relative": True}, False),
@@ -145,8 +148,8 @@ class WrittenResults(Case):
             ("refused", 1, {}, True), ("refused", 3, {}, False), ("lost", 1, {}, True)]
         for word, status, request, fits in rows:
             known = make_result(word, status=status, request={**REQUEST, "origin": None, **request})
-            self.must(f"{word} {status} {request}", (find_misfit(known) is None) == fits and
-                      (not [*list_all_violations(known)]) == fits, find_misfit(known))
+            self.check(f"{word} {status} {request}",
+                       (find_misfit(known) is None, not list_violations(known)), (fits, fits))
 
     def test_cuts_a_text_that_is_too_long(self) -> None:
         self.must("cut", len(make_unjudged("x", "y" * 70_000, "input")["reason"]) == 65_536 and
@@ -160,18 +163,16 @@ class WrittenResults(Case):
 
 class UntrustedResults(Case):
     def test_table_and_schema_agree_on_changed_results(self) -> None:
-        chance, fitting = random.Random(SEED), 0
+        chance, fitting, validator = random.Random(SEED), 0, make_validator()
+        if validator is None:
+            self.skipTest("changed results, since there is no python3-jsonschema")
         known = [self.known(), make_unjudged("one", "why", "input")]
         for number in range(CHANGES):
             result = changed(known[number % 9 == 8], chance)
-            wrong = [*list_violations(result, read_schema())]
-            is_pair = isinstance(result, dict) and "pairs" not in result
-            self.must(f"{number}", not is_pair or (find_misfit(result) is None) == (not wrong),
-                      (wrong, find_misfit(result)))
-            if make_second_validator() and number % 9 == 0:
-                self.must(f"{number}: second reader",
-                          make_second_validator().is_valid(result) == (not wrong), wrong)
-            fitting += not wrong
+            is_right = validator.is_valid(result)
+            if isinstance(result, dict) and "pairs" not in result:
+                self.check(f"{number}", find_misfit(result) is None, is_right)
+            fitting += is_right
         self.must("some of each", CHANGES // 20 < fitting < CHANGES // 2, fitting)
 
     def known(self) -> dict[str, Any]:
@@ -210,7 +211,7 @@ class UntrustedResults(Case):
     def test_reads_any_changed_result(self) -> None:
         chance, known = random.Random(SEED + 1), self.known()
         self.words()
-        for number in range(CHANGES // 6):
+        for number in range(CHANGES // 2):
             result = changed(known, chance)
             if isinstance(result, dict) and "verdict" in result:
                 self.write(f"out/{number:03}.json", json.dumps(result).encode())
