@@ -119,6 +119,11 @@ class PictureDepartures(Case):
             "one line behind": (make_video_leads([6, 4] * 9 + [3.0], {18: 2}), [None]),
             "a line that is away alone": (
                 make_video_leads([6.0] * 20 + [3.0] + [6.0] * 20, {20: 3, 21: -3}), [None])}
+        # Groups of 25 pictures, of which the first is large, and losses of 1 to 3 pictures.
+        vary = [5, 5, 4, 4, 3, 3, 2, 2, 1, 1, 0, 0, -1, -1, -2, -2]
+        rows["leads vary between losses"] = (
+            make_video_leads(vary * 4, {6: 2, 11: 1, 15: 1, 21: 3, 25: 3, 31: 2, 37: 2, 42: 3}),
+            [None] * 8)
         for name, (leads, wanted) in rows.items():
             self.check(name, self.measure_step_ticks(leads), wanted)
 

@@ -73,6 +73,16 @@ class Steps(Case):
             "after the last lead": ({490: 36000}, [(content(490), None)])}
         for name, (moves, expected) in rows.items():
             self.check(name, self.locate(*survey_times(make_times(moves))[:2]), expected)
+        # Steps at which pictures are lost too: from then on the leads are greater by `lost`.
+        for name, moves, lost, place in (
+                ("12 lost, half a frame late", {210: 41400}, 43200, (content(210), -1800)),
+                ("12 lost, half a frame, the leads stay", {210: 41400}, 41400,
+                 (content(210), None)),
+                ("10 frames, 2 lost later", {203: 36000, 210: 7200}, 7200, (content(203), 36000))):
+            leads, unusual, _ = survey_times(make_times(moves))
+            later = [lead._replace(pts=(lead.pts + lost) % CLOCK, ticks=lead.ticks + lost)
+                     if lead.number > 210 else lead for lead in leads]
+            self.check(name, self.locate(later, unusual), [place])
 
     def locate(self, leads: list[VideoLead], unusual: list[UnusualStep],
                has_clock: bool = True) -> list[tuple[int, int | None]]:
@@ -83,7 +93,7 @@ class Steps(Case):
 
     def test_needs_few_leads_if_lost_pictures_do_not_explain_a_step(self) -> None:
         for ticks, sure in ((-10800, -10800), (-1800, -1800), (-5400, -5400), (-3600, None),
-                            (1800, None), (3600, None)):
+                            (1800, 1800), (5400, 5400), (3600, None)):
             leads, unusual, _ = survey_times(make_times({450: ticks}), jitter=2)
             for has_clock in (True, False):
                 self.check(f"{ticks} {has_clock}", [size for _, size in self.locate(
@@ -111,6 +121,9 @@ class Steps(Case):
             "a change within": (pair, [], [TICKS * 110], True),
             "a change behind a pair": (pair, [], [TICKS * 120], False),
             "half a frame": (by_half, each[::25], [], True),
+            "both by half a frame, Teletext later": (
+                departures(100, ticks=TICKS // 2),
+                [pts + TICKS // 2 * (pts > TICKS * 100) for pts in each[::25]], [], False),
             "both by half a frame": (by_half, half, [TICKS * 150], False),
             "half a frame, none": (by_half, [], [TICKS * 150], False)}
         for name, (several, sent, changes, expected) in rows.items():

@@ -18,7 +18,7 @@ from .unchecked import Unchecked, find_unchecked, make_irregular_video, make_unc
 # Viewers notice if subtitles and pictures drift apart, but the Teletext PTS do not show the drift.
 
 MIN_WITHIN = 2  # minimum number of different Teletext PTS after a jump that show their clock
-NEAR_TICKS = 90_000  # Teletext within this time of a jump must have regular PTS
+NEAR_TICKS = 180_000  # Teletext within this time of a jump must have regular PTS
 
 
 class DesyncFindings(NamedTuple):

@@ -22,13 +22,11 @@ from .steps import (
 # steps.py). The leads are compared without these steps.
 #
 # Leads vary, because a multiplexer sends Teletext before or after a picture. So the mean leads
-# before and after a step are compared, with their standard error. If there are enough leads, their
-# extremes are compared too.
+# before and after a step are compared, with their standard error. Where steps are close together,
+# the leads between them show too little of how leads vary: those beyond the next steps count too.
+# If there are enough leads, their extremes are compared too.
 
-# Numbers of leads to compare on each side of a step. Use 30 only if 10 give no clear result.
-SAMPLE_SIZES = (10, 30)
-# If there are fewer leads, the estimated error of their mean includes a lead's typical change.
-MIN_OWN_LEADS = 5
+SAMPLE_SIZE = 30  # number of leads to compare on each side of a step
 MIN_LEADS = 20  # minimum number of leads on each side of a step to compare their extremes
 SIGNIFICANT_ERRORS = 2.5  # number of standard errors that a difference of means must exceed
 # A lead that changes steadily may mean that two clocks drift apart. A multiplexer changes its delay
@@ -90,7 +88,7 @@ def separate_clock_jumps(leads: Sequence[VideoLead], unusual: Sequence[UnusualSt
         found = [make_departure(leads[at - 1], step, ticks)
                  for step, ticks in zip(steps, (size, steps[-1].ticks))]
         found[0] = found[0]._replace(is_away=len(steps) > 1)
-        if not has_own_clock(found):
+        if size is None or not has_own_clock(found):
             continue
         departures += found
         rest = [step for step in rest if step not in steps]
@@ -110,22 +108,29 @@ def are_all_steps_known(before: VideoLead, after: VideoLead, unusual: Sequence[U
 
 
 def measure_jump(leads: Sequence[VideoLead], at: int, step: UnusualStep,
-                 unusual: Sequence[UnusualStep]) -> int:
+                 unusual: Sequence[UnusualStep]) -> int | None:
     """Return the ticks by which pictures drift at a step before the lead with index `at`. They are
-    those of the step, unless the leads surely show that pictures were lost there too."""
+    those of the step, unless the leads surely show that pictures were lost there too. Return `None`
+    if it is unclear how many were lost, or if the leads stay the same."""
     end = min((other.number for other in unusual if other.number > step.number),
               default=leads[-1].number + 1)
-    before = [lead.ticks for lead in leads[:at]][-SAMPLE_SIZES[-1]:]
-    after = [lead.ticks for lead in leads[at:] if lead.number < end][:SAMPLE_SIZES[-1]]
+    before = [lead.ticks for lead in leads[:at]]
+    after = [lead.ticks for lead in leads[at:] if lead.number < end]
     if not after:
         return step.ticks
-    mean_change, error = compare_means(before, after, compute_typical_step([before, after]))
-    is_lost = step.ticks + mean_change - error >= step.usual / 2
-    return -round_to_half_frames(mean_change) if is_lost else step.ticks
+    mean_change, error = compare_means(before, after)
+    if abs(mean_change) + error < ALIKE_TICKS:
+        return None
+    if step.ticks + mean_change - error < step.usual / 2:
+        return step.ticks
+    ticks = leave_out_lost(step.ticks, mean_change, step.usual)
+    return ticks if abs(ticks + mean_change) + error < step.usual / 2 else None
 
 
-def round_to_half_frames(ticks: float) -> int:
-    return TICKS // 2 * round(ticks * 2 / TICKS)
+def leave_out_lost(step: int, mean_change: float, usual: int) -> int:
+    """Return the part of a step that is left if a whole number of pictures of `usual` ticks was
+    lost, by the change of the mean lead."""
+    return step - usual * round((step + mean_change) / usual)
 
 
 def locate_departures(leads: Sequence[VideoLead], unusual: Sequence[UnusualStep] = ()) \
@@ -145,42 +150,42 @@ def locate_departures(leads: Sequence[VideoLead], unusual: Sequence[UnusualStep]
     return sorted(departures, key=lambda departure: subtract_pts(first, departure.pts))
 
 
-def split_into_rows(leads: Sequence[VideoLead], ends: Sequence[int]) -> list[list[int]]:
-    """Return the leads in ticks, in rows without a step. `ends` has the index after each row."""
-    return [[lead.ticks for lead in leads[begin:end]]
-            for begin, end in zip([0, *ends], [*ends, len(leads)])]
-
-
 def find_departures_between_rows(leads: Sequence[VideoLead], steps: Sequence[int],
                                  ends: Sequence[int], inside: dict[int, list[UnusualStep]]) \
         -> list[Departure]:
-    """Return the departures between rows of leads. Remove the unusual steps between these rows from
-    `inside`, which has the unusual steps before each lead."""
-    rows = split_into_rows(leads, ends)
-    typical_step = compute_typical_step(rows)
-    departures, before, between, ticks = list[Departure](), rows[0], list[int](), 0
-    for end, row in zip(ends, rows[1:]):
-        ticks += steps[end - 1]
-        if len(row) == 1 and end != ends[-1]:
-            between += row
+    """Return the departures between rows of leads without a step. `ends` has the index after each
+    row. Remove the unusual steps between these rows from `inside`, which has the unusual steps
+    before each lead."""
+    all_ticks, departures = [lead.ticks for lead in leads], list[Departure]()
+    row_begin, row_end, ticks = 0, min(ends, default=0), 0
+    for begin, end in zip(ends, [*ends[1:], len(leads)]):
+        ticks += steps[begin - 1]
+        if end - begin == 1 and end < len(leads):
             continue
-        left = measure_departure(before, row, ticks, typical_step)
-        if left is None and len(before) > MIN_OWN_LEADS:
+        before, after = all_ticks[row_begin:row_end], all_ticks[begin:end]
+        around = all_ticks[max(row_end - SAMPLE_SIZE, 0):row_end], \
+            all_ticks[begin:begin + SAMPLE_SIZE]
+        here = [step for place in range(row_end, begin + 1) for step in inside.pop(place, [])]
+        usual = here[0].usual if here else TICKS
+        left = measure_departure(before, after, ticks, around, usual)
+        if left is None and len(before) >= MIN_LEADS:
             # Where pictures are lost, the last lead may be that of Teletext long after its picture.
-            left = measure_departure(before[:-1], row, ticks, typical_step)
-        if left == 0 and is_outside(between, before):
-            left = None  # a short drift, or a damaged PTS
-        at = end - len(between)
-        here = [step for place in range(at, end + 1) for step in inside.pop(place, [])]
-        if left and len(here) == 1 and here[0].is_sure and abs(here[0].ticks - ticks) < ALIKE_TICKS:
-            departures.append(make_departure(leads[at - 1], here[0], left))
+            left = measure_departure(before[:-1], after, ticks, (around[0][:-1], around[1]), usual)
+        if left == 0 and (is_outside(all_ticks[row_end:begin], before)
+                          or not all(step.is_whole for step in here)):
+            left = None  # a short drift, a damaged PTS, or a step that no lost picture explains
+        earlier = leads[row_end - 1]
+        places = [step for step in here if step.is_sure and any(
+            abs(step.ticks - size) < ALIKE_TICKS for size in (ticks, left or ticks))]
+        if left and len(places) == 1:
+            departures.append(make_departure(earlier, places[0], left))
         elif left:
-            departures.append(Departure(leads[end].pts, leads[at - 1].pts, left,
-                                        ahead=max(leads[at - 1].ticks, 0)))
+            departures.append(Departure(leads[begin].pts, earlier.pts, left,
+                                        ahead=max(earlier.ticks, 0)))
         elif left is None or has_return(here):
             departures.append(make_unclear_departure(
-                leads[at - 1], leads[end], here, measure_least_change(before, row, typical_step)))
-        before, between, ticks = row, [], 0
+                earlier, leads[begin], here, measure_least_change(before, after, around)))
+        row_begin, row_end, ticks = begin, end, 0
     return departures
 
 
@@ -189,14 +194,13 @@ def find_departures_in_rows(leads: Sequence[VideoLead], ends: Sequence[int],
     """Return the departures at unusual steps in rows of leads, which show no step themselves.
     `inside` has the unusual steps before each lead."""
     bounds, departures = [0, *ends, len(leads)], list[Departure]()
-    typical_step = compute_typical_step(split_into_rows(leads, ends))
     for at, here in inside.items():
         if not 0 < at < len(leads):
             continue
         row_at = bisect.bisect_right(bounds, at) - 1
         before = [lead.ticks for lead in leads[bounds[row_at]:at]]
         after = [lead.ticks for lead in leads[at:bounds[row_at + 1]]]
-        change = measure_least_change(before, after, typical_step) if before and after else 0
+        change = measure_least_change(before, after) if before and after else 0
         if change < TICKS // 2 and min(here, key=get_ticks).ticks > 0:
             continue  # the times of pictures are missing
         departures.append(make_unclear_departure(leads[at - 1], leads[at], here, change))
@@ -250,16 +254,10 @@ def find_step_places(steps: Sequence[int]) -> list[int]:
     return [at for at, step in enumerate(steps, 1) if abs(step) * 4 >= TICKS]
 
 
-def compute_typical_step(rows: Iterable[Sequence[int]]) -> float:
-    """Return the typical change from a lead to the next."""
-    changes = [abs(after - before) for row in rows for before, after in zip(row, row[1:])]
-    return statistics.fmean(changes) if changes else TICKS
-
-
-def measure_least_change(before: Sequence[int], after: Sequence[int], typical_step: float) -> int:
+def measure_least_change(before: Sequence[int], after: Sequence[int],
+                         around: Sequence[Sequence[int]] = ()) -> int:
     """Return the least number of ticks by which the mean lead changes, allowing for its error."""
-    mean_change, error = compare_means(before[-SAMPLE_SIZES[-1]:], after[:SAMPLE_SIZES[-1]],
-                                       typical_step)
+    mean_change, error = compare_means(before, after, around)
     return max(0, int(abs(mean_change) - error))
 
 
@@ -278,9 +276,8 @@ def locate_changes_of_video(several: Sequence[Sequence[VideoLead]]) -> list[Depa
     for (old_at, old), (new_at, new) in zip(long_groups, long_groups[1:]):
         if old_at == new_at:
             continue
-        before = [lead.ticks for lead in old[-SAMPLE_SIZES[-1]:]]
-        after = [lead.ticks for lead in new[:SAMPLE_SIZES[-1]]]
-        mean_change, error = compare_means(before, after, compute_typical_step([before, after]))
+        before, after = [lead.ticks for lead in old], [lead.ticks for lead in new]
+        mean_change, error = compare_means(before, after)
         if abs(mean_change) + error >= TICKS / 2:
             departures.append(Departure(new[0].pts, old[-1].pts, None,
                                         max(0, int(abs(mean_change) - error)),
@@ -332,35 +329,46 @@ def is_outside(between: Iterable[int], before: Sequence[int]) -> bool:
                for lead in between)
 
 
-def compare_means(old: Sequence[int], new: Sequence[int], typical_step: float) \
-        -> tuple[float, float]:
-    """Return the change of the mean lead, and its error."""
-    error = SIGNIFICANT_ERRORS * math.sqrt(sum(max(
-        statistics.variance(row) if len(row) > 1 else 0,
-        typical_step ** 2 if len(row) < MIN_OWN_LEADS else 0) / len(row) for row in (old, new)))
-    return statistics.fmean(new) - statistics.fmean(old), error
+def compare_means(before: Sequence[int], after: Sequence[int],
+                  around: Sequence[Sequence[int]] = ()) -> tuple[float, float]:
+    """Return the change of the mean lead from `before` to `after`, and its error. The leads vary
+    as much as each of the two does, and as the leads of both sides in `around`, or of `before` and
+    `after`."""
+    rows = before[-SAMPLE_SIZE:], after[:SAMPLE_SIZE]
+    sides = around or rows
+    count = sum(len(side) - 1 for side in sides)
+    usual = sum(map(sum_squares, sides)) / count if count else TICKS ** 2
+    error = SIGNIFICANT_ERRORS * math.sqrt(sum(
+        max(sum_squares(row) / max(len(row) - 1, 1), usual) / len(row) for row in rows))
+    return statistics.fmean(rows[1]) - statistics.fmean(rows[0]), error
+
+
+def sum_squares(row: Sequence[int]) -> float:
+    """Return the sum of the squared distances from the mean."""
+    mean = statistics.fmean(row)
+    return sum((item - mean) ** 2 for item in row)
 
 
 def measure_departure(before: Sequence[int], after: Sequence[int], step: int,
-                      typical_step: float) -> int | None:
+                      around: Sequence[Sequence[int]], usual: int) -> int | None:
     """Return the ticks by which pictures drift at a step of the decoding times.
 
-    `before` and `after` are the Teletext leads around the step, and `typical_step` is the typical
-    change of a lead. Return 0 if the leads stay the same, the step if they change by the step, and
-    the change of the leads if pictures were lost too. Return `None` if the drift is unclear.
+    `before` and `after` are the leads from the step before to the next step, and `around` those of
+    both sides, beyond other steps too. A picture usually takes `usual` ticks. Return 0 if the leads
+    stay the same, the step if they change by the step, and what is left of it if pictures were lost
+    too. Return `None` if the drift is unclear.
     """
     limit = min(abs(step) or TICKS, TICKS) / 2
-    for most in SAMPLE_SIZES:
-        old, new = before[-most:], after[:most]
-        mean_change, error = compare_means(old, new, typical_step)
-        for ticks in (0, step):
-            ends = [abs(end(new) - end(old) + ticks) * 2 for end in (min, max)]
-            is_significant = min(len(old), len(new)) >= MIN_LEADS and max(ends) < limit
-            if abs(mean_change + ticks) + (0 if is_significant else error) < limit:
-                return ticks
-        if step and abs(mean_change) - error >= limit:
-            if abs(step + mean_change) <= min(limit + error, abs(step) / 4):
-                return step
-            if 0 <= step + mean_change <= abs(mean_change) / 2:
-                return -round_to_half_frames(mean_change)
+    mean_change, error = compare_means(before, after, around)
+    for ticks in (0, step):
+        ends = [abs(end(after[:SAMPLE_SIZE]) - end(before[-SAMPLE_SIZE:]) + ticks) * 2
+                for end in (min, max)]
+        is_significant = min(len(before), len(after)) >= MIN_LEADS and max(ends) < limit
+        if abs(mean_change + ticks) + (0 if is_significant else error) < limit:
+            return ticks
+    if step and abs(mean_change) - error >= limit:
+        if abs(step + mean_change) <= min(limit + error, abs(step) / 4):
+            return step
+        if 0 <= step + mean_change <= abs(mean_change) / 2:
+            return leave_out_lost(step, mean_change, usual)
     return None

@@ -43,10 +43,15 @@ class UnusualStep(NamedTuple):
     is_sure: bool = True
 
     @property
+    def is_whole(self) -> bool:
+        """Return whether the step differs from the usual one by a whole number of pictures."""
+        return abs(self.ticks - self.usual * round(self.ticks / self.usual)) < ALIKE_TICKS
+
+    @property
     def may_keep_delay(self) -> bool:
-        """Return whether pictures may keep their delay: some may be lost or shown for longer, or
-        one may be sent twice."""
-        return self.ticks > 0 or abs(self.ticks + self.usual) < ALIKE_TICKS
+        """Return whether pictures may keep their delay: some may be lost, or one may be sent
+        twice."""
+        return self.is_whole and self.ticks > -1.5 * self.usual
 
 
 def find_unusual_steps(several: Sequence[StepRange], count: int) -> list[UnusualStep]:
