@@ -183,8 +183,10 @@ class Recorded(AirCase):
         return Recorder(self.path("segments"), Limits(length, kept, free))
 
     def test_never_deletes_the_last_segment_of_an_earlier_recorder(self) -> None:
+        deleted = self.put_segment(-10, 0)
         self.put_segments(0, 20)  # two segments
         recorder = self.recorder()
+        os.unlink(deleted)
         self.check("deleted", [recorder.delete_first() for _ in range(3)], [True, False, False])
 
     def read_segments(self) -> list[tuple[float, bytes]]:
@@ -232,9 +234,10 @@ class Recorded(AirCase):
 
     def test_deletes_segments_that_are_too_old(self) -> None:
         item = self.recorder(kept=50)
-        for at in range(0, 200, 10):
-            self.now = DAY + at
-            item.take(b".")
+        with mock.patch.object(recorder, "list_segment_names", side_effect=AssertionError):
+            for at in range(0, 200, 10):  # without listing a large folder
+                self.now = DAY + at
+                item.take(b".")
         self.check("begins", [begin for begin, _ in self.read_segments()],
                    [140.0, 150.0, 160.0, 170.0, 180.0, 190.0])
         self.now = DAY + 9999

@@ -56,15 +56,14 @@ class Outcome(NamedTuple):
     @property
     def is_file_refused(self) -> bool:
         """Return whether the programme is refused because of its subtitle file alone."""
-        return self.verdict == REFUSED and self.result is not None and \
-            self.result["inputs"]["recording"] is None
+        return self.verdict == REFUSED and (self.result or {})["inputs"]["recording"] is None
 
     @property
     def has_file_fault(self) -> bool:
         """Return whether correcting the subtitle file may change a refusal."""
-        return self.is_file_refused or self.verdict == REFUSED and self.result is not None and any(
+        return self.is_file_refused or self.verdict == REFUSED and any(
             fault["file"] == "stl" and fault["severity"] == ERROR
-            for fault in self.result.get("faults", ()))
+            for fault in (self.result or {}).get("faults", ()))
 
     @property
     def is_final(self) -> bool:
@@ -175,8 +174,7 @@ class Checker:
                     os.unlink(os.path.join(self.work, file))
         if status == FAILED or status < 0:
             return Outcome(None, lines[-1] if lines else "the process that judged it was killed")
-        name = programme.name
-        result = read_call_result(os.path.join(self.work, name + ENDING), name,
+        result = read_call_result(os.path.join(self.work, programme.name + ENDING), programme.name,
                                   1 if status == UNFINISHED else status, lines)
         return Outcome(result, result["reason"] or result["worst_fault"] or result["line"],
                        status != UNFINISHED)

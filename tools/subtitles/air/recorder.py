@@ -46,6 +46,7 @@ class Recorder:
 
     def __init__(self, folder: str, limits: Limits) -> None:
         self.folder, self.limits = folder, limits
+        self.names = list_segment_names(folder)  # a pipe can't wait for a large folder each time
         self.file: int | None = None
         self.name = ""  # name of the current segment
         self.is_new = True  # data before the next segment may be missing
@@ -95,10 +96,10 @@ class Recorder:
         if self.latest > now + MAX_STEP_BACK:
             print_stderr(f"the clock was set back by {self.latest - now:.0f} seconds")
             self.is_new, self.latest_wrong = True, self.latest
-        begins = [self.latest, *(begin for begin, _ in list_segment_names(self.folder))]
-        self.latest = max([now, *(begin + 0.001 for begin in begins
-                                  if begin <= now + MAX_STEP_BACK)])
+        earlier = self.names[:bisect.bisect_left(self.names, (now + MAX_STEP_BACK, ""))]
+        self.latest = round(max([now, *(begin + 0.001 for begin, _ in earlier[-1:])]), 3)
         self.name = make_segment_name(self.latest, self.is_new)
+        bisect.insort(self.names, (self.latest, self.name))
         file = os.open(os.path.join(self.folder, self.name),
                        os.O_WRONLY | os.O_CREAT | os.O_APPEND | os.O_CLOEXEC)
         self.is_new = False
@@ -142,11 +143,12 @@ class Recorder:
     def delete_first(self, after: float = -math.inf, before: float = math.inf) -> bool:
         """Delete the first segment that begins between two times. Never delete the current segment
         or, before there is one, the last. Return whether a segment was deleted."""
-        names = list_segment_names(self.folder)
-        for begin, name in names[bisect.bisect_left(names, (after, "")):][:1]:
-            if begin < before and name != (self.name or names[-1][1]):
-                with contextlib.suppress(FileNotFoundError):
-                    os.unlink(os.path.join(self.folder, name))
+        for begin, name in self.names[bisect.bisect_left(self.names, (after, "")):]:
+            if begin >= before or name == (self.name or self.names[-1][1]):
+                break
+            self.names.remove((begin, name))
+            with contextlib.suppress(FileNotFoundError):  # somebody else deleted it
+                os.unlink(os.path.join(self.folder, name))
                 return True
         return False
 
