@@ -21,7 +21,7 @@ from subtitles.judging.status import (
 from subtitles.reading.dates import find_date
 from subtitles.reading.received import (
     ShownPage, choose_header_option, choose_language, find_likely_errors, find_undecided_option,
-    join_late_pages, mark_cuts, store_pages)
+    join_late_pages, mark_cuts, prefer_option, store_pages)
 from subtitles.results.schema import find_misfit
 from subtitles.stream.receiver import BLANK_PAGE, Rows
 from .bench import Case, CompletedCall
@@ -139,6 +139,12 @@ class ReceivedPages(Case):
             options = choose_header_option(*values).options
             self.check(name, (options[0].word, len(options)), (word, count))
 
+    def test_prefers_the_languages_of_a_given_option(self) -> None:
+        self.check_rows(prefer_option, {
+            "no option": ((["eng", "pol"], None), ["eng", "pol"]),
+            "announced": ((["eng", "srp", "hrv"], CROATIAN), ["srp", "hrv", "eng"]),
+            "not announced": ((["eng"], CROATIAN), ["hrv", "eng"])})
+
     def test_takes_the_undecided_option_that_can_store_all_pages(self) -> None:
         polish, mosaic = page((22, b"\x0b\x0bkt\x7e\x0a\x0a")), page((22, b"\x0b\x11a"))
         for name, rows, word in (("both can", [ONE], "english"),
@@ -153,15 +159,16 @@ class ReceivedPages(Case):
     def test_lists_pages_whose_characters_no_option_decides(self) -> None:
         pounds, start = page((22, b"\x0b#5")), "the characters of 1 subtitle: C12 to C14 of the " \
             "headers select "
-        end = ", no announced language decides it, and the text was read as "
-        both = f"{start}english or polish, by the region to which the receiver is set{end}english"
+        end = ", no announced language decides it, and the text was read as {}: give --option"
+        both = f"{start}english or polish, by the region to which the receiver is set" \
+            + end.format("english")
         cases: dict[str, tuple[int, list[str], list[Rows], list[str]]] = {
             "no such character": (0, [], [ONE, TWO], []),
             "one of two": (0, [], [ONE, pounds], [both]),
             "decided": (0, ["eng"], [pounds], []),
             "the same in both": (2, [], [pounds], []),
             "reserved in the default region": (7, ["pol"], [ONE, pounds], [
-                f"{start}romanian, but nothing in region 0000{end}romanian"]),
+                f"{start}romanian, but nothing in region 0000{end.format('romanian')}"]),
             "reserved, decided": (7, ["ron"], [pounds], [])}
         for name, (bits, languages, rows, expected) in cases.items():
             pages = [ShownPage(at, at + 1, item, "") for at, item in enumerate(rows)]
@@ -308,6 +315,12 @@ class WholeCalls(Case):
                 ("reserved bits", [(0, [RESERVED_OPTION, make_numbered_row(22, b"#"), CLOSING]),
                                    (25, [RESERVED_OPTION, CLOSING])], (), 0,
                  "1 subtitle in 26 frames; not checked: no_video, losses, clock, option"),
+                ("reserved bits, --option", [(0, [RESERVED_OPTION, make_numbered_row(22, b"#"),
+                                                  CLOSING]), (25, [RESERVED_OPTION, CLOSING])],
+                 ("--option", "romanian"), 0,
+                 "1 subtitle in 26 frames; not checked: no_video, losses, clock"),
+                ("another --option", [(0, text), (25, blank)], ("--option", "german"), 2,
+                 "--option is german, but C12 to C14 of the headers of the page select english"),
                 ("no such page", [(0, text)], ("--page", "889"), 2, "no header of the page"),
                 ("row 24", row_24, (), 1, "not in the file, row 24 has text: xxx"),
                 ("PTS go back", jumping, (), 1, "time goes back, at 00:00:01:00, where the PTS of "
@@ -327,8 +340,8 @@ class WholeCalls(Case):
             call = self.read("sent.pes", *args)
             result = self.result(args[1] if "--page" in args else "888")
             line = result["reason"] or result["line"].partition(": ")[2]
-            self.must(name, call.status == status == result["status"] and line.startswith(begin),
-                      call)
+            has_begin = line == begin if "not checked" in begin else line.startswith(begin)
+            self.must(name, call.status == status == result["status"] and has_begin, call)
         self.send(*row_24)
         self.read("sent.pes")
         result = self.result()

@@ -10,7 +10,7 @@ from ..common.command_line import Stop, ToolParser, UsageError
 from ..common.files import (
     Inputs, STANDARD, make_safe_name, make_temporary_folder, read_stamp)
 from ..common.times import begin_day_at
-from ..formats.teletext import Page, page_name
+from ..formats.teletext import ENGLISH, OPTION_BY_WORD, OPTION_WORDS, Page, page_name
 from ..judging.status import combine_statuses
 from ..reading.judge import RangeJudge, ReadingJudge
 from ..reading.result import ReadingVerdict
@@ -25,7 +25,7 @@ from .single import (
     refuse_outputs, refuse_pair_files, remove_results, report_pair)
 
 
-OWN_OPTIONS = ("--page", "--pid", "--pes", "--origin", "--start", "--every", "--within",
+OWN_OPTIONS = ("--page", "--option", "--pid", "--pes", "--origin", "--start", "--every", "--within",
                "--no-complete", "--keeping", "--pace", "--allow-lost", "--require",
                "-o", "--json", "--csv", "--junit", "-p")
 RESULT_OPTIONS = ("json", "csv", "junit")
@@ -33,6 +33,9 @@ NO_CLOCK_TEXT = "times count from the first PES packet"
 # The values of options that differ from those of qc
 CHANGES: dict[str, dict[str, Any]] = {
     "--page": {"default": None, "default_text": "all subtitle pages", "description": "read page P"},
+    "--option": {"default": None, "default_text": "by the announced language",
+                 "description": "read the text with this national option",
+                 "choices": OPTION_WORDS},
     "--start": {"description": "take TIME as the time code of the recording's first picture",
                 "metavar": "TIME", "default_text": NO_CLOCK_TEXT},
     "--origin": {"default_text": NO_CLOCK_TEXT},
@@ -74,7 +77,8 @@ class PageReader:
 
     def make_recording(self, page: Page) -> Recording:
         """Return the recording with the request to read a page, and to judge it by this page."""
-        args = argparse.Namespace(**{**vars(self.args), "page": page})
+        args = argparse.Namespace(**{**vars(self.args), "page": page,
+                                     "option": self.args.option or ENGLISH.word})
         request = make_file_request(self.make_stl_path(args.out or "", page), args.recording, args)
         request.is_reading = True
         request.kept_stl = self.make_stl_path(self.folder, page)
@@ -117,7 +121,8 @@ class PageReader:
         recording = self.make_recording(page)
         verdict = make_verdict(recording.request, recording.listener, ReadingVerdict)
         files = OutputFiles(self.call, verdict, self.command_paths, recording.names, self.stamps)
-        judge_range(ReadingJudge(verdict, recording, self.recording, files.needs_sums()), files)
+        judge_range(ReadingJudge(verdict, recording, self.recording, files.needs_sums(),
+                                 OPTION_BY_WORD.get(self.args.option)), files)
         return verdict
 
 

@@ -12,6 +12,7 @@ from ..formats.listing import CHARACTER_SET, CLOCK_JUMP, NamedFault
 from ..formats.midnight import move_times
 from ..formats.stl import Subtitle
 from ..formats.stl_writer import StoredPage
+from ..formats.teletext import NationalOption
 from ..judging.cues import Cue, CueJudge
 from ..judging.pair import LocatedRecording, PairJudge
 from ..judging.part import Part
@@ -19,10 +20,10 @@ from ..judging.status import ACCEPTED
 from ..judging.timing import (
     NO_CLOCK, PartClocks, PartSearch, find_start_clock, get_given_clock)
 from ..recording.recording import Recording
-from ..request.request import PES_CHOICE, Selection, write_moved_copy
+from ..request.request import PES_CHOICE, Selection, Unclear, write_moved_copy
 from ..stream.packets import Range
 from .dates import find_date
-from .received import CUT_TEXTS, Reading, make_stl, read_pages
+from .received import CUT_TEXTS, Reading, make_stl, prefer_option, read_pages
 from .result import JudgedRange, RangeVerdict, ReadingVerdict
 
 # The warnings that forbid `as shown`: receivers may show other characters, or the times are not
@@ -79,9 +80,9 @@ class ReadingJudge(RangeJudge):
     range_text = "from the first header of the page on"
 
     def __init__(self, verdict: ReadingVerdict, recording: Recording, other: Recording | None,
-                 is_result_written: bool) -> None:
+                 is_result_written: bool, option: NationalOption | None = None) -> None:
         super().__init__(verdict, recording, is_result_written)
-        self.reading_verdict, self.other = verdict, other
+        self.reading_verdict, self.other, self.option = verdict, other, option
 
     @property
     def reading(self) -> Reading:
@@ -104,15 +105,19 @@ class ReadingJudge(RangeJudge):
         verdict, request, recording = self.reading_verdict, self.request, self.source
         clock = get_given_clock(request) or find_start_clock(
             PartSearch(request, WHOLE_DAY, None), recording, self.listener)
+        languages = prefer_option(verdict.languages, self.option)
         verdict.reading = reading = read_pages(
-            recording.packets, request, clock, verdict.languages,
+            recording.packets, request, clock, languages,
             lambda first, last: self.format_call("--pes", f"{first}-{last}"))
         verdict.judged = JudgedRange(reading.first, reading.last + 1, reading.pes, reading.clock,
                                      reading.is_cut)
         verdict.named_faults += reading.faults
         verdict.unchecked += reading.unchecked
         request.option = reading.option.word
-        data = make_stl(reading, os.path.basename(recording.name), verdict.languages,
+        if self.option and self.option != reading.option:
+            raise Unclear(f"--option is {self.option.word}, but C12 to C14 of the headers of the "
+                          f"page select {reading.option.word}")
+        data = make_stl(reading, os.path.basename(recording.name), languages,
                         find_date(recording.path, recording.survey.size or 0))
         with open(request.original_path, "wb") as file:
             file.write(data)

@@ -139,6 +139,14 @@ def find_header_bits(packets: Packets, pes: Range) -> int:
     return counts.most_common(1)[0][0]
 
 
+def prefer_option(languages: Sequence[str], option: NationalOption | None) -> list[str]:
+    """Return the announced languages. If an option is given, its languages come first, and there is
+    at least one."""
+    own = [word for word in languages if option and choose_track_option(word) == option]
+    return [*own, *(option.tracks.split()[:1] if option and not own else []),
+            *(word for word in languages if word not in own)]
+
+
 def choose_header_option(bits: int, languages: Sequence[str]) -> SentOption:
     """Return the national options whose C12 to C14 are `bits`, first the one to use: that of the
     first announced language with such an option, which then is the only one, or else that of the
@@ -164,7 +172,7 @@ def find_undecided_option(sent: SentOption, languages: Sequence[str],
     return [Unchecked(OPTION, f"the characters of {counted(count, 'subtitle')}: C12 to C14 of the "
                       f"headers select {sent.words}{', but nothing in region 0000' * is_reserved}, "
                       "no announced language decides it, and the text was read as "
-                      f"{options[0].word}")] if count else []
+                      f"{options[0].word}: give --option")] if count else []
 
 
 def list_spans(timeline: Timeline) -> Iterator[ShownPage]:

@@ -226,7 +226,7 @@ def make_command(request: Request, command_paths: CommandPaths, *more: str) -> s
     if request.is_reading:
         arguments = [command_paths.get_tool_command("read"), str(request.recording),
                      *["--page", request.page_name] * ("--page" not in more)]
-        replaced_options = [*replaced_options, "--page", "--option"]
+        replaced_options = [*replaced_options, "--page"]
     arguments += [word for option in options if option and option[0] not in replaced_options
                   for word in option]
     return quote_command(*arguments, *more)
