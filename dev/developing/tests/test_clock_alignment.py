@@ -11,22 +11,21 @@ from subtitles.clock.alignment import (
     Drift, EarlyCues, ExpectedCue, ExpectedSubtitle, MAX_ERASED_FRAMES, MIN_TEXTS, MatchedChange,
     RARE_SHARE, TimeBase, UNSEEN_SHARE, choose_clock, find_drift, find_expected_cues, find_repeat,
     find_time_bases, find_usual_delay)
-from subtitles.clock.origin import OriginEstimate
+from subtitles.clock.origin import OriginEstimate, OriginSearch, store_first_part
 from subtitles.clock.start import Clock, RECORDING, TimedPart
-from subtitles.clock.stretches import have_equal_steps, is_repeated_airing
+from subtitles.clock.stretches import (
+    find_stretches, fit_parts, have_equal_steps, is_repeated_airing)
 from subtitles.common.command_line import Lateness, parse_lateness
 from subtitles.common.times import CLOCK, FRAMES_OF_A_DAY, Span, TICKS, compute_time
 from subtitles.judging.part import belongs_to_part, find_lost_spans, find_recorded_span
-
 from subtitles.stream.gaps import LossPlace
-from subtitles.stream.packets import PageChange
+from subtitles.stream.packets import Packets, PageChange
 from .bench import Case
 from .judged import JudgedPair, judge_files
 from .parts import make_part
 from .transmissions import join_pes_packets, make_delay, write_programme, schedule_pages
 from .test_clock_delays import FIRST_TCI, make_even_times
-from .test_clock_properties import (
-    find_origin, make_page_changes, make_random_cues, make_sent_packets)
+from .test_clock_tables import make_sent_packets
 
 TEXT, OTHER_TEXT = ((20, b"text"),), ((20, b"other"),)
 
@@ -116,6 +115,27 @@ def does_first_part_agree(origin: OriginEstimate) -> bool:
     return any(part.matches == part.total for part in origin.parts[:1])
 
 
+def make_random_cues(chance: random.Random, count: int) -> list[ExpectedSubtitle]:
+    frame, result = chance.randrange(FRAMES_OF_A_DAY // 2), []
+    for number in range(count):
+        frame += chance.choice((0, MAX_ERASED_FRAMES + 1,
+                                chance.randrange(MAX_ERASED_FRAMES + 1, 200)))
+        end = frame + chance.randrange(12, 150)
+        text = b"text %d" % (number if chance.random() < 0.9 else 0)
+        result.append(ExpectedSubtitle(frame, end, (number, text), text))
+        frame = end
+    return result
+
+
+def find_origin(shown: Sequence[ExpectedSubtitle], packets: Packets, within: int,
+                late: Lateness | None = None) -> OriginEstimate:
+    """Estimate the origin of a programme without breaks."""
+    origin, bases = OriginEstimate(), find_time_bases(shown, packets, within)
+    row = find_stretches(bases)
+    store_first_part(origin, OriginSearch("", ""), bases, row, fit_parts(shown, bases, row, late))
+    return origin
+
+
 class EstimatedClocks(Case):
     def test_uses_the_shortest_usual_delay(self) -> None:
         # The arguments are the numbers of in-cues and of out-cues with each delay in frames.
@@ -195,8 +215,8 @@ class EstimatedClocks(Case):
                                        end=item.end + 30 * at)
                          for at, item in enumerate(make_random_cues(chance, (12, 40)[seed % 2]))]
                 cues = find_expected_cues(shown)
-                times = [(pts + TICKS * inserter(chance, cue.is_begin), text)
-                         for (pts, text), cue in zip(make_page_changes(cues, 0), cues)]
+                times = [(TICKS * (cue.frame + inserter(chance, cue.is_begin)), cue.letters)
+                         for cue in cues]
                 with self.subTest(name, seed=seed):
                     item = find_origin(shown, make_sent_packets(times), within, late=shares)
                     self.assertTrue(item.status == 0 and does_first_part_agree(item), item.lines)
@@ -214,9 +234,9 @@ class EstimatedClocks(Case):
                      for at, item in enumerate(make_random_cues(chance, 30))]
             cues, shares = find_expected_cues(shown), measure_inserter_delays(inserter)
             begins = [at for at, cue in enumerate(cues) if cue.is_begin]
-            times = [(pts + TICKS * (-1 if at == begins[20] else inserter(chance, cue.is_begin)),
-                      text) for at,
-                     ((pts, text), cue) in enumerate(zip(make_page_changes(cues, 0), cues))]
+            times = [(TICKS * (cue.frame + (-1 if at == begins[20] else
+                                            inserter(chance, cue.is_begin))), cue.letters)
+                     for at, cue in enumerate(cues)]
             item = find_origin(shown, make_sent_packets(sorted(times)), within, late=shares)
             self.assertFalse(does_first_part_agree(item), (name, item.lines))
 

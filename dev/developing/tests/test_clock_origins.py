@@ -24,7 +24,7 @@ from .parts import make_example_request, survey_packets
 from .transmissions import (
     CLOSING, HEADER, ShownSubtitle, replace_pts, make_random_stl, make_numbered_row, schedule_pes,
     write_subtitle_file)
-from .test_clock_properties import make_sent_packets
+from .test_clock_tables import make_sent_packets
 
 FIRST_TCI, COUNT = 1_000_000, 12  # first TCI in frames; number of subtitles
 

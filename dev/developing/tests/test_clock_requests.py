@@ -11,7 +11,7 @@ from subtitles.common.command_line import Lateness
 from subtitles.common.times import ALL_DAY, FrameRange, TICKS
 from .bench import Case
 from .transmissions import write_programme
-from .test_clock_properties import make_sent_packets
+from .test_clock_tables import make_sent_packets
 from .test_clock_tables import EACH
 
 

@@ -10,12 +10,12 @@ from subtitles.clock.alignment import (
     CueOffset, EarlyCues, ExpectedCue, ExpectedSubtitle, MAX_BASES, MAX_CUE_OFFSET,
     MAX_REPEATED_TEXTS, TimeBase, find_expected_cues, find_single_texts, find_time_bases,
     select_time_bases)
+from subtitles.clock.origin import find_airing_packets
 from subtitles.clock.stretches import (
     EstimatedPart, Stretch, Track, find_airings, find_changes_by_time, fit_parts, limit_bases)
 from subtitles.common.command_line import Lateness
 from subtitles.common.times import CLOCK, EARLY_TICKS, TICKS
 from subtitles.stream.packets import PacketRun, Packets, PageChange
-from .test_clock_properties import make_sent_packets
 
 EACH = 5000  # frames between the starts of two airings of the programme
 SHIFTS = (0, CLOCK - 2 * TICKS - 7)  # first PTS: without a wrap, and shortly before a wrap
@@ -31,6 +31,25 @@ def make_time_base(cues: Sequence[ExpectedCue], several: Sequence[tuple[int, byt
                    length: int = 9999, within: int = 0, shift: int = 0) -> TimeBase:
     return TimeBase(cues, changes_at(several, shift), shift, (shift + TICKS * length) % CLOCK,
                     (0, 99), within)
+
+
+def make_sent_packets(sendings: Sequence[tuple[int, bytes]], every: int = 0) -> Packets:
+    """Return the PES packets of page transmissions, repeated after `every` frames if not 0.
+
+    `sendings` has the unwrapped PTS and the text of each.
+    """
+    packets = Packets(0)
+    shown: bytes | None = None
+    for at, (pts, letters) in enumerate(sendings):
+        end = sendings[at + 1][0] if at + 1 < len(sendings) else pts + 1
+        for place in range(pts, max(end, pts + 1), TICKS * every or 1 << 40):
+            number = packets.count
+            packets.runs.append(PacketRun(number, 1, place % CLOCK, 0, "heo" + "b" * (not letters),
+                                          ""))
+            if letters != shown:
+                packets.changes.append(PageChange(place % CLOCK, letters, number, ((20, letters),)))
+            shown = letters
+    return packets
 
 
 class TimeBases(unittest.TestCase):
@@ -341,6 +360,20 @@ class Runs(unittest.TestCase):
                                  (step, kinds, has_clock))
         self.assertEqual(self.run_frames(self.grid, "rw", EACH), [(0, 1150)])
         self.assertEqual(self.run_frames(self.grid, "rr", EACH), [(0, 1150), (EACH, EACH + 1150)])
+
+    def test_finds_the_pes_packets_of_runs_many_hours_apart(self) -> None:
+        hour = 90_000
+        for away in (14 * hour, 19 * hour + 7):
+            packets = make_sent_packets([
+                (TICKS * (cue.frame + begin), cue.letters) for begin in (0, away)
+                for cue in find_expected_cues(self.due)], hour)
+            half = len(packets.changes) // 2
+            last, first = (item.number for item in packets.changes[half - 1:half + 1])
+            bases = find_time_bases(self.due, packets, 0)
+            runs = find_airings(bases)
+            self.assertEqual([find_airing_packets(runs, at, bases, packets)
+                              for at in range(len(runs))],
+                             [(0, first - 1), (last + 1, packets.count - 1)], away)
 
     def test_returns_the_changes_between_two_places(self) -> None:
         bases = [make_time_base([], [(TICKS * at, b"%d" % at) for at in range(5)], 4)
