@@ -51,65 +51,59 @@ class OriginLines(unittest.TestCase):
                                score=lambda is_one=True: matches)
 
     def test_describes_a_part_by_its_best_origin(self) -> None:
-        rows: list[tuple[Any, int, list[str]]] = [
-            (self.part(9, 9, 9, others=[self.other(at, 9) for at in range(7)]), 20,
-             ["9 of 9 cues in the recording match, 9 with the expected text; the file has 20 cues; "
-              "the next "
-              "best is --origin 0 with 9 cues", "ambiguous: --origin 9 fits no better "
-              "than --origin 0, "
-              "--origin 1, --origin 2, --origin 3, --origin 4 and 2 more"]),
-            (self.part(4, 9, 4), 20,
-             ["4 of 9 cues in the recording match, 4 with the expected text; the file has 20 cues; "
-              "no other origin "
-              "matches a cue", "fewer than half of the cues match with --origin 9: check that this "
-              "is the right subtitle file"]),
-            (self.part(9, 10, 9, within=3, delays=[0], early=EarlyCues(1, 30, 2),
-                       first_unmatched=50),
-             20, ["9 of 10 cues in the recording match, 9 with the expected text; the file has 20 "
-                  "cues; no other "
-                 "origin matches a cue", "no cue is late", "1 of 30 cues is up to 2 frames early "
-                 "compared with the other cues",
-                 "the first cue without a match is at 00:00:02:00"]),
-            (self.part(8, 10, 8, within=3, delays=[0], early=EarlyCues(2, 10, 1)), 20,
-             ["8 of 10 cues in the recording match, 8 with the expected text; the file has 20 "
-              "cues; no other origin "
-              "matches a cue", "no cue is late", "2 of 10 cues are up to 1 frame early compared "
-              "with the other cues: either these cues are early, or the other cues are late. Give "
-              "--origin or --start"])]
-        for count, words in ((5, ""), (6, " and 1 more")):
-            rows.append((self.part(9, 9, 9, first_unmatched=0, others=[
-                self.other(at, 9) for at in range(count)]), 20, [
-                    "9 of 9 cues in the recording match, 9 with the expected text; the file has 20 "
-                    "cues; the next "
-                    "best is --origin 0 with 9 cues", "ambiguous: --origin 9 fits no "
-                    "better than "
-                    f"--origin 0, --origin 1, --origin 2, --origin 3, --origin 4{words}",
-                    "the first cue without a match is at 00:00:00:00"]))
-        rows.append((self.part(3, 3, 3, within=3, delays=[2, 1, 3, 2]), 20, [
-            "3 of 3 cues in the recording match, 3 with the expected text; the file has 20 cues; "
-            "no other origin "
-            "matches a cue",
-            "cues are 1 to 3 frames late (median 2)"]))
-        rows += [(self.part(9, 9, 9, exact_matches=9 - off), 9, [
-            "9 of 9 cues in the recording match, 9 with the expected text; this part has 20 cues; "
-            "no other origin "
-            "matches a cue",
-            f"{off} of the matching cues match only to the nearest frame: PTS that are not whole "
-            "frames "
-            "apart are refused with fault 61"]) for off in (1, 9)]
-        for is_begin, matches, late, line in (
-                (True, 5, 2, "all in-cues are 2 frames late compared with the out-cues"),
-                (False, 4, -1, "4 of 5 out-cues are 1 frame early compared with the in-cues")):
-            apart = SimpleNamespace(is_begin=is_begin, matches=matches, total=5, delay=late)
-            rows.append((self.part(4, 9, 4, apart=apart), 20, [
-                "4 of 9 cues in the recording match, 4 with the expected text; the file has 20 "
-                "cues; no other "
-                "origin matches a cue", line]))
-        for part, count, lines in rows:
-            self.assertEqual([*format_part(part, count, True)], lines, (part, count, lines))
-            self.assertEqual([*format_part(part, count)], [
-                line.replace("--origin or --start", "--origin") for line in lines],
-                             (part, count, lines))
+        def cues(found: str, others: str = "no other origin matches a cue",
+                 total: str = "the file has 20 cues") -> str:
+            matches, _, letters = found.partition(" match, ")
+            return f"{matches} cues in the recording match, {letters} with the expected text; " \
+                f"{total}; {others}"
+
+        next_best = "the next best is --origin 0 with 9 cues"
+        ambiguous = "ambiguous: --origin 9 fits no better than --origin 0, --origin 1, " \
+            "--origin 2, --origin 3, --origin 4"
+        other = [self.other(at, 9) for at in range(7)]
+        begins, ends = (SimpleNamespace(is_begin=is_begin, matches=matches, total=5, delay=late)
+                        for is_begin, matches, late in ((True, 5, 2), (False, 4, -1)))
+        late: dict[str, Any] = {"within": 3, "delays": [0]}
+        rows: dict[str, tuple[Any, list[str]]] = {
+            "seven other origins": (self.part(9, 9, 9, others=other), [
+                cues("9 of 9 match, 9", next_best), f"{ambiguous} and 2 more"]),
+            "six other origins, no cue at the beginning": (
+                self.part(9, 9, 9, first_unmatched=0, others=other[:6]), [
+                    cues("9 of 9 match, 9", next_best), f"{ambiguous} and 1 more",
+                    "the first cue without a match is at 00:00:00:00"]),
+            "five other origins": (self.part(9, 9, 9, others=other[:5]), [
+                cues("9 of 9 match, 9", next_best), ambiguous]),
+            "other texts": (self.part(9, 9, 7), [cues("9 of 9 match, 7")]),
+            "few cues": (self.part(4, 9, 4), [
+                cues("4 of 9 match, 4"), "fewer than half of the cues match with --origin 9: check "
+                "that this is the right subtitle file"]),
+            "an early cue": (
+                self.part(9, 10, 9, early=EarlyCues(1, 30, 2), first_unmatched=50, **late), [
+                    cues("9 of 10 match, 9"), "no cue is late",
+                    "1 of 30 cues is up to 2 frames early compared with the other cues",
+                    "the first cue without a match is at 00:00:02:00"]),
+            "many early cues": (self.part(8, 10, 8, early=EarlyCues(2, 10, 1), **late), [
+                cues("8 of 10 match, 8"), "no cue is late", "2 of 10 cues are up to 1 frame early "
+                "compared with the other cues: either these cues are early, or the other cues are "
+                "late. Give --origin or --start"]),
+            "late cues": (self.part(3, 3, 3, within=3, delays=[2, 1, 3, 2]), [
+                cues("3 of 3 match, 3"), "cues are 1 to 3 frames late (median 2)"]),
+            "late in-cues": (self.part(4, 9, 4, apart=begins), [
+                cues("4 of 9 match, 4"),
+                "all in-cues are 2 frames late compared with the out-cues"]),
+            "early out-cues": (self.part(4, 9, 4, apart=ends), [
+                cues("4 of 9 match, 4"),
+                "4 of 5 out-cues are 1 frame early compared with the in-cues"])}
+        for name, (part, lines) in rows.items():
+            with self.subTest(name):
+                self.assertEqual([*format_part(part, 20, True)], lines)
+                self.assertEqual([*format_part(part, 20)], [
+                    line.replace("--origin or --start", "--origin") for line in lines])
+        for off in (1, 9):
+            self.assertEqual([*format_part(self.part(9, 9, 9, exact_matches=9 - off), 9)], [
+                cues("9 of 9 match, 9", total="this part has 20 cues"),
+                f"{off} of the matching cues match only to the nearest frame: PTS that are not "
+                "whole frames apart are refused with fault 61"], off)
 
     def test_needs_one_part_more_than_breaks(self) -> None:
         for count, printed in itertools.product(range(5), (1, 2, 3)):

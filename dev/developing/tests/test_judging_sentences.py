@@ -8,7 +8,7 @@ import re
 import unittest
 import xml.etree.ElementTree as tree
 from types import SimpleNamespace
-from typing import Any, Callable
+from typing import Any
 
 from developing.pes import make_packet
 from subtitles.common.times import CLOCK, TICKS, format_frame
@@ -29,7 +29,8 @@ from subtitles.judging.transmissions import describe_control_bits
 from subtitles.recording.notices import Notice
 from subtitles.stream.receiver import BLANK_PAGE
 from .bench import Case
-from .judged import ProgrammeCase, judge_files
+from .judged import JudgedPair, ProgrammeCase, judge_files
+from .stories import read_table
 from .transmissions import (
     CLOSING, HEADER, SentPes, join_pes_packets, delay_subtitle, write_programme, make_numbered_row,
     schedule_pages)
@@ -61,73 +62,78 @@ class HeaderOptions(unittest.TestCase):
             self.assertEqual(option and option.word, expected, (bits, judged))
 
 
+GAP = parse_fault_line("refused 73 Gap frame 10:00:00:00")
+NO_CLOCK = f"No clock was given, so a delay that they all share {ADD}."
+SENTENCES: dict[str, tuple[Facts, str]] = {
+    "not judged: the first line of the reason": (
+        Facts(NOT_JUDGED, 0, reason="no\nmore"), "Not judged: no."),
+    "not judged, no reason": (Facts(NOT_JUDGED, 0), "Not judged: check gave no verdict."),
+    "accepted": (Facts(ACCEPTED, 1), "Accepted: 1 subtitle has the right text from the first frame "
+                 "to the last."),
+    "accepted with a tolerance": (Facts(ACCEPTED, 1, within=1), "Accepted: 1 subtitle has the "
+                                  "right text within 1 frame."),
+    "losses": (Facts(LOST, 2, lost=["a", "b", "c"]), "Not accepted: a, and in 2 more places; "
+               "everything that was received is right."),
+    "a loss and a fault that is a warning": (
+        Facts(LOST, 2, first=GAP, faults=1, lost=["a"]),
+        "Not accepted: a; all faults that were found are declared as warnings."),
+    "a loss and a named fault that is a warning": (
+        Facts(LOST, 2, faults=1, named="pictures", lost=["a"]),
+        "Not accepted: a; all faults that were found are declared as warnings."),
+    "--strict, and a subtitle with a waived fault": (
+        Facts(WARNED, 1, refused="one", warnings=["page"]),
+        "Not accepted: --strict treats warnings as faults (page); all faults that were found are "
+        "declared as warnings."),
+    "--strict names each kind of warning once": (
+        Facts(WARNED, 2, warnings=["page", "page", "pause"]), "Not accepted: --strict treats "
+        "warnings as faults (page, pause); everything that was received is right."),
+    "waived": (Facts(WAIVED, 2, first=GAP, faults=1, hint="no header"), "Waived, since these "
+               "faults are declared as warnings: from 10:00:00:00 on, no header."),
+    "all are late, and another fault": (
+        Facts(REFUSED, 1234, first=parse_fault_line("refused 72 Content frame 10:00:00:00"),
+              faults=2, delay=50, counts=[FaultCount(72, "Content", 1), FaultCount(73, "Gap", 1)]),
+        "Refused: all 1,234 subtitles appeared 50 frames late; also 73 Gap."),
+    "the only one is early": (
+        Facts(REFUSED, 1, first=parse_fault_line("refused 63 Early frame 10:00:00:00"), faults=1,
+              delay=-1), "Refused: the subtitle appeared 1 frame early."),
+    "a delay does not explain a gap": (
+        Facts(REFUSED, 2, first=GAP, faults=1, hint="no header", delay=50),
+        "Refused: from 10:00:00:00 on, no header."),
+    "relative": (Facts(RELATIVE, 40), f"All 40 subtitles match relative to each other. {NO_CLOCK}"),
+    "relative, with pictures": (
+        Facts(RELATIVE, 40, has_picture=True), "All 40 subtitles match relative to each other. No "
+        "clock was given, so a delay that they all share was not checked: add --origin PTS, "
+        "--start tcp, or --start TIME (the time code of the recording's first picture on the "
+        "subtitle file's clock)."),
+    "relative with a tolerance": (
+        Facts(RELATIVE, 2, within=1),
+        f"All 2 subtitles match relative to each other within 1 frame. {NO_CLOCK}"),
+    "relative parts": (
+        Facts(RELATIVE, 6, parts=2), "All 6 subtitles match relative to the others in their part. "
+        f"No clock was given, so a delay that all subtitles in a part share {ADD}."),
+    "one relative subtitle": (Facts(RELATIVE, 1), "The subtitle has the right text and duration. "
+                              f"No clock was given, so its delay {ADD}."),
+    "relative and waived": (
+        Facts(RELATIVE, 2, first=GAP, faults=1, hint="no header"), "Waived, since these faults are "
+        "declared as warnings: from 10:00:00:00 on, no header. No clock was given, so a delay that "
+        f"all subtitles share {ADD}."),
+    "two losses and a gap": (
+        Facts(REFUSED, 2, first=parse_fault_line("refused 45 Lost pes 7"), faults=3, lost=[
+            "a", "b"], counts=[FaultCount(45, "Lost", 2), FaultCount(73, "Gap", 1)]),
+        "Refused: a, and in 1 more place; also 73 Gap; record that part again."),
+    "one fault": (Facts(REFUSED, 2, first=GAP, faults=1, hint="no header"),
+                  "Refused: from 10:00:00:00 on, no header."),
+    "three faults": (Facts(REFUSED, 2, first=GAP, faults=3, hint="no header"),
+                     "Refused: from 10:00:00:00 on, no header; 3 faults in all.")}
+
+
 class Sentences(unittest.TestCase):
     def test_describes_each_verdict(self) -> None:
-        fault = parse_fault_line("refused 73 Gap frame 10:00:00:00")
-        packet = parse_fault_line("refused 34 Pts pes 0")
-        block = parse_fault_line("refused 24 Unfinished block 12")
-        for seen, expected in (
-                (Facts(NOT_JUDGED, 0, reason="no\nmore"), "Not judged: no."),
-                (Facts(NOT_JUDGED, 0), "Not judged: check gave no verdict."),
-                (Facts(ACCEPTED, 1), "Accepted: 1 subtitle has the right "
-                 "text from the first frame to the last."),
-                (Facts(ACCEPTED, 1, within=1),
-                 "Accepted: 1 subtitle has the right text within 1 frame."),
-                (Facts(LOST, 2, lost=["a", "b", "c"]),
-                 "Not accepted: a, and in 2 more places; everything that was received is right."),
-                (Facts(LOST, 2, first=fault, faults=1, lost=["a"]),
-                 "Not accepted: a; all faults that were found are declared as warnings."),
-                (Facts(LOST, 2, faults=1, named="pictures", lost=["a"]),
-                 "Not accepted: a; all faults that were found are declared as warnings."),
-                (Facts(WARNED, 1, refused="one", warnings=["page"]), "Not accepted: --strict "
-                 "treats warnings as faults (page); all faults that were found are declared as "
-                 "warnings."),
-                (Facts(WAIVED, 2, first=fault, faults=1, hint="no header"), "Waived, since these "
-                 "faults are declared as warnings: from 10:00:00:00 on, no header."),
-                (Facts(WARNED, 2, warnings=["page", "page", "pause"]), "Not accepted: --strict "
-                 "treats warnings as faults (page, pause); everything that was received is right."),
-                (Facts(REFUSED, 1234,
-                       first=parse_fault_line("refused 72 Content frame 10:00:00:00"),
-                       faults=2, delay=50,
-                       counts=[FaultCount(72, "Content", 1), FaultCount(73, "Gap", 1)]),
-                 "Refused: all 1,234 subtitles appeared 50 frames late; also 73 Gap."),
-                (Facts(REFUSED, 1, first=parse_fault_line("refused 63 Early frame 10:00:00:00"),
-                       faults=1, delay=-1), "Refused: the subtitle appeared 1 frame early."),
-                (Facts(REFUSED, 2, first=fault, faults=1, hint="no header", delay=50),
-                 "Refused: from 10:00:00:00 on, no header."),
-                (Facts(RELATIVE, 40), "All 40 subtitles match relative to each other. No clock was "
-                 "given, so a delay that they all share was not checked: add --origin PTS (the PTS "
-                 "of the subtitle file's 00:00:00:00)."),
-                (Facts(RELATIVE, 40, has_picture=True), "All 40 subtitles match relative to each "
-                 "other. No clock was given, so a delay that they all share was not checked: add "
-                 "--origin PTS, --start tcp, or --start TIME (the time code of the recording's "
-                 "first picture on the subtitle file's clock)."),
-                (Facts(RELATIVE, 2, within=1), "All 2 subtitles match relative to each other "
-                 f"within 1 frame. No clock was given, so a delay that they all share {ADD}."),
-                (Facts(RELATIVE, 6, parts=2), "All 6 subtitles match relative to the others in "
-                 "their part. No clock was given, so a delay that all subtitles in a part share "
-                 f"{ADD}."),
-                (Facts(RELATIVE, 1), "The subtitle has the right text and duration. No clock was "
-                 f"given, so its delay {ADD}."),
-                (Facts(RELATIVE, 2, first=fault, faults=1, hint="no header"), "Waived, since "
-                 "these faults are declared as warnings: from 10:00:00:00 on, no header. No clock "
-                 f"was given, so a delay that all subtitles share {ADD}."),
-                (Facts(REFUSED, 2, first=parse_fault_line("refused 45 Lost pes 7"), faults=3, lost=[
-                    "a", "b"], counts=[FaultCount(45, "Lost", 2), FaultCount(73, "Gap", 1)]),
-                 "Refused: a, and in 1 more place; also 73 Gap; record that part again."),
-                (Facts(REFUSED, 2, first=fault, faults=1, hint="no header"),
-                 "Refused: from 10:00:00:00 on, no header."),
-                (Facts(REFUSED, 2, first=fault, faults=3, hint="no header"),
-                 "Refused: from 10:00:00:00 on, no header; 3 faults in all.")):
-            result = write_sentence(seen)
-            self.assertEqual(result, expected, seen)
-        for reported, begin in ((packet, "Refused: in PES packet 0, "),
-                                (block, "Refused: in block 12, "),
-                                (fault, "Refused: at 10:00:00:00, ")):
-            result = write_sentence(Facts(WAIVED if reported is None else REFUSED, 1,
-                                          first=reported, faults=1))
-            self.assertTrue(result.startswith(begin) and result.endswith(".") and
-                            result.count(".") == 1 and "`" not in result, result)
+        self.assertTrue(ADD.endswith("add --origin PTS (the PTS of the subtitle file's "
+                                     "00:00:00:00)"), ADD)
+        for name, (seen, expected) in SENTENCES.items():
+            with self.subTest(name):
+                self.assertEqual(write_sentence(seen), expected)
 
     def test_has_a_sentence_for_each_number(self) -> None:
         self.assertEqual(set(FAULT_CLAUSES), FAULT_NUMBERS - PACKET_FAULTS_ONLY)
@@ -207,34 +213,32 @@ class LeadingFaults(ProgrammeCase):
         self.must("junit", [failure.get("message") for failure in failures] == [known["sentence"]])
 
 
+# The frames of the received PES packets, by how much all subtitles are late, the fault and the
+# option of the hint, and part of the sentence.
+ENDS = """
+received | late by | hint                  | sentence
+100-1060 | 2       |                       | all 10 subtitles appeared 2 frames late
+100-1060 | -2      |                       | all 10 subtitles appeared 2 frames early
+110-1060 | 0       | 63 --from 00:00:08:00 | the recording begins after the first TCI
+110-1060 | 2       | 63 --from 00:00:08:00 | all 10 subtitles appeared 2 frames late
+100-1050 | 0       | 74 --to 00:00:38:11   | the recording ends before the last TCO
+100-960  | 0       | 74 --to 00:00:38:11   |
+"""
+
+
 class RecordingEnds(ProgrammeCase):
     def test_counts_subtitles_that_are_cut_off(self) -> None:
-        whole = (100, 1060)
-        rows: list[tuple[str, int, tuple[int, int], list[str], str]] = [
-            ("all are late, none is cut "
-             "off", 2, whole, [], "all 10 subtitles appeared 2 frames "
-                                                            "late"),
-            ("all are early, none is cut off", -2, whole, [],
-             "all 10 subtitles appeared 2 frames early"),
-            ("the first one is cut off", 0, (110, 1060), [
-                "63: 1 of 10 subtitles was not recorded completely; use --from 00:00:08:00 to "
-                "judge the others"], "the recording begins after the first TCI"),
-            ("all are late, the first one is cut off", 2, (110, 1060), [
-                "63: 1 of 10 subtitles was not recorded completely; use --from 00:00:08:00 to "
-                "judge the others"], "all 10 subtitles appeared 2 frames late"),
-            ("the last one is cut off", 0, (100, 1050), [
-                "74: 1 of 10 subtitles was not recorded completely; use --to 00:00:38:11 to judge "
-                "the others"], "the recording ends before the last TCO"),
-            ("the ninth one ends in the last frame", 0, (100, 960), [
-                "74: 1 of 10 subtitles was not recorded completely; use --to 00:00:38:11 to judge "
-                "the others"], "")]
-        for name, frames, (first, last), hints, sentence in rows:
-            sent = [(pts, packets) for pts, packets in self.sent
-                    if first * TICKS <= pts <= last * TICKS]
-            judged_pair = self.judge(sent, "--origin", str(-frames * TICKS % CLOCK))
-            ends = [hint for hint in judged_pair.result["hints"] if hint.startswith(("63", "74"))]
-            self.must(name, ends == hints, ends)
-            self.must(name, sentence in judged_pair.verdict.sentence, judged_pair.verdict.sentence)
+        for row in read_table(ENDS):
+            first, last = (TICKS * int(frame) for frame in row["received"].split("-"))
+            sent = [item for item in self.sent if first <= item[0] <= last]
+            judged = self.judge(sent, "--origin", str(-int(row["late by"]) * TICKS % CLOCK))
+            number, _, option = row["hint"].partition(" ")
+            name = f"{row['received']} late by {row['late by']}"
+            self.check(f"{name}: hint", [hint for hint in judged.result["hints"]
+                                         if hint.startswith(("63", "74"))], [
+                f"{number}: 1 of 10 subtitles was not recorded completely; use {option} to judge "
+                "the others"] * bool(number))
+            self.must(f"{name}: sentence", row["sentence"] in judged.sentence, judged.sentence)
 
     def test_never_leads_with_a_waived_fault(self) -> None:
         sent = delay_subtitle(3, 2)(self.sent)
@@ -254,58 +258,62 @@ class RecordingEnds(ProgrammeCase):
             self.must(waived, result.said[-1].startswith(last), result.said[-1])
 
 
+def make_header(c4: int = 8, c5: int = 8, c7: int = 1, c11: int = 8) -> bytes:
+    """Return a header of page 888 with these values, each named for its lowest control bit."""
+    return make_packet(0, 0, [8, 8, 0, c4, 0, c5, c7, c11], b" " * 32)
+
+
+def make_even_parity(letter: bytes, data: bytes) -> bytes:
+    """Give even parity to the last `letter` in a packet, if there is one."""
+    at = bytes(byte & 0x7F for byte in data).rfind(letter, 2) if letter else -1
+    return data if at < 0 else data[:at] + bytes([data[at] ^ 0x80]) + data[at + 1:]
+
+
+# Changed values in the header of a page, and what the sentence says of the page.
+HEADERS = {
+    "c5=0": "hides the picture on some receivers: C6 (subtitle) is clear",
+    "c7=9": "is not shown on some receivers: C10 (inhibit display) is set",
+    "c5=0 c7=0 c11=2": "hides the picture on some receivers: C6 (subtitle) is clear; C7 (suppress "
+    "header) is clear; the header is French",
+    "c5=12": "appears as a newsflash on some receivers: C5 (newsflash) is set",
+    "c11=2": "is shown with wrong characters on some receivers: the header is French",
+    "c4=0": "may appear over old text on some receivers: C4 (erase page) is clear in 1 of "}
+
+
 class NamedPlaces(ProgrammeCase):
     due, words = TIMES, ("--origin", "0", "--option", "german")
+    shown = 'subtitle 3, "Number 3, \u00d6sl"'
 
-    def test_names_subtitles_of_headers_and_characters(self) -> None:
-        sent = schedule_pages(self, write_programme(self, TIMES, text=b"Number %d, \xc8Osl"),
-                              *self.words[2:])
-        name = 'subtitle 3, "Number 3, Ösl"'
+    def judge_with(self, frame: int, header: bytes, even: bytes = b"") -> JudgedPair:
+        """Judge a recording with this header at a frame.
 
-        def header(c4: int = 8, c5: int = 8, c7: int = 1, option: int = 8) -> bytes:
-            return make_packet(0, 0, [8, 8, 0, c4, 0, c5, c7, option], b" " * 32)
+        The last letter `even` in each of its rows has even parity.
+        """
+        self.stl = write_programme(self, TIMES, text=b"Number %d, \xc8Osl")
+        sent = schedule_pages(self, self.stl, *self.words[2:])
+        changed = [(pts, [header, *(make_even_parity(even, item) for item in some[1:])]
+                    if pts == frame * TICKS % CLOCK else some) for pts, some in sent]
+        self.must(f"{frame}: changed", changed != sent)
+        return self.judge(changed)
 
-        def make_even_parity(letter: bytes) -> Callable[[bytes], bytes]:
-            """Return a function that gives even parity to the last `letter` in a packet."""
-            def changed(data: bytes) -> bytes:
-                at = bytes(byte & 0x7F for byte in data).rfind(letter, 2)
-                return data if at < 0 else data[:at] + bytes([data[at] ^ 0x80]) + data[at + 1:]
-            return changed
+    def test_names_the_subtitle_of_a_wrong_header(self) -> None:
+        first, last = TIMES[2]
+        pages = {first: f"10:00:04:00, {self.shown},",
+                 last: "10:00:05:15, the page after subtitle 3"}
+        for (values, effect), (frame, page) in itertools.product(HEADERS.items(), pages.items()):
+            header = make_header(**{name: int(value) for name, _, value in (
+                word.partition("=") for word in values.split())})
+            sentence = self.judge_with(frame, header).sentence
+            expected = f"Refused: at {page} {effect}"
+            self.check(f"{values} at {frame}", sentence[:len(expected)], expected)
 
-        at, end, first = "10:00:04:00", "10:00:05:15", TIMES[2]
-        rows: tuple[tuple[int, str, Callable[[list[bytes]], list[bytes]]], ...] = (
-            (first[0], f'at {at}, the character "Ö" of {name}, has even parity',
-             lambda some: [*map(make_even_parity(b"\\"), some)]),
-            (first[0], f"at {at}, a byte (start box) of {name}, has even parity",
-             lambda some: [some[0], make_even_parity(b"\x0b")(some[1]), *some[2:]]),
-            (first[0], f"at {at}, {name}, hides the picture on some receivers: C6 (subtitle) is "
-                       "clear",
-             lambda some: [header(c5=0), *some[1:]]),
-            (first[0], f"at {at}, {name}, is not shown on some receivers: C10 (inhibit display) is "
-                       "set",
-             lambda some: [header(c7=9), *some[1:]]),
-            (first[0], f"at {at}, {name}, hides the picture on some receivers: C6 (subtitle) is "
-             "clear; C7 (suppress header) is clear; the header is French",
-             lambda some: [header(c5=0, c7=0, option=2), *some[1:]]),
-            (first[0], f"at {at}, {name}, appears as a newsflash on some receivers: C5 (newsflash) "
-                       "is set",
-             lambda some: [header(c5=12), *some[1:]]),
-            (first[0], f"at {at}, {name}, is shown with wrong characters on some receivers: the "
-                       "header is French",
-             lambda some: [header(option=2), *some[1:]]),
-            (first[0], f"at {at}, {name}, may appear over old text on some receivers: C4 (erase "
-             "page) is clear in 1 of ", lambda some: [header(c4=0), *some[1:]]),
-            (first[1], f"at {end}, the page after subtitle 3 hides the picture on some receivers: "
-             "C6 (subtitle) is clear", lambda some: [header(c5=0), *some[1:]]))
-        for frame, expected, change in rows:
-            changed_packets = [(pts, change(some) if pts == 3600 * frame % CLOCK else some)
-                               for pts, some in sent]
-            self.assertNotEqual(changed_packets, sent, (frame, change))
-            judged = self.judge(changed_packets)
-            self.must(expected, judged.result["sentence"].startswith(f"Refused: {expected}"),
-                      judged.result["sentence"])
-        self.must("a hint", any(line.startswith("68: the character ") for line in self.judge(
-            [(pts, rows[0][2](some)) for pts, some in sent]).said))
+    def test_names_the_character_that_has_even_parity(self) -> None:
+        for letter, words in ((b"\\", 'the character "\u00d6"'), (b"\x0b", "a byte (start box)")):
+            judged = self.judge_with(TIMES[2][0], make_header(), letter)
+            expected = f"Refused: at 10:00:04:00, {words} of {self.shown}, has even parity"
+            self.check(words, judged.sentence[:len(expected)], expected)
+            self.must(f"{words}: a hint", any(line.startswith(f"68: {words}")
+                                              for line in judged.said), judged.said)
 
 
 class EmptyRanges(ProgrammeCase):
