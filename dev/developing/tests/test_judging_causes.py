@@ -47,49 +47,43 @@ class SenderFaults(ProgrammeCase):
                 for item in told.result["causes"]]
 
     def test_reports_an_unexpected_text_in_a_pause(self) -> None:
-        wrong = (make_numbered_row(22, b"Others"),)
+        other = (make_numbered_row(22, b"Others"),)
         for number, frame, time in ((1, 60, "10:00:02:10"), (3, 270, "10:00:10:20")):
-            reported = self.judge_pages((frame, wrong))
+            judged = self.judge_pages((frame, other))
             words = f"another text was sent in a pause, at {time}"
-            self.must(f"{frame}", self.causes(reported) == [
-                ("another text in a pause", number, f'{words}; received "Others"')] and
-                reported.sentence == f'Refused: {words}: "Others".' and
-                reported.lines("cause: ") == [f'{words}; received "Others"'], reported.said)
-        reported = self.judge_pages((60, wrong), (270, wrong))
-        self.must("two",
-                  reported.sentence == "Refused: another text was sent in 2 pauses, the "
-                  "first at 10:00:02:10.", reported.verdict.sentence)
-        reported = self.judge_pages((60, wrong), (130, wrong))
-        self.must("a wrong text",
-                  reported.result["cause_counts"]["another text in a pause"] == 1 and
-                  reported.result["cause_counts"]["wrong text"] == 1, reported.said)
+            line = f'{words}; received "Others"'
+            self.check(f"{frame}: causes", self.causes(judged),
+                       [("another text in a pause", number, line)])
+            self.check(f"{frame}: line", judged.lines("cause: "), [line])
+            self.check(f"{frame}: sentence", judged.sentence, f'Refused: {words}: "Others".')
+        self.check("two", self.judge_pages((60, other), (270, other)).sentence,
+                   "Refused: another text was sent in 2 pauses, the first at 10:00:02:10.")
+        counts = self.judge_pages((60, other), (130, other)).result["cause_counts"]
+        self.check("one of them at a subtitle's time", {
+            name: count for name, count in counts.items() if count},
+            {"another text in a pause": 1, "wrong text": 1})
 
     def test_never_names_an_own_text_as_a_foreign_one(self) -> None:
-        reported = self.judge_pages((60, (make_numbered_row(22, b"Number 1"),)))
-        self.must("ours",
-                  "another text in a pause" not in [cause[0] for cause in self.causes(reported)],
-                  reported.said)
+        judged = self.judge_pages((60, (make_numbered_row(22, b"Number 1"),)))
+        self.check("causes", [cause[0] for cause in self.causes(judged)
+                              if cause[0] == "another text in a pause"], [])
 
     def test_names_an_extra_row(self) -> None:
         own = next(packets[1] for pts, packets in self.sent if pts == TICKS * (BEGIN + 100))
-        for rows, words in (((own, make_numbered_row(11, b"Share prices")),
-                             "an additional row: 11"),
-                            ((make_numbered_row(3, b"A"), make_numbered_row(11, b"B"), own),
-                             "additional rows: 3 and "
-                             "11"),
-                            ((make_numbered_row(11, b"Share prices"),
-                              make_numbered_row(22, b"Number 9")), "")):
-            reported = self.judge_pages((100, rows))
-            first_cause = reported.result["causes"][0]
-            self.must(words, first_cause["name"] == "wrong text"
-                      and words in first_cause["line"] and
-                      ("additional" in first_cause["line"]) == bool(words), reported.said)
-            self.must(f"{words}: "
-                      "sentence", (f"has the wrong text ({words}): "
-                                   "expected " if words else
-                                   "has the wrong text: "
-                                   "expected ") in reported.verdict.sentence,
-                      reported.verdict.sentence)
+        prices = make_numbered_row(11, b"Share prices")
+        # The rows that are sent, and what the cause and the sentence say of additional ones.
+        rows: dict[str, tuple[tuple[bytes, ...], str]] = {
+            "one more": ((own, prices), "an additional row: 11"),
+            "two more": ((make_numbered_row(3, b"A"), make_numbered_row(11, b"B"), own),
+                         "additional rows: 3 and 11"),
+            "one more with another text": ((prices, make_numbered_row(22, b"Number 9")), "")}
+        for name, (sent, words) in rows.items():
+            judged = self.judge_pages((100, sent))
+            cause = judged.result["causes"][0]
+            self.check(f"{name}: cause", (cause["name"], cause["line"].partition("; received ")[0]),
+                       ("wrong text", f"wrong text: {words}".removesuffix(": ")))
+            text = "has the wrong text" + f" ({words})" * bool(words) + ": expected "
+            self.must(f"{name}: sentence", text in judged.sentence, judged.sentence)
 
     def test_reports_a_header_without_rows(self) -> None:
         for frame, time in ((10, "10:00:00:10"), (330, "10:00:13:05")):
