@@ -124,6 +124,8 @@ class PictureDepartures(Case):
         rows["leads vary between losses"] = (
             make_video_leads(vary * 4, {6: 2, 11: 1, 15: 1, 21: 3, 25: 3, 31: 2, 37: 2, 42: 3}),
             [None] * 8)
+        rows["away and back at the beginning"] = (
+            make_video_leads([6] * 2 + [7] * 2 + [6] * 40, {2: -1, 4: 1}), [None, None])
         for name, (leads, wanted) in rows.items():
             self.check(name, self.measure_step_ticks(leads), wanted)
 
@@ -227,7 +229,7 @@ class DepartureFaults(Case):
             departures = find_departures(several, TimedPart(1000, 2000, Clock(0, source)))
             self.check(source, [item.ticks for item in departures], expected)
         for behind, both in ((1500, [9, -9]), (2500, [])):
-            pair = [Departure(TICKS * 990, TICKS * 989, 9, is_away=True),
+            pair = [Departure(TICKS * 990, TICKS * 989, 9),
                     Departure(TICKS * behind, TICKS * (behind - 1), -9)]
             self.check(f"back at {behind}", [item.ticks for item in find_departures(
                 pair, TimedPart(1000, 2000, Clock(0, GIVEN)))], both)

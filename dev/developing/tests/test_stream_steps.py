@@ -73,6 +73,10 @@ class Steps(Case):
             "after the last lead": ({490: 36000}, [(content(490), None)])}
         for name, (moves, expected) in rows.items():
             self.check(name, self.locate(*survey_times(make_times(moves))[:2]), expected)
+        for places in ((10, 20), (20, 40), (20, 60)):
+            leads, unusual, _ = survey_times(make_times(dict(zip(places, (36000, -36000)))))
+            self.check(f"away before the first lead, {places}", self.locate(leads[1:], unusual), [
+                (content(at), ticks) for at, ticks in zip(places, (36000, -36000))])
         # Steps at which pictures are lost too: from then on the leads are greater by `lost`.
         for name, moves, lost, place in (
                 ("12 lost, half a frame late", {210: 41400}, 43200, (content(210), -1800)),

@@ -114,9 +114,11 @@ def find_departures(several: Sequence[Departure], alignment: TimedPart) -> list[
     """Return the drifts within a part and, if the clock comes from the first picture, between this
     picture and the part. Also return a drift before the part if pictures come back within it. If
     another drift may be outside the part, its `ticks` are `None`."""
-    places, found = [is_within(departure, alignment) for departure in several], list[Departure]()
-    for departure, here, later in zip(several, places, [*places[1:], False]):
-        if departure.is_away and later or here:
+    found = list[Departure]()
+    for departure, later in zip(several, [*several[1:], None]):
+        here = is_within(departure, alignment)
+        if here or (later and departure.ticks and later.ticks == -departure.ticks
+                    and is_within(later, alignment)):
             found.append(departure)
         elif here is None:
             found.append(departure._replace(ticks=None))

@@ -57,7 +57,6 @@ class Departure(NamedTuple):
     ticks: int | None
     change: int = 0
     margin: int = 0
-    is_away: bool = False  # whether the next departure surely leads back
     # Ticks by which the first picture that may drift belongs before `earlier_pts`, since video is
     # sent earlier or later than Teletext with the same PTS
     ahead: int = 0
@@ -81,20 +80,21 @@ def separate_clock_jumps(leads: Sequence[VideoLead], unusual: Sequence[UnusualSt
     for steps in find_clock_steps(unusual, leads[-1].number):
         at = bisect.bisect_left(numbers, steps[0].number)
         end = bisect.bisect_left(numbers, steps[-1].number + MIN_PICTURES)
-        if not 0 < at <= end < len(leads) or not are_all_steps_known(
-                leads[at - 1], leads[end], rest, steps[0].usual):
+        earlier = max(at - 1, 0)
+        if end == len(leads) or not are_all_steps_known(leads[earlier], leads[end], rest,
+                                                        steps[0].usual):
             continue
         size = measure_jump(leads, at, steps[0], unusual) if len(steps) == 1 else steps[0].ticks
-        found = [make_departure(leads[at - 1], step, ticks)
-                 for step, ticks in zip(steps, (size, steps[-1].ticks))]
-        found[0] = found[0]._replace(is_away=len(steps) > 1)
-        if size is None or not has_own_clock(found):
+        if size is None:
             continue
-        departures += found
-        rest = [step for step in rest if step not in steps]
-        leads = [lead._replace(ticks=lead.ticks + sum(
-            departure.ticks or 0 for step, departure in zip(steps, found)
-            if step.number <= lead.number)) for lead in leads]
+        sizes = [*zip(steps, (size, steps[-1].ticks))]
+        steady = [lead._replace(ticks=lead.ticks + sum(
+            ticks for step, ticks in sizes if step.number <= lead.number)) for lead in leads]
+        found = [make_departure(steady[earlier], step, ticks) for step, ticks in sizes]
+        if has_own_clock(found):
+            departures += found
+            rest = [step for step in rest if step not in steps]
+            leads = steady
     return ClockJumps(departures, leads, rest)
 
 
@@ -111,13 +111,14 @@ def measure_jump(leads: Sequence[VideoLead], at: int, step: UnusualStep,
                  unusual: Sequence[UnusualStep]) -> int | None:
     """Return the ticks by which pictures drift at a step before the lead with index `at`. They are
     those of the step, unless the leads surely show that pictures were lost there too. Return `None`
-    if it is unclear how many were lost, or if the leads stay the same."""
+    if there is no lead before, if the leads stay the same, or if it is unclear how many pictures
+    were lost."""
     end = min((other.number for other in unusual if other.number > step.number),
               default=leads[-1].number + 1)
     before = [lead.ticks for lead in leads[:at]]
     after = [lead.ticks for lead in leads[at:] if lead.number < end]
-    if not after:
-        return step.ticks
+    if not before or not after:
+        return step.ticks if before else None
     mean_change, error = compare_means(before, after)
     if abs(mean_change) + error < ALIKE_TICKS:
         return None
@@ -158,6 +159,7 @@ def find_departures_between_rows(leads: Sequence[VideoLead], steps: Sequence[int
     before each lead."""
     all_ticks, departures = [lead.ticks for lead in leads], list[Departure]()
     row_begin, row_end, ticks = 0, min(ends, default=0), 0
+    unclear = [step.ticks for step in inside.get(0, [])]
     for begin, end in zip(ends, [*ends[1:], len(leads)]):
         ticks += steps[begin - 1]
         if end - begin == 1 and end < len(leads):
@@ -174,6 +176,9 @@ def find_departures_between_rows(leads: Sequence[VideoLead], steps: Sequence[int
         if left == 0 and (is_outside(all_ticks[row_end:begin], before)
                           or not all(step.is_whole for step in here)):
             left = None  # a short drift, a damaged PTS, or a step that no lost picture explains
+        if any(abs(other + ticks) < ALIKE_TICKS for other in unclear):
+            left = None  # pictures may come back
+        unclear = [ticks] if left is None else []
         earlier = leads[row_end - 1]
         places = [step for step in here if step.is_sure and any(
             abs(step.ticks - size) < ALIKE_TICKS for size in (ticks, left or ticks))]
@@ -201,7 +206,7 @@ def find_departures_in_rows(leads: Sequence[VideoLead], ends: Sequence[int],
         before = [lead.ticks for lead in leads[bounds[row_at]:at]]
         after = [lead.ticks for lead in leads[at:bounds[row_at + 1]]]
         change = measure_least_change(before, after) if before and after else 0
-        if change < TICKS // 2 and min(here, key=get_ticks).ticks > 0:
+        if change < TICKS // 2 and all(step.ticks > 0 for step in here):
             continue  # the times of pictures are missing
         departures.append(make_unclear_departure(leads[at - 1], leads[at], here, change))
     return departures
@@ -229,11 +234,7 @@ def collect_steps(leads: Sequence[VideoLead], unusual: Iterable[UnusualStep]) \
 
 def has_return(steps: Sequence[UnusualStep]) -> bool:
     """Return whether the steps may lead away and back."""
-    return len(steps) > 1 and min(steps, key=get_ticks).ticks < 0 < max(steps, key=get_ticks).ticks
-
-
-def get_ticks(step: UnusualStep) -> int:
-    return step.ticks
+    return any(step.ticks < 0 for step in steps) and any(step.ticks > 0 for step in steps)
 
 
 def make_departure(lead: VideoLead, step: UnusualStep, ticks: int | None) -> Departure:
