@@ -113,41 +113,6 @@ class AllDocuments(Case):
         self.must("a new one", self.call([*tool, "--compare", result]).status == 0)
 
 
-USAGE = """usage: subttx COMMAND FILES [options]
-
-  check STL PES          accepts a transmission, or names its place;
-                         --all lists all
-  listen PES --at TIME   prints what a receiver holds
-  packet HEX             explains one packet
-"""
-TABLE = """| Option | Of | Is | Default |
-|---|---|---|---|
-| `--page P` | `check` `listen` | the page: [one](a.md) | `888` |
-| `--all` | `check` | all of `it` | no |
-| `--at TIME` | `listen` | the last frame | has to be there |
-| `--kind K` | `listen` | `a`, `b` or `c` | `a` |
-"""
-HELP = """Cuts.
-
-    tools/text PES [--from TIME]
-              [-o OUT]
-
-It looks at `--from` first.
-
-Status 0 or 2.
-
-positional arguments:
-  PES  the file
-
-options:
-  -h, --help   show it
-  --from TIME  the first frame
-  --kind {a,b}
-               which one
-  -o OUT       the file to write
-"""
-
-
 class GeneratedFiles(Case):
     def test_generated_files_are_up_to_date(self) -> None:
         for name, text in pages.make_pages().items():
@@ -160,49 +125,20 @@ class GeneratedFiles(Case):
 
 
 class GeneratedParts(unittest.TestCase):
-    def test_reads_the_usage(self) -> None:
-        commands = pages.parse_commands(USAGE)
-        self.assertEqual([(item.name, item.files, item.needed) for item in commands],
-                         [("check", "STL PES", []), ("listen", "PES", ["--at"]),
-                          ("packet", "HEX", [])])
-        self.assertEqual(commands[0].does,
-                         "accepts a transmission, or names its place; --all lists all")
+    """Facts of the generator that none of the generated files shows."""
+
+    def test_requires_commands_in_the_usage_text(self) -> None:
         with self.assertRaises(Stop):
             pages.parse_commands("usage: none")
 
-    def test_parses_the_option_table(self) -> None:
-        options = pages.parse_options(TABLE)
-        self.assertEqual([(item.name, item.value, item.commands) for item in options],
-                         [("--page", "P", ["check", "listen"]), ("--all", "", ["check"]),
-                          ("--at", "TIME", ["listen"]), ("--kind", "K", ["listen"])])
-        self.assertEqual([item.list_choices() for item in options], [[], [], [], ["a", "b", "c"]])
-
-    def test_parses_a_help_text(self) -> None:
-        self.assertEqual(pages.parse_entries(HELP), [
-            ("--help", "", "show it"), ("--from", "TIME", "the first frame"),
-            ("--kind", "{a,b}", "which one"), ("-o", "OUT", "the file to write")])
-
-    def test_makes_manual_pages(self) -> None:
-        result = pages.make_program_parts(USAGE, TABLE)
-        self.assertIn(".B listen\n.I PES\n.B \\-\\-at TIME\n.OP \\-\\-page P\n", result["synopsis"])
-        self.assertIn("\\fB\\-\\-page\\fP \\fIP\\fP\nThe page: one. Without it: \\fB888\\fP.",
-                      result["options"])
-        result = pages.make_tool_parts(HELP)
-        self.assertEqual(result["status"], "Status 0 or 2.\n")
-        self.assertIn("Which one. WORD is a, b.", result["options"])
-        self.assertIn("[\\-\\-from TIME] [\\-o OUT]", result["synopsis"])
-
-    def test_makes_a_completion(self) -> None:
-        completion_parts = pages.make_completion_parts(USAGE, TABLE, [HELP])
-        self.assertIn("--kind) _subttx_words 'a b c'", completion_parts["values"])
-        self.assertIn("        --at | --from | --page)\n", completion_parts["values"])
-        self.assertIn("check) options='--page --all' ;;", completion_parts["options"])
-        self.assertEqual(completion_parts["commands"], "    local commands='check listen packet'\n")
+    def test_a_command_is_no_value_of_an_option(self) -> None:
+        for cell, values in (("`a`, `b` or `check`", []), ("`a`, `b` or `c`", ["a", "b", "c"])):
+            option, = pages.parse_options(f"| `--kind K` | `check` | {cell} | `a` |\n")
+            self.assertEqual(option.list_choices(), values)
 
     def test_inserts_generated_parts_between_markers(self) -> None:
-        text = "a\n# made: one\nold\n# end\nb\n"
-        self.assertEqual(pages.replace_parts(text, {"one": "new\n"}),
-                         "a\n# made: one\nnew\n# end\nb\n")
+        text = "a\n# made: one\nold\n# end\nb\n# made: other\nkept\n# end\n"
+        self.assertEqual(pages.replace_parts(text, {"one": "new\n"}), text.replace("old", "new"))
         with self.assertRaises(Stop):
             pages.replace_parts(text, {"two": ""})
 
