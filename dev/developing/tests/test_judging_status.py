@@ -20,9 +20,9 @@ from subtitles.judging.sentence import (
     CAUSE_RANKS, NAME_RANKS, NUMBER_RANKS, Rank, WorstFault, find_worst_cause, find_worst_fault,
     find_worst_named_fault, rank_number)
 from subtitles.judging.status import (
-    ACCEPTED, CheckSummary, Decision, FAULT_NUMBERS, Grounds, LOST, NOT_ANSWERED, NOT_JUDGED,
-    NOTHING_READ, REFUSED, RELATIVE, Severity, STATUSES, WAIVED, WARNED, combine_statuses, decide,
-    decide_part, matches_exit_status)
+    ACCEPTED, CheckSummary, DIFFERS, Decision, FAULT_NUMBERS, Grounds, LOST, NOT_ANSWERED,
+    NOT_JUDGED, NOTHING_READ, REFUSED, RELATIVE, SAME, Severity, STATUSES, WAIVED, WARNED,
+    combine_statuses, decide, decide_comparison, decide_part, matches_exit_status)
 from .bench import Case
 from .parts import make_answer, make_part
 
@@ -182,6 +182,21 @@ class Decisions(unittest.TestCase):
         with self.subTest(name, losses=losses, allowed=is_allowed, warnings=warnings,
                           strict=seen.is_strict, clock=clock):
             self.assertEqual(get_outcome(result), decide_by_clock(expected, clock))
+
+    def test_two_recordings_differ_by_any_fault(self) -> None:
+        accepted, waived = [RIGHT["accepted"]], [RIGHT["waived"]]
+        rows: dict[str, tuple[Grounds, str, str]] = {  # the verdict with and without a clock
+            "no fault": (Grounds(accepted, NAMED), SAME, RELATIVE),
+            "an error": (Grounds([RIGHT["refused"]], NAMED), DIFFERS, DIFFERS),
+            "a waived fault": (Grounds(waived, NAMED), DIFFERS, DIFFERS),
+            "an allowed loss": (Grounds(accepted, ALLOWING_SEVERITIES[0], [True]), DIFFERS,
+                                DIFFERS),
+            "no answer": (Grounds([WRONG["silent"]], NAMED), NOT_JUDGED, NOT_JUDGED)}
+        for name, (grounds, with_clock, without) in rows.items():
+            with self.subTest(name):
+                self.assertEqual([decide_comparison(
+                    grounds._replace(has_clock=has_clock), False, 0).word
+                    for has_clock in (True, False)], [with_clock, without])
 
     def test_is_not_judged_after_a_failure(self) -> None:
         for name, printed in (RIGHT | WRONG).items():
