@@ -42,9 +42,9 @@ impl InputKinds {
     }
 }
 
-/// Returns whether a line is a fault that times in the wrong order cause: 21, a TCI that is not
-/// before its TCO, or 56, a TCI before the TCI of the previous subtitle.
-pub fn is_time_fault(line: &[u8]) -> bool {
+// Returns whether a line is a fault that times in the wrong order cause: 21, a TCI that is not
+// before its TCO, or 56, a TCI before the TCI of the previous subtitle.
+pub(crate) fn is_time_fault(line: &[u8]) -> bool {
     line.starts_with(b"refused 21 ") || line.starts_with(b"refused 56 ")
 }
 
