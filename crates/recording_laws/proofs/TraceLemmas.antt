@@ -9,7 +9,8 @@ use Rattle.recording_laws.proofs.LossyCarrierLemmas.{IsLastCounter, few-gone, fe
 use Rattle.recording_laws.proofs.LossyCarrierLemmas.{fresh-later}
 use Rattle.recording_laws.proofs.LossyCarrierLemmas.{break-left, AreCountersConsecutive}
 use Rattle.recording_laws.proofs.LossyCarrierLemmas.{IsPacketCopy, IsAnyLossyCarrier}
-use Rattle.recording_laws.proofs.LossyCarrierLemmas.{carried_bytes-no_jump, copy-again, cut-left}
+use Rattle.recording_laws.proofs.LossyCarrierLemmas.{carrier_announces_no_jump, copy-again}
+use Rattle.recording_laws.proofs.LossyCarrierLemmas.{cut-left}
 use Rattle.recording_laws.proofs.LossyCarrierLemmas.{good_packet_after_loss}
 use Rattle.recording_laws.proofs.LossyCarrierLemmas.{link_after_loss, linked_packet-left}
 use Rattle.std.proofs.lemmas.Bool.{cases_Bool}
@@ -238,7 +239,7 @@ module _ (distance number : ℕ) (few : Bool) where
       p = sent_packet distance c.packet
 
       none : announces_jump p ≡ false
-      none = carried_bytes-no_jump number p h.is_carrier.carries h.packet.no_jump
+      none = carrier_announces_no_jump number p h.is_carrier.carries h.packet.no_jump
 
       packet_copies_itself : IsPacketCopy p p
       packet_copies_itself = record

@@ -44,7 +44,7 @@ use Rattle.stl_rows.specs.Loading.{loaded_programme, subtitles_of_findings}
 use Rattle.stl_rows.proofs.JudgedLemmas.{faultless_file_is_decided}
 use Rattle.stl_rows.proofs.KeepingLemmas.{RecordsMatchFaults, judged-end, judged-next}
 use Rattle.stl_rows.proofs.KeepingLemmas.{judged-refused}
-use Rattle.stl_rows.proofs.KeepingLemmas.{judged-start, judged_after_call, none-first}
+use Rattle.stl_rows.proofs.KeepingLemmas.{judged-start, judged_with_kept, none-first}
 use Rattle.stl_rows.proofs.KeepingLemmas.{all_kept_means_no_faults}
 use Rattle.stl_rows.proofs.KeepingLemmas.{judged_subtitles_with_bits-subtitles}
 use Rattle.stl_file.specs.KeptBlocks.{is_read_to_the_end}
@@ -159,7 +159,7 @@ pub record LoadingInvariant (drawing : Drawing) (file : List ℕ) (left : Findin
     (before : Option Times)
     (kept : KeptRecords) (early : List LoadFault) : Type 0 where
   pub same : faults drawing file ≡ early ++ faults_after drawing before left
-  pub judged : judged_of drawing file ≡ judged_after_call drawing before kept left
+  pub judged : judged_of drawing file ≡ judged_with_kept drawing before kept left
   pub whole : is_read_to_the_end (findings_within_scope drawing.scope file) ≡ is_read_to_the_end
       left
   pub ends_after : (rest : List LoadFault) (at : ℕ)

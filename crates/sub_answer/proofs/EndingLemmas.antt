@@ -53,10 +53,10 @@ pub first_input_is_source : (request : Request) (source pes_packets : InputCall)
 first_input_is_source request source pes_packets is =
     subst (λ (b : Bool). (if b then pes_packets else source) ≡ source) (sym is) refl
 
-pub first_pes_packets : (request : Request) (source pes_packets : InputCall) → reads_pes_packets
-    request ≡ true
+pub first_input_is_pes_packets : (request : Request) (source pes_packets : InputCall)
+    → reads_pes_packets request ≡ true
     → first_input request source pes_packets ≡ pes_packets
-first_pes_packets request source pes_packets is =
+first_input_is_pes_packets request source pes_packets is =
     subst (λ (b : Bool). (if b then pes_packets else source) ≡ pes_packets) (sym is) refl
 
 both_inputs_are_empty : (b : Bool) (source pes_packets : InputCall)
@@ -312,8 +312,8 @@ followed_of_pes_packets request source pes_packets FirstFails Second None IsAlon
     none =
     followed_pes_packets request (fails pes_packets) Second None IsAlone FirstFails reads
     (flushes_before_implies request _ _ _ _ _ _
-    (λ f. equal_inputs_fail_equally _ _ (first_pes_packets request source pes_packets reads)
-    (first f))
+    (λ f. equal_inputs_fail_equally _ _
+    (first_input_is_pes_packets request source pes_packets reads) (first f))
     (λ f. f)
     (λ so. so) is)
     none
@@ -327,8 +327,8 @@ pub written_of_pes_packets :
     → WritesBeforeRead request FirstFails None
 written_of_pes_packets request source pes_packets FirstFails Before None reads first is none =
     writes_before_implies request _ _ _ _
-    (λ f. equal_inputs_fail_equally _ _ (first_pes_packets request source pes_packets reads)
-    (first f))
+    (λ f. equal_inputs_fail_equally _ _
+    (first_input_is_pes_packets request source pes_packets reads) (first f))
     (λ so. so none) is
 
 pub followed_before :

@@ -61,14 +61,16 @@ same_status :
     → result ≡ status
 same_status printed new status result h runs = grind (arith, nat_tests)
 
-abbrev Reports : Request → List ℕ → List ℕ → Status → Type 0
-Reports (ask.Check stl pes options national layout scope all) file bytes status =
+-- For `check`: the status is `Done` exactly if the PES packets that were read are accepted for the
+-- subtitle file. This says nothing about another command.
+abbrev IsDoneExactlyIfAccepted : Request → List ℕ → List ℕ → Status → Type 0
+IsDoneExactlyIfAccepted (ask.Check stl pes options national layout scope all) file bytes status =
     (read : List ℕ)
     → bytes_in_range pes.range (carried_bytes_if_stream pes.stream (Some bytes)) ≡ Some read
     → (status ≡ Done) ↔ IsAcceptedBy (drawing_within national layout scope) options file read
-Reports _ file bytes status = ⊤
+IsDoneExactlyIfAccepted _ file bytes status = ⊤
 
-reports :
+done_exactly_if_accepted :
     (request : Request) (file bytes : List ℕ) (stl_left pes_left : Option (List ℕ))
     (Untouched : Type 0) (IsFile : InputCall → SinkCall → Type 0) (IsAlone : Lines → Type 0)
     (old new : Lines) (result : Status)
@@ -77,8 +79,8 @@ reports :
     IsAlone
     old new result
     → result ≢ Fault
-    → Reports request file bytes result
-reports
+    → IsDoneExactlyIfAccepted request file bytes result
+done_exactly_if_accepted
     (ask.Check stl pes options national layout scope true) file bytes stl_left pes_left Untouched
     IsFile IsAlone old new result e runs =
     λ read read_is.
@@ -90,7 +92,7 @@ reports
     e.first_is) read
     (part_of_memory_file_is_read _ bytes pes_left e.second e.second_is ∙ read_is)
     (λ fails. runs (same ∙ fails)))
-reports
+done_exactly_if_accepted
     (ask.Check stl pes options national layout scope false) file bytes stl_left pes_left Untouched
     IsFile IsAlone old new result e runs =
     λ read read_is.
@@ -102,16 +104,17 @@ reports
     e.first_is) read
     (part_of_memory_file_is_read _ bytes pes_left e.second e.second_is ∙ read_is)
     (λ fails. runs (same ∙ fails)))
-reports ask.Help _ _ _ _ _ _ _ _ _ _ _ _ = tt
-reports ask.Version _ _ _ _ _ _ _ _ _ _ _ _ = tt
-reports (ask.Packet packet) _ _ _ _ _ _ _ _ _ _ _ _ = tt
-reports (ask.Packets pes) _ _ _ _ _ _ _ _ _ _ _ _ = tt
-reports (ask.Show stl) _ _ _ _ _ _ _ _ _ _ _ _ = tt
-reports (ask.Normal input output) _ _ _ _ _ _ _ _ _ _ _ _ = tt
-reports (ask.Schedule stl pes options serial national layout scope) _ _ _ _ _ _ _ _ _ _ _ _ = tt
-reports (ask.Listen pes listening) _ _ _ _ _ _ _ _ _ _ _ _ = tt
-reports (ask.Extract recording pes stream) _ _ _ _ _ _ _ _ _ _ _ _ = tt
-reports (ask.Survey recording options) _ _ _ _ _ _ _ _ _ _ _ _ = tt
+done_exactly_if_accepted ask.Help _ _ _ _ _ _ _ _ _ _ _ _ = tt
+done_exactly_if_accepted ask.Version _ _ _ _ _ _ _ _ _ _ _ _ = tt
+done_exactly_if_accepted (ask.Packet packet) _ _ _ _ _ _ _ _ _ _ _ _ = tt
+done_exactly_if_accepted (ask.Packets pes) _ _ _ _ _ _ _ _ _ _ _ _ = tt
+done_exactly_if_accepted (ask.Show stl) _ _ _ _ _ _ _ _ _ _ _ _ = tt
+done_exactly_if_accepted (ask.Normal input output) _ _ _ _ _ _ _ _ _ _ _ _ = tt
+done_exactly_if_accepted
+    (ask.Schedule stl pes options serial national layout scope) _ _ _ _ _ _ _ _ _ _ _ _ = tt
+done_exactly_if_accepted (ask.Listen pes listening) _ _ _ _ _ _ _ _ _ _ _ _ = tt
+done_exactly_if_accepted (ask.Extract recording pes stream) _ _ _ _ _ _ _ _ _ _ _ _ = tt
+done_exactly_if_accepted (ask.Survey recording options) _ _ _ _ _ _ _ _ _ _ _ _ = tt
 
 over_both :
     (request : Request) (opened : OpenedFiles (List ℕ) MemSinkValue) (first second : List ℕ)
@@ -140,8 +143,8 @@ law_of_files_in_memory IsAlone
     subst
     (λ f. (status ≡ Done) ↔ IsAcceptedBy (drawing_within national layout scope) options f read)
     (same_bytes _ o.first file o.first_is file_is)
-    (reports (ask.Check stl pes options national layout scope all) o.first o.second h.left.first
-    h.left.second _ _ IsAlone old new status
+    (done_exactly_if_accepted (ask.Check stl pes options national layout scope all) o.first o.second
+    h.left.first h.left.second _ _ IsAlone old new status
     (over_both (ask.Check stl pes options national layout scope all) h.files o.first o.second h.left
     IsAlone old new status o.opened_eq h.ends)
     runs read

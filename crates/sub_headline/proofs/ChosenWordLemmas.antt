@@ -65,8 +65,8 @@ abbrev values_after_parts : Text → List (List Text) → List DisplayOption →
 values_after_parts id vs parts = fold (values_with_choice id) vs parts
 
 -- The first text among an argument's values, or the default text if there are none.
-abbrev text_without_zeros : Text → List (List Text) → Text
-text_without_zeros default vs = unwrap_or (first_text (or_default vs (default ∷ []))) []
+abbrev text_or_default : Text → List (List Text) → Text
+text_or_default default vs = unwrap_or (first_text (or_default vs (default ∷ []))) []
 
 -- The names of the arguments of `check` to which an option may give a value.
 abbrev keys : List Text
@@ -147,8 +147,8 @@ not_given id apart vs (part ∷ parts) =
     ∙ not_given id apart vs parts
 
 abbrev parsed_option_text : {A : Type 0} → (Text → Option A) → Option Text → Option (Option A)
-parsed_option_text printed_usage_fault_is_fault text = option_map_or (λ text. option_map Some
-    (printed_usage_fault_is_fault text)) text (Some None)
+parsed_option_text parse text =
+    option_map_or (λ text. option_map Some (parse text)) text (Some None)
 
 -- The number of frames in the text of `--pace`: at least 1, and at most the frames of a day.
 abbrev pace_of_text : Text → Option ℕ
@@ -158,19 +158,19 @@ pace_of_text text = between 1 day (number_of_text text)
 record OptionsHaveValues (held : Text → List (List Text)) (l : DisplayOptions) : Type 0
   where
     pub page_is :
-        page_of_text (text_without_zeros (codes "888") (held (codes "page"))) ≡ Some
+        page_of_text (text_or_default (codes "888") (held (codes "page"))) ≡ Some
         l.reading.options.page
     pub every_eq :
-        number_of_text (text_without_zeros (codes "250") (held (codes "every"))) ≡ Some
+        number_of_text (text_or_default (codes "250") (held (codes "every"))) ≡ Some
         l.reading.options.every
     pub origin_eq :
-        number_of_text (text_without_zeros (codes "0") (held (codes "origin"))) ≡ Some
+        number_of_text (text_or_default (codes "0") (held (codes "origin"))) ≡ Some
         l.reading.options.origin
     pub pace_eq :
         parsed_option_text pace_of_text (first_text (held (codes "pace"))) ≡ Some
         l.reading.options.pace
     pub complete_eq :
-        bytes_eq (text_without_zeros (codes "false") (held (codes "complete")))
+        bytes_eq (text_or_default (codes "false") (held (codes "complete")))
         (codes "true")
         ≡ l.reading.options.asks_complete
     pub within_option_is_zero : l.reading.options.within ≡ 0
@@ -178,7 +178,7 @@ record OptionsHaveValues (held : Text → List (List Text)) (l : DisplayOptions)
     pub pid_eq : parsed_option_text pid_of_text (first_text (held (codes "pid"))) ≡ Some
         l.reading.pid
     pub size_eq :
-        packet_size_of_text (text_without_zeros (codes "188")
+        packet_size_of_text (text_or_default (codes "188")
         (held (codes "packet-size")))
         ≡ Some l.reading.size
     pub range_eq : parsed_option_text range_of_text
@@ -191,10 +191,10 @@ record OptionsHaveValues (held : Text → List (List Text)) (l : DisplayOptions)
         option_map_or frame_of_text (first_text (held (codes "to"))) (Some day)
         ≡ Some l.reading.scope.to
     pub open_eq :
-        bytes_eq (text_without_zeros (codes "false") (held (codes "open"))) (codes "true")
+        bytes_eq (text_or_default (codes "false") (held (codes "open"))) (codes "true")
         ≡ l.reading.scope.takes_open
     pub option_eq :
-        named_option (text_without_zeros (codes "english") (held (codes "option"))) ≡
+        named_option (text_or_default (codes "english") (held (codes "option"))) ≡
         Some l.national
     pub layout_eq :
         option_map_or layout_of_text (first_text (held (codes "layout")))
@@ -310,7 +310,7 @@ options_keep_texts id (part ∷ parts) vs has =
 
 nonempty_values_have_text : (default : Text) (vs : List (List Text))
     → HasText vs
-    → first_text (or_default vs (default ∷ [])) ≡ Some (text_without_zeros default vs)
+    → first_text (or_default vs (default ∷ [])) ≡ Some (text_or_default default vs)
 nonempty_values_have_text default [] has = refl
 nonempty_values_have_text default ([] ∷ vs) has = absurd has
 nonempty_values_have_text default ((text ∷ more) ∷ vs) has = refl
@@ -324,33 +324,33 @@ record RowsHaveValues (rows : List Row) (stl recording : Text) (held : Text → 
     : Type 0 where
   pub stl_eq : first_of (codes "stl") rows ≡ Some stl
   pub recording_eq : first_of (codes "recording") rows ≡ Some recording
-  pub page_is : first_of (codes "page") rows ≡ Some (text_without_zeros (codes "888")
+  pub page_is : first_of (codes "page") rows ≡ Some (text_or_default (codes "888")
       (held (codes "page")))
   pub every_eq :
       first_of (codes "every") rows ≡ Some
-      (text_without_zeros (codes "250") (held (codes "every")))
+      (text_or_default (codes "250") (held (codes "every")))
   pub origin_eq :
       first_of (codes "origin") rows ≡ Some
-      (text_without_zeros (codes "0") (held (codes "origin")))
+      (text_or_default (codes "0") (held (codes "origin")))
   pub complete_eq :
       first_of (codes "complete") rows ≡ Some
-      (text_without_zeros (codes "false") (held (codes "complete")))
-  pub all_eq : first_of (codes "all") rows ≡ Some (text_without_zeros (codes "false")
+      (text_or_default (codes "false") (held (codes "complete")))
+  pub all_eq : first_of (codes "all") rows ≡ Some (text_or_default (codes "false")
       (held (codes "all")))
   pub option_eq :
       first_of (codes "option") rows ≡ Some
-      (text_without_zeros (codes "english") (held (codes "option")))
+      (text_or_default (codes "english") (held (codes "option")))
   pub layout_eq : first_of (codes "layout") rows ≡ first_text (held (codes "layout"))
   pub from_eq : first_of (codes "from") rows ≡ first_text (held (codes "from"))
   pub to_eq : first_of (codes "to") rows ≡ first_text (held (codes "to"))
   pub open_eq :
       first_of (codes "open") rows ≡ Some
-      (text_without_zeros (codes "false") (held (codes "open")))
+      (text_or_default (codes "false") (held (codes "open")))
   pub within_option_is_zero : first_of (codes "within") rows ≡ Some (codes "0")
   pub pid_eq : first_of (codes "pid") rows ≡ first_text (held (codes "pid"))
   pub packet_size_eq :
       first_of (codes "packet-size") rows
-      ≡ Some (text_without_zeros (codes "188") (held (codes "packet-size")))
+      ≡ Some (text_or_default (codes "188") (held (codes "packet-size")))
   pub pes_eq : first_of (codes "pes") rows ≡ first_text (held (codes "pes"))
   pub pace_eq : first_of (codes "pace") rows ≡ first_text (held (codes "pace"))
   pub keeping_eq : first_of (codes "keeping") rows ≡ Some (codes "false")
@@ -524,7 +524,7 @@ scope_eq rows from to also scope from_eq to_eq open_eq from_says to_says open_sa
 -- The arguments contain `--all`.
 abbrev lists_all : (Text → List (List Text)) → Bool
 lists_all held = bytes_eq
-    (text_without_zeros (codes "false") (held (codes "all"))) (codes "true")
+    (text_or_default (codes "false") (held (codes "all"))) (codes "true")
 
 module _ (rows : List Row) (stl recording : Text) (held : Text → List (List Text))
     (l : DisplayOptions)
@@ -604,10 +604,10 @@ options_are_equal : (o : OptionsValue)
 options_are_equal o within keeps = grind (arith, nat_tests)
 
 -- With any of these options `within` is 0, and each header of the page has to erase the page.
-pub check_arguments_are_found : (parts : List DisplayOption)
+pub options_allow_no_delay_or_keeping : (parts : List DisplayOption)
     → ((display_options_of parts).reading.options.within ≡ 0)
     × IsFalse (display_options_of parts).reading.options.keeps
-check_arguments_are_found parts =
+options_allow_no_delay_or_keeping parts =
     let m = options_keep_meaning nothing (display_options_of []) parts no_options_give_defaults in
     (m.within_option_is_zero, m.keeps_is_false)
 

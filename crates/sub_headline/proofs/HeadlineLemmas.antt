@@ -70,7 +70,7 @@ use Rattle.sub_headline.specs.PlainArguments.{IsName}
 use Rattle.sub_headline.specs.Run.{RunsProgram}
 use Rattle.sub_headline.proofs.ChosenWordLemmas.{law_of_chosen_arguments, law_of_display_arguments}
 use Rattle.sub_headline.proofs.ChosenWordLemmas.{law_of_part_arguments, display_of_parts}
-use Rattle.sub_headline.proofs.ChosenWordLemmas.{check_arguments_are_found}
+use Rattle.sub_headline.proofs.ChosenWordLemmas.{options_allow_no_delay_or_keeping}
 use Rattle.sub_headline.proofs.ChosenWordLemmas.{choices_keep_reading}
 use Rattle.sub_headline.proofs.AcceptanceLemmas.{law_of_plain_acceptance, programme_of}
 use Rattle.sub_headline.proofs.EnglishAcceptanceLemmas.{drawn_of, files_of_request}
@@ -464,7 +464,7 @@ module _ {K : Type 0} (contents : K → Option (List ℕ)) (failure_count : K �
       (stream_of (reading_of parts)) (reading_of parts).range (reading_of parts).options English
       default_layout (reading_of parts).scope
   requests_check_parts program stl pes parts is_stl is_pes =
-      let by = check_arguments_are_found (map Of parts) in
+      let by = options_allow_no_delay_or_keeping (map Of parts) in
       let at = ap (λ (l : DisplayOptions). l.reading.options)
       (display_of_parts (display_options_of [])
       parts) in
@@ -498,7 +498,7 @@ module _ {K : Type 0} (contents : K → Option (List ℕ)) (failure_count : K �
       pes_eq not_two.
       let l = display_options_of display_options in
       let r = l.reading in
-      let by = check_arguments_are_found display_options in
+      let by = options_allow_no_delay_or_keeping display_options in
       exit_code_decides_acceptance
       (program ∷ codes "check" ∷ stl ∷ pes ∷ flat_map arguments_of_display_option
       display_options)
@@ -521,7 +521,7 @@ module _ {K : Type 0} (contents : K → Option (List ℕ)) (failure_count : K �
       stl pes
       None None (options_of_check_options choices) English default_layout whole
   requests_check_chosen program stl pes choices is_stl is_pes =
-      let by = check_arguments_are_found (map Of (map Any choices)) in
+      let by = options_allow_no_delay_or_keeping (map Of (map Any choices)) in
       let at =
       ap (λ (l : DisplayOptions). l.reading.options)
       (display_of_parts (display_options_of []) (map Any choices))

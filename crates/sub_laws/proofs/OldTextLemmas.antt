@@ -156,7 +156,7 @@ module _ (keeps : Bool) (programme : ProgrammeValue) (transmission : Transmissio
       (packets_between transmission (e - options.within) (e + options.within + 1))
       ≡ true
   begins =
-      let (f, late, run_is_within_delay_and_unmissed, is) = finished in
+      let (f, late, early, is) = finished in
       let frames = transmission in
       let after = packets_between frames (f + 1) (e + options.within + 1) in
       let split =

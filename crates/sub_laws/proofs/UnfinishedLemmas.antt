@@ -101,8 +101,7 @@ module _ (un : ℕ → Bool) (first : ℕ) where
       go (Some r) is =
           let first_unfinished = run_start_is_first_unfinished k r is in
           elim (cases_lt a r) [
-            | inr run_is_within_delay_and_unmissed ↦ absurd
-                (late r is run_is_within_delay_and_unmissed)
+            | inr not_after ↦ absurd (late r is not_after)
             | inl after ↦ elim first_unfinished.begins [
               | inl start ↦ absurd (omega arith)
               | inr (some, before) ↦
