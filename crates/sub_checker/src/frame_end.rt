@@ -124,7 +124,8 @@ impl<'a> Checker<'a> {
         self.repeat_deadline <= self.frame + 1
     }
 
-    // Returns whether no PES packet, valid or not, has come within `--pace` frames.
+    // Returns whether at least `--pace` frames have passed since the latest frame with a valid PES
+    // packet. Skipped PES packets do not count. Returns false without `--pace`.
     #[inline(always)]
     fn is_silent(&self) -> bool
         ensures { result ≡ is_silent_for self.now.pace self.now.latest_frame self.now.frame }

@@ -79,7 +79,8 @@ fn has_text_at(bytes: &[u8], place: usize, text: &[u8]) -> bool {
     }
 }
 
-// Returns whether bytes contain `SYNC_BYTES` sync bytes (47), the first of them at `start`.
+// Returns whether bytes contain `SYNC_BYTES` sync bytes (0x47), `size` bytes apart, the first of
+// them at `start`.
 fn has_sync_bytes(bytes: &[u8], start: usize, size: usize) -> bool {
     for number in 0..SYNC_BYTES {
         let place = start.saturating_add(number.saturating_mul(size));

@@ -93,8 +93,8 @@ pub record IsReceivedPesPacket (l : Listening) (frames : Transmission) (i : ℕ)
 abbrev pub AreReceivedPesPackets : Listening → Transmission → ℕ → Type 0
 AreReceivedPesPackets l frames n = (i : ℕ) → i < n → IsReceivedPesPacket l frames i
 
--- Reception ends after n PES packets: the file ends, or the frame of the next PES packet is after
--- TIME.
+-- Reception ends after n PES packets: the file ends without a fault, or the frame of the next PES
+-- packet is not too early (`least_frame`) and is after TIME.
 abbrev pub EndsAfterPesPacket : Listening → Transmission → Option UnreadReason → ℕ → Type 0
 EndsAfterPesPacket l frames unread n =
     ((n ≡ length frames) × (unread ≡ None))

@@ -141,8 +141,8 @@ impl Carrier {
         Some(pts)
     }
 
-    // Counts packets that are lost before a good packet, by its counter. Returns whether the packet
-    // follows the last good packet.
+    // Adds the number of packets lost before a good packet, by its counter. Returns false if
+    // packets were lost or a jump of the counter was announced.
     fn count_lost_packets(&mut self, packet: &[u8; PACKET]) -> bool
         ensures { self.new.pid ≡ self.old.pid }
     {
