@@ -44,8 +44,9 @@ pub record HasRead
       → findings_from scope from refused (bytes ++ more)
       ≡ findings_with_room scope (max_blocks - block) begun more
 
--- If the source fails within a block, no result of the file has a smaller block number, whatever
--- bytes follow.
+-- If the source fails within a block, every result from this call on has the number of this block
+-- or a greater one, whatever bytes follow; only `Unfinished` may have the number of the block
+-- before.
 pub failed_source_fails_reading : (scope : Scope) (from block : ℕ)
     (refused : Option StartedSubtitle)
     (old mid new : Option (List ℕ)) (begun : Option StartedSubtitle) (bytes : List ℕ)

@@ -95,7 +95,8 @@ subtitle_blocks_end_the_list : (s : SubtitleValue) (bs : List (List ℕ))
 subtitle_blocks_end_the_list s [] a h k = absurd cc
 subtitle_blocks_end_the_list s (b ∷ bs) a h k = last_block_is_subtitle_block [] b bs h k
 
--- If a call returns a subtitle, the bytes consumed are the blocks of the subtitle.
+-- If a call returns a subtitle and no rejected subtitle remains to be skipped, the bytes consumed
+-- are the blocks of the subtitle, with the skipped blocks before and inside them.
 pub found_subtitle_is_consumed : (from to : ℕ) (old new : Option (List ℕ)) (s : SubtitleValue)
     (kept : Option (List ℕ))
     → kept ≡ None

@@ -150,7 +150,7 @@ FindsFrom block (finds s at more) = (block ≤ at) × FindsFrom block more
 FindsFrom block (refuses f at more) = (block ≤ at) × FindsFrom block more
 
 -- The source failed: `to` is the block of the first byte that could not be read. Whatever follows
--- the bytes consumed, no result has a smaller block number.
+-- the bytes consumed, the results have at least this block number, in the sense of `FindsFrom`.
 pub record FailsReading
     (scope : Scope) (from to : ℕ) (refused : Option StartedSubtitle) (old new : Option (List ℕ))
     : Type 0 where

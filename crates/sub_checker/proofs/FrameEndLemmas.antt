@@ -112,7 +112,8 @@ end_events_agree g frames zero n f old new last is at now = rw (is, now)
     (first_end_events_ignore_previous_frame _ _ _ _)
 end_events_agree g frames (suc i) n f old new last is at now = rw (is, now, at (omega arith)) refl
 
--- After the first PES packet, the pace is counted from the latest frame.
+-- After the first PES packet, the frames of silence are counted from the latest frame with a PES
+-- packet.
 silence_is_counted_from_latest_frame : (g : Criteria) (frames : Transmission) (n f : ℕ) → 0 < n
     → is_silent g frames n f ≡ is_silent_for g.pace (latest_frame frames n) f
 unfolding is_silent

@@ -183,8 +183,8 @@ prefix-stopped Before At source out left now i cut kept risen counted = record {
   );
 }
 
--- If the sink failed before the next PES packet or subtitle was read, the listing has some rest,
--- which was not printed.
+-- If the sink failed before the next PES packet or subtitle was read, there is a listing of the
+-- remaining file. If the remaining bytes are known, they determine it.
 pub lists-some :
     (O : Type 0) (listing_of : O → Listing) (given : List ℕ → O)
     (Takes : Bool → Option (List ℕ) → O → Option (List ℕ) → Type 0)

@@ -210,8 +210,9 @@ received_again heard last ps headers s known is same =
           (grind (arith, nat_tests))),
     )
 
--- After packets that begin with a header that erases the page and break no rule, the listener
--- stores their number of headers of the page.
+-- The listener's state agrees with the packets received last if it stores their number of headers
+-- of the page when they begin with a header that starts a new text and break no rule, and `None`
+-- otherwise.
 pub kept_last :
     (w : Watched) (heard ps : List (List ℕ)) (headers from : ℕ) (before begun begins clean : Bool)
     (s : Listener)

@@ -169,8 +169,9 @@ file_after_answer clock (Ok None) rest = record { frames = []; unread = None }
 file_after_answer clock (Ok (Some v)) rest =
     file_with (clock v.pts) (packets_of_units v.units) rest
 
--- A file that ends at its first skipped packet begins with the reader's result, like the entire
--- file.
+-- The frames before the first skipped PES packet are the frame of the reader's next PES packet,
+-- followed by those of the remaining file; there are none if the reader returns a fault or the end
+-- of the file.
 reading_until_skipped_follows_answer : (clock : Clock) (answer : Result (Option PesValue) PesFault)
     (rest : PesPacketFileValue)
     → file_until_first_skipped (pes_packets_after_answer clock answer rest)
