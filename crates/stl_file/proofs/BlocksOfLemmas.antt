@@ -26,7 +26,7 @@ pub block_is_head_text_padding : (s : SubtitleValue) (e : ℕ) (chunk : List ℕ
 unfolding block_of
 block_is_head_text_padding s e chunk = search (rules, drop-replicate, append_assoc)
 
-pub ruleset text_span_after_packet = (append_assoc, block_is_head_text_padding)
+pub ruleset block_layout_rules = (append_assoc, block_is_head_text_padding)
 
 block_has_ebn_and_text : (s : SubtitleValue) (e : ℕ) (chunk : List ℕ)
     → has_no_unused_space chunk ≡ true

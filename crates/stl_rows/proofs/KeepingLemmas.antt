@@ -115,13 +115,13 @@ pub start_no_earlier_than-0 : (js : List JudgedSubtitle) → start_no_earlier_th
 start_no_earlier_than-0 [] = refl
 start_no_earlier_than-0 (j ∷ js) = grind (arith, nat_tests, start_no_earlier_than-0 js)
 
-start_no_earlier_than-earlier : (early later_findings_are_not_before : ℕ) (js : List JudgedSubtitle)
-    → early ≤ later_findings_are_not_before
-    → start_no_earlier_than later_findings_are_not_before js ≡ true
+start_no_earlier_than-earlier : (early late : ℕ) (js : List JudgedSubtitle)
+    → early ≤ late
+    → start_no_earlier_than late js ≡ true
     → start_no_earlier_than early js ≡ true
-start_no_earlier_than-earlier early later_findings_are_not_before [] le h = refl
-start_no_earlier_than-earlier early later_findings_are_not_before (j ∷ js) le h =
-    let rest = start_no_earlier_than-earlier early later_findings_are_not_before js le in
+start_no_earlier_than-earlier early late [] le h = refl
+start_no_earlier_than-earlier early late (j ∷ js) le h =
+    let rest = start_no_earlier_than-earlier early late js le in
     grind (arith, nat_tests)
 
 abbrev pub InOrderFrom : ℕ → List SubtitleValue → Bool

@@ -209,14 +209,14 @@ module _ {D : Type 0} {IsReported : D → LoadFault → D → Type 0} {old mid n
       → StopsAtOneOf IsReported old new (early ++ (items ++ rest))
   stops-more early items rest reported s =
       let bound : s.0 ≤ length items = s.2 in
-      let drop_splits_at_element : take (length early + s.0) (early ++ (items ++ rest)) ≡ early ++
+      let prefix_eq : take (length early + s.0) (early ++ (items ++ rest)) ≡ early ++
       take s.0 items =
       take-append-add early (items ++ rest) s.0
       ∙ ap (λ l. early ++ l) (take-append-le s.0 items rest bound) in (
         length early + s.0,
         omega (arith, s.1),
         omega (arith, s.2, length-append early (items ++ rest), length-append items rest),
-        rw drop_splits_at_element (Reports-trans old mid new early (take s.0 items) reported s.3),
+        rw prefix_eq (Reports-trans old mid new early (take s.0 items) reported s.3),
       )
 
   pub fault_is_in_file-stopped : (early items : List LoadFault) {block : ℕ}

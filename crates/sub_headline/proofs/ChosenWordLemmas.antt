@@ -588,14 +588,12 @@ module _ (rows : List Row) (stl recording : Text) (held : Text → List (List Te
       ≡ Requested.Check stl (requested_recording recording l.reading) (options_in l.reading.options)
       l.national l.layout l.reading.scope (lists_all held))
       × (l.reading.options.origin < 2 ^ 33)
-  in_range false time requested near_is time_field_gives_frame is = let e = sym (too_far near_is) ∙
-      is in cc
-  in_range true false requested near_is time_field_gives_frame is = let e = sym
-      (no_time near_is time_field_gives_frame) ∙ is
-      in cc
-  in_range true true requested near_is time_field_gives_frame is =
-      let e = sym is ∙ check_eq near_is time_field_gives_frame
-      in (cc, grind (arith, nat_tests, time_field_gives_frame))
+  in_range false time requested near_is time_is is = let e = sym (too_far near_is) ∙ is in cc
+  in_range true false requested near_is time_is is =
+      let e = sym (no_time near_is time_is) ∙ is in cc
+  in_range true true requested near_is time_is is =
+      let e = sym is ∙ check_eq near_is time_is
+      in (cc, grind (arith, nat_tests, time_is))
 
 options_are_equal : (o : OptionsValue)
     → o.within ≡ 0

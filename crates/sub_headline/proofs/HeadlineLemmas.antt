@@ -156,35 +156,35 @@ reports
     (ap (λ r. bytes_in_range r (carried_bytes_if_stream pes0.stream (Some bytes))) is.range_eq
     ∙ ap (λ s. bytes_in_range range (carried_bytes_if_stream s (Some bytes))) is.stream_eq
     ∙ read_is)))
-reports ask.Help stl pes st ra o n y c all file bytes read files s e at_stl with_pes_number r
+reports ask.Help stl pes st ra o n y c all file bytes read files s e at_stl at_pes r
     reported = cc
-reports ask.Version stl pes st ra o n y c all file bytes read files s e at_stl with_pes_number r
+reports ask.Version stl pes st ra o n y c all file bytes read files s e at_stl at_pes r
     reported = cc
-reports (ask.Packet p) stl pes st ra o n y c all file bytes read files s e at_stl with_pes_number r
+reports (ask.Packet p) stl pes st ra o n y c all file bytes read files s e at_stl at_pes r
     reported =
     cc
-reports (ask.Packets p) stl pes st ra o n y c all file bytes read files s e at_stl with_pes_number r
+reports (ask.Packets p) stl pes st ra o n y c all file bytes read files s e at_stl at_pes r
     reported =
     cc
-reports (ask.Show p) stl pes st ra o n y c all file bytes read files s e at_stl with_pes_number r
+reports (ask.Show p) stl pes st ra o n y c all file bytes read files s e at_stl at_pes r
     reported = cc
 reports
-    (ask.Normal a b) stl pes st ra o n y c all file bytes read files s e at_stl with_pes_number r
+    (ask.Normal a b) stl pes st ra o n y c all file bytes read files s e at_stl at_pes r
     reported =
     cc
 reports
     (ask.Schedule a b d serial national layout scope) stl pes st ra o n y c all file bytes read
-    files s e at_stl with_pes_number r reported = cc
+    files s e at_stl at_pes r reported = cc
 reports
-    (ask.Listen p l) stl pes st ra o n y c all file bytes read files s e at_stl with_pes_number r
+    (ask.Listen p l) stl pes st ra o n y c all file bytes read files s e at_stl at_pes r
     reported =
     cc
 reports
-    (ask.Extract a b d) stl pes st ra o n y c all file bytes read files s e at_stl with_pes_number r
+    (ask.Extract a b d) stl pes st ra o n y c all file bytes read files s e at_stl at_pes r
     reported =
     cc
 reports
-    (ask.Survey a b) stl pes st ra o n y c all file bytes read files s e at_stl with_pes_number r
+    (ask.Survey a b) stl pes st ra o n y c all file bytes read files s e at_stl at_pes r
     reported =
     cc
 

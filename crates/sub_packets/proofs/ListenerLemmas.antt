@@ -185,7 +185,7 @@ module _ (heard : List (List ℕ)) (p : List ℕ) (s : Listener) (read : Option 
               page = set s.comparison.page (y - 1) (codes_of p);
             };
           })
-      new_row_keeps_knowledge new long double_not_in_row_23 = record {
+      new_row_keeps_knowledge new long page_has_24_rows = record {
         serial_eq = first_serial_mode_is_updated;
         open_eq = row_keeps_page_open;
         subcode_eq = other_packet_keeps_subcode;

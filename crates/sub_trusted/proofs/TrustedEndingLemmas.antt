@@ -229,11 +229,11 @@ module _ (g : Criteria) (frames : Transmission) (base : ℕ) where
           (HasBegunNextFrame g frames base n (packets_of_frame frames n)) t es
           (no_trusted_frames_in_header_events (IsTrustedBeforeEnd g frames base) g frames n)
           (λ x from w invalidation run whole l. absurd (none-some x (sym none ∙ invalidation)))
-          (λ u emits_steps_emit_events.
+          (λ u emitted.
           begun_frame_continues_after_events g frames base n (packets_of_frame frames n)
           (packets_of_frame frames n) t u
           es
-          opens emits_steps_emit_events (λ fault_free kept. kept))
+          opens emitted (λ fault_free kept. kept))
 
       top : (u : List CheckStep) → HasBegunNextFrame g frames base n (packets_of_frame frames n) u →
           has_risen u
@@ -280,7 +280,7 @@ module _ (g : Criteria) (frames : Transmission) (base : ℕ) where
           (λ from is some. below u so (run_needs_rising_frames (has_risen u) (run_of u) from
           so.keeps.falls is)
           some)
-          (λ now v looks backs emits_steps_emit_events.
+          (λ now v looks backs emitted.
           let so_now : HasBegunNextFrame g frames base n (packets_of_frame frames n) now =
           record {
             keeps = tracking_continues_after_end g frames base n f (suc n) f u now looks so.keeps
@@ -301,15 +301,15 @@ module _ (g : Criteria) (frames : Transmission) (base : ℕ) where
                 begun_frame_continues_after_events g frames base n (packets_of_frame frames n)
                 (packets_of_frame frames
                 n)
-                now v es so_now emits_steps_emit_events (λ fault_free kept. kept);
-            first_unfinished_eq = emits_steps_emit_events.first_unfinished_eq ∙
+                now v es so_now emitted (λ fault_free kept. kept);
+            first_unfinished_eq = emitted.first_unfinished_eq ∙
                 looks.first_unfinished_eq;
             first_unfinished = λ rises r is.
-                let rises_is = emits_steps_emit_events.rises_is in
+                let rises_is = emitted.rises_is in
                 let looked = looks.rises_is in
                 let was : has_risen u ≡ true = grind (arith, nat_tests) in
                 seen_run_start_is_bounded g frames (suc n) f r
-                (sym looks.first_unfinished_eq ∙ sym emits_steps_emit_events.first_unfinished_eq ∙
+                (sym looks.first_unfinished_eq ∙ sym emitted.first_unfinished_eq ∙
                 is)
                 (top u so was);
           })

@@ -156,7 +156,7 @@ module _ (g : Criteria) (frames : Transmission) (base : ℕ) where
       (Goes-emits IsTrustedAtClose (λ u. List CheckStep) t1 es (no_trusted_frames_in_closing_events
       pes n refl)
       (λ x from w invalidation run whole l. absurd (none-some from run))
-      (λ u emits_steps_emit_events. u)).each
+      (λ u emitted. u)).each
     where
       low : (from : ℕ) → run_of t ≡ Some from
           → first_untrusted_at_close t (is_some g.unread) ≤ last_late g frames

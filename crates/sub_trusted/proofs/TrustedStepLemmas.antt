@@ -178,7 +178,7 @@ module _ (g : Criteria) (frames : Transmission) (base : ℕ) where
       tracked_run_is_trusted n f (frame_after_going_back u x) u
       (tracking_continues_after_end n f m f t u looks keeps low)
       (may from was (frame_after_going_back u x) back) from w run whole l)
-      (λ v emits_steps_emit_events. after u v looks backs emits_steps_emit_events))
+      (λ v emitted. after u v looks backs emitted))
 
   pub gap_frame_reports_good_stretches : (n k : ℕ) (t : List CheckStep) → n < length frames → k <
       gap_length frames n
@@ -193,25 +193,25 @@ module _ (g : Criteria) (frames : Transmission) (base : ℕ) where
       (λ from is. omega arith) keeps
       low may
       (λ from is some. omega arith)
-      (λ u v looks backs emits_steps_emit_events. record {
+      (λ u v looks backs emitted. record {
         keeps =
             let kept =
             tracking_continues_after_events g frames base n f u v es (tracking_continues_after_end n
-            f n f t u looks keeps low) emits_steps_emit_events
+            f n f t u looks keeps low) emitted
             in
             tracking_holds_to_later_frame g frames base n f (latest_frame frames n + suc (suc k)) v
             kept
-            (λ from is. fault_free u v looks emits_steps_emit_events from is (kept.ends from is));
+            (λ from is. fault_free u v looks emitted from is (kept.ends from is));
         base_at_most = arrives.base_at_most;
         rises = λ e.
             let was : has_risen t ≡ true =
-            let rises_is = emits_steps_emit_events.rises_is in
+            let rises_is = emitted.rises_is in
             let looked = looks.rises_is in
             grind (arith, nat_tests) in
             arrives.rises was;
         back = λ e r is.
             first_unfinished_before_at_most g frames n f r
-            (backs r (sym emits_steps_emit_events.back_frames_agree ∙ is))
+            (backs r (sym emitted.back_frames_agree ∙ is))
             (λ some. omega arith);
       })
     where
@@ -248,15 +248,15 @@ module _ (g : Criteria) (frames : Transmission) (base : ℕ) where
           → (from : ℕ) → run_of v ≡ Some from
           → EndsFaultFree g frames n from (latest_frame frames n + suc k)
           → EndsFaultFree g frames n from (latest_frame frames n + suc (suc k))
-      fault_free u v looks emits_steps_emit_events from is ends m e end few after high =
+      fault_free u v looks emitted from is ends m e end few after high =
           let f : ℕ = latest_frame frames n + suc k in
-          let none = calm g frames u v (events_at_end g frames n n f) emits_steps_emit_events from
+          let none = calm g frames u v (events_at_end g frames n n f) emitted from
           is in
           let was : run_of t ≡ Some from =
           sym looks.run_eq
           ∙ (kept_run_was_valid (run_of u)
           (first_invalidated_frame u (events_at_end g frames n n f)) from
-          (sym emits_steps_emit_events.run_eq ∙ is)).0 in
+          (sym emitted.run_eq ∙ is)).0 in
           let h = up from was in
           elim (cases_lt e f) [
             | inl before ↦ ends m e end few after before
@@ -344,11 +344,11 @@ module _ (g : Criteria) (frames : Transmission) (base : ℕ) where
       closed.keeps
       (run_may_end_after_frame n (frame_after_going_back t x) (omega arith)
       (going_back_from_ended_frame n x from t closed run (omega arith))) from w run whole l)
-      (λ u emits_steps_emit_events.
+      (λ u emitted.
       let kept =
       tracking_continues_after_events g frames base n (frame_at frames (n - 1) + 1) t u
       (order_events g frames n)
-      closed.keeps emits_steps_emit_events in
+      closed.keeps emitted in
       record {
         keeps =
             tracking_holds_to_later_frame g frames base n (frame_at frames (n - 1) + 1)
@@ -359,25 +359,25 @@ module _ (g : Criteria) (frames : Transmission) (base : ℕ) where
             let last = latest_at frames n run.rises (omega arith) in
             kept.ends from is m e end few after (omega arith));
         base_at_most = closed.base_at_most;
-        rises = λ e. up u emits_steps_emit_events e;
-        back = λ e r is. back u emits_steps_emit_events e r is;
+        rises = λ e. up u emitted e;
+        back = λ e r is. back u emitted e r is;
       })
     where
       back : (u : List CheckStep) → AreEmitted t u (order_events g frames n) → has_risen u ≡ true
           → (r : ℕ) → back_frame_of u ≡ Some r
           → (0 < n) × (r ≤ latest_frame frames n + 0)
-      back u emits_steps_emit_events e r is =
+      back u emitted e r is =
           let rose_then = rising_is_older_than_events g frames base t u (order_events g frames n)
-          emits_steps_emit_events e in
-          let (some, low) = closed.back rose_then r (sym emits_steps_emit_events.back_frames_agree ∙
+          emitted e in
+          let (some, low) = closed.back rose_then r (sym emitted.back_frames_agree ∙
           is) in
           let last = latest_at frames n (closed.rises rose_then) some in
           (some, omega arith)
 
       up : (u : List CheckStep) → AreEmitted t u (order_events g frames n) → has_risen u ≡ true
           → RiseTo frames (suc n)
-      up u emits_steps_emit_events e i a b =
-          let rises_is = emits_steps_emit_events.rises_is in
+      up u emitted e i a b =
+          let rises_is = emitted.rises_is in
           let was : has_risen t ≡ true = grind (arith, nat_tests) in
           let none : list_any is_order_fault (order_events g frames n) ≡ false =
           grind (arith, nat_tests) in
@@ -507,9 +507,9 @@ module _ (g : Criteria) (frames : Transmission) (base : ℕ) where
       (run_may_end_in_frame g frames base n packets t there opens from run (end_frame frames)
       (frame_after_going_back t x)
       (going_back_from_begun_frame n x from packets t opens run (omega arith))) from w run whole l)
-      (λ u emits_steps_emit_events.
+      (λ u emitted.
       begun_frame_continues_after_events g frames base n packets (packets ++ more) t u es opens
-      emits_steps_emit_events
+      emitted
       (λ none kept.
       keeps_rules_append g.watched (packets_before frames n) packets more kept
       (finds.fault_free none)))
@@ -535,8 +535,7 @@ module _ (g : Criteria) (frames : Transmission) (base : ℕ) where
       (run_may_end_after_frame n (frame_after_going_back t x) within (going_back_from_ended_frame n
       x from t closed run (omega arith))) from w
       run whole l)
-      (λ v emits_steps_emit_events. ended_frames_continue_after_events g frames base n t v es closed
-      emits_steps_emit_events)
+      (λ v emitted. ended_frames_continue_after_events g frames base n t v es closed emitted)
 
   pub skipped : (n pes : ℕ) (packets : List (List ℕ)) (u : UnreadReason) (t : List CheckStep)
       → n < length frames
@@ -557,6 +556,6 @@ module _ (g : Criteria) (frames : Transmission) (base : ℕ) where
       (run_may_end_in_frame g frames base n packets t there opens from run (end_frame frames)
       (frame_after_going_back t x)
       (going_back_from_begun_frame n x from packets t opens run (omega arith))) from w run whole l)
-      (λ v emits_steps_emit_events. begun_frame_continues_after_events g frames base n packets
-      packets t v es opens emits_steps_emit_events
+      (λ v emitted. begun_frame_continues_after_events g frames base n packets
+      packets t v es opens emitted
       (λ none kept. kept))

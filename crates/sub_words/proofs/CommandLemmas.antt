@@ -174,7 +174,7 @@ error_kind_is_listed : (kinds : Kinds) (e : Error)
     → kinds ≢ []
 error_kind_is_listed kinds e has other none = elim has [
   | inl memory ↦ other memory
-  | inr row_is_in_text_span ↦ subst (IsAmong (kind_of e)) none row_is_in_text_span
+  | inr among ↦ subst (IsAmong (kind_of e)) none among
 ]
 
 -- If clap refuses the arguments for a reason other than lack of memory, `Words` is a fault of the
