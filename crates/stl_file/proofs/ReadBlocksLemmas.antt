@@ -88,7 +88,8 @@ module _ {scope : Scope} {from : ℕ} {refused : Option StartedSubtitle}
       let l = length-append h.bytes (take n buffer) in
       grind (arith, nat_tests, prefix_has_its_length, append_assoc)
 
-  -- If no byte is left, the result is the end of the file, or `Unfinished` within a subtitle.
+  -- If no byte is left, the bytes read lead to the result: the end of the file, or `Unfinished`
+  -- within a subtitle.
   pub file_end_leads_to_result : (r : Result Found StlFault)
       → n ≡ 0
       → block ≤ max_blocks

@@ -62,8 +62,8 @@ module _ (g : Criteria) (frames : Transmission) (n : ℕ) (last : List (List ℕ
     within_eq : g.within ≡ c.within
     within_eq = ap (λ (t : Criteria). t.within) follows.known.criteria_are
 
-    -- The page is wrong at frame e but not overdue, so it could have become correct in a later
-    -- frame.
+    -- The page is unfinished at frame e but may still become finished: `within` (w) is not 0, and
+    -- the page is not overdue.
     abbrev is_end_pending : ℕ → ℕ → ℕ → Bool
     is_end_pending w k e =
         is_some (unfinished_run_start g frames k e)
@@ -290,8 +290,9 @@ closing_reports_if_fault_is_left pes given c = grind (
   ending_faults_reports_nothing_if_none,
 )
 
--- Unread bytes follow the last frame if and only if a fault ended reading; then at least one more
--- event is reported.
+-- The checker's step at the end of the file is that of the rules: it has the same two values,
+-- whether a fault ended reading, and whether subtitles are unreliable or an event is reported at
+-- the end of the file.
 pub closing_steps_agree :
     (g : Criteria) (list : Transmission) (pes : ℕ) (last : List (List ℕ)) (c : CheckerValue)
     (given : Option CheckFault) (left more : Bool)

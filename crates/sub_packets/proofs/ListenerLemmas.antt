@@ -57,7 +57,8 @@ module _ (heard : List (List ℕ)) (p : List ℕ) (s : Listener) (read : Option 
       rw (has_row-push s.watched.page heard p row, is)
       (get_or-replicate 24 (row - 1) false false (omega arith))
 
-  -- A header that erases the page opens it and clears the set of received rows.
+  -- A header that erases the page opens it, clears the sets of received rows, and makes the stored
+  -- page blank.
   pub erasing_header_keeps_knowledge : (h : Header) → kind s.watched.page p ≡ ThisPage h
       → (c4 h || not s.watched.keeps) ≡ true
       → Knows (heard ++ p ∷ []) (record s {
@@ -82,7 +83,8 @@ module _ (heard : List (List ℕ)) (p : List ℕ) (s : Listener) (read : Option 
     again_is = header_leaves_no_row_repeated h is;
   }
 
-  -- A header with C4 (erase page) clear opens the page and keeps the received rows.
+  -- If repeats may have C4 (erase page) clear, a header with C4 clear opens the page and keeps the
+  -- received rows, but clears the set of rows received since the last header.
   pub repeating_header_keeps_knowledge : (h : Header) → kind s.watched.page p ≡ ThisPage h
       → (c4 h || not s.watched.keeps) ≡ false
       → Knows (heard ++ p ∷ []) (record s {

@@ -176,8 +176,8 @@ leading_header_is_a_beginning w ps begins =
     subst (λ (xs : List (List ℕ)). has_text_beginning w.keeps (kind w.page) xs ≡ true)
     (sym begins.packets_are) (or_left _ _ begins.is_header)
 
--- If the packets of the last PES packet broke no rule and are sent again, the listener's state
--- stays the same.
+-- If the packets of the last PES packet begin with a header that starts a new text, broke no rule,
+-- and are sent again, they break no rule again, and the listener's state stays the same.
 pub received_again :
     (heard last ps : List (List ℕ)) (headers : ℕ) (s : Listener)
     → KnowsLast heard last s

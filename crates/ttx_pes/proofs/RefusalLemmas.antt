@@ -291,7 +291,7 @@ payloads b q buffered = elim (cases_lt 2 q) [
       in (t.0, t.1, t.2, λ _. t.3)
 ]
 
--- If test q fails, no packet of the grammar agrees with the bytes in check q too.
+-- If the bytes fail test q, no packet of the grammar agrees with them in all checks up to number q.
 no_packet_agrees_further : (b : List ℕ) (q : ℕ) (v : PesValue) (p : List ℕ)
     → get_or (tests b (stated_units b)) q true ≡ false
     → IsValidPesPacket v p
