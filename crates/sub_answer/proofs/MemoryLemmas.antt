@@ -20,9 +20,9 @@ use Rattle.sub_listing.specs.DeviceCall.{SinkCall}
 use Rattle.sub_listing.specs.declared.status.Status.{Status}
 use Rattle.sub_listing.specs.declared.status.Status.TheVariants.{Done, Fault}
 use Rattle.sub_answer.specs.Answering.{InputCall}
-use Rattle.sub_answer.specs.Ending.{EndsOverFiles, EndsWith, FilesAfterAnswer, FlushesBufferedLines}
+use Rattle.sub_answer.specs.Ending.{EndsOverFiles, EndsWith, FilesAfterAnswer, FlushesBuffer}
 use Rattle.sub_answer.specs.Ending.{IsSourceOf}
-use Rattle.sub_answer.specs.Ending.{Lines, devices_of, release}
+use Rattle.sub_answer.specs.Ending.{BufferedSinkState, devices_of, release}
 use Rattle.sub_answer.specs.FilesInMemory.{LawOfFilesInMemory, memory_observations}
 use Rattle.sub_answer.specs.Part.{part_requested, bytes_in_range, carried_bytes_if_stream}
 use Rattle.sub_answer.specs.Part.{entire_file}
@@ -55,8 +55,8 @@ part_of_memory_file_is_read part file None input is = absurd is
 part_of_memory_file_is_read part file (Some left) input is = is.is_part.reported
 
 same_status :
-    (printed new : Lines) (status result : Status)
-    → FlushesBufferedLines printed status new result
+    (printed new : BufferedSinkState) (status result : Status)
+    → FlushesBuffer printed status new result
     → result ≢ Fault
     → result ≡ status
 same_status printed new status result h runs = grind (arith, nat_tests)
@@ -72,8 +72,8 @@ IsDoneExactlyIfAccepted _ file bytes status = ⊤
 
 done_exactly_if_accepted :
     (request : Request) (file bytes : List ℕ) (stl_left pes_left : Option (List ℕ))
-    (Untouched : Type 0) (IsFile : InputCall → SinkCall → Type 0) (IsAlone : Lines → Type 0)
-    (old new : Lines) (result : Status)
+    (Untouched : Type 0) (IsFile : InputCall → SinkCall → Type 0)
+    (IsAlone : BufferedSinkState → Type 0) (old new : BufferedSinkState) (result : Status)
     → EndsWith request (IsSourceOf memory_observations entire_file (Some file) stl_left)
     (IsSourceOf memory_observations (part_requested request) (Some bytes) pes_left) Untouched IsFile
     IsAlone
@@ -118,8 +118,8 @@ done_exactly_if_accepted (ask.Survey recording options) _ _ _ _ _ _ _ _ _ _ _ _ 
 
 over_both :
     (request : Request) (opened : OpenedFiles (List ℕ) MemSinkValue) (first second : List ℕ)
-    (left : FilesAfterAnswer (List ℕ) MemSinkValue) (IsAlone : Lines → Type 0) (old new : Lines)
-    (result : Status)
+    (left : FilesAfterAnswer (List ℕ) MemSinkValue) (IsAlone : BufferedSinkState → Type 0)
+    (old new : BufferedSinkState) (result : Status)
     → opened ≡ ReadBoth first second
     → EndsOverFiles memory_observations (λ was is. is ≡ was) request
     (devices_of (part_requested request)
@@ -134,7 +134,7 @@ same_bytes :
     (reported : Option (List ℕ)) (a b : List ℕ) → reported ≡ Some a → reported ≡ Some b → a ≡ b
 same_bytes reported a b one other = let e = sym one ∙ other in cc
 
-pub law_of_files_in_memory : (IsAlone : Lines → Type 0) → LawOfFilesInMemory IsAlone
+pub law_of_files_in_memory : (IsAlone : BufferedSinkState → Type 0) → LawOfFilesInMemory IsAlone
 law_of_files_in_memory IsAlone
     (ask.Check stl pes options national layout scope all) before after old new status h runs =
     λ file bytes read file_is bytes_is read_is.

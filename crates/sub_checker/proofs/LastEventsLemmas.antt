@@ -9,7 +9,7 @@ use Rattle.stl_rows.specs.Programme.{last_tco}
 use Rattle.sub_checker.specs.Checker.{CheckerValue, is_overdue_at, is_currently_pending}
 use Rattle.sub_checker.specs.CheckedFrames.{AfterEnd}
 use Rattle.sub_io.specs.Reporting.{Reports}
-use Rattle.sub_checker.specs.FusedAudience.{IsFused}
+use Rattle.sub_checker.specs.FusedAudience.{ReportsUnlessStopped}
 use Rattle.sub_checker.specs.Relay.{ReporterRelays, relay_after, relayed_events}
 use Rattle.sub_checker.specs.declared.reporter.Reporter.{Reporter}
 use Rattle.sub_checker.specs.LastEvents.{closing_events_of_checker, ending_fault, fault_events}
@@ -248,7 +248,7 @@ same_reports_are_relayed_alike {IsReported = IsReported} {a = a} {b = b} es fs a
     let kept : relay_after a.relay (map Emits es) ≡ relay_after a.relay (map Emits fs) =
     rw (alike.emitted_reports_agree a.relay.tracker, alike.trackers_agree a.relay.tracker) refl in
     record {
-      reported = subst (Reports (IsFused IsReported) a.fused b.fused) (sym reported)
+      reported = subst (Reports (ReportsUnlessStopped IsReported) a.fused b.fused) (sym reported)
           relays.reported;
       kept = relays.kept ∙ sym kept;
     }

@@ -183,17 +183,17 @@ abbrev pub current_run_start : CheckerValue → Option ℕ
 current_run_start c = extended_unfinished_run c.first_unfinished (is_currently_unfinished c) c.frame
 
 -- The page must be correct by now: `within` is 0, or the page is overdue.
-abbrev pub is_currently_late : CheckerValue → Bool
-is_currently_late c = c.within == 0 || is_overdue_at c.programme c.within c.first
+abbrev pub must_be_correct_now : CheckerValue → Bool
+must_be_correct_now c = c.within == 0 || is_overdue_at c.programme c.within c.first
     (current_run_start c)
     c.frame
 
 -- The faults that are active at the end of the current frame.
 abbrev pub active_faults_of : CheckerValue → ActiveFaults
 active_faults_of c = record {
-  content = if is_currently_late c then current_wrong_cell c else current_unexpected_cell c;
+  content = if must_be_correct_now c then current_wrong_cell c else current_unexpected_cell c;
   gap = nat_le c.repeat_deadline (c.frame + 1);
-  incomplete = is_currently_late c && is_kept_page_incomplete c.listener;
+  incomplete = must_be_correct_now c && is_kept_page_incomplete c.listener;
   undecided = is_currently_undecided c;
   silent = is_silent_for c.pace c.latest_frame c.frame;
 }
@@ -210,7 +210,7 @@ back_steps c = if needs_back_step c then GoesBack c.first_unfinished ∷ [] else
 abbrev pub end_steps : CheckerValue → List CheckStep
 end_steps c =
     back_steps c
-    ++ (if c.within == 0 then [] else AtEnd c.frame (current_run_start c) (is_currently_late c) ∷
+    ++ (if c.within == 0 then [] else AtEnd c.frame (current_run_start c) (must_be_correct_now c) ∷
     [])
     ++ map Emits (end_events c.active_faults c.last (active_faults_of c) c.frame)
 

@@ -15,7 +15,7 @@ ghost use Rattle.stl_file.specs.TimeCode.{day};
 ghost use Rattle.sub_checker.specs.Checker.{AreCountsBounded, checker_after_end};
 ghost use Rattle.sub_checker.specs.Checker.{current_wrong_cell, end_steps};
 ghost use Rattle.sub_checker.specs.Checker.{is_overdue_at, is_due_page_undecided};
-ghost use Rattle.sub_checker.specs.Checker.{is_currently_late};
+ghost use Rattle.sub_checker.specs.Checker.{must_be_correct_now};
 ghost use Rattle.sub_checker.specs.Checker.{IsFaultFreeEnd};
 ghost use Rattle.sub_checker.specs.Checker.{current_run_start, active_faults_of};
 ghost use Rattle.sub_checker.specs.Checker.{is_currently_undecided};
@@ -142,7 +142,7 @@ impl<'a> Checker<'a> {
         requires within { 0 < self.now.within }
         ensures active_faults { result.active_faults ≡ active_faults_of self.now }
         ensures first_unfinished { result.first_unfinished ≡ current_run_start self.now }
-        ensures late { result.is_late ≡ is_currently_late self.now }
+        ensures late { result.is_late ≡ must_be_correct_now self.now }
     {
         let differing = self.first_wrong(self.is_due_page_unknown());
         let is_open = self.listener.is_incomplete();

@@ -223,7 +223,7 @@ impl Carrier {
 
     /// Prints the irregular PCRs that need no more data at packet number `number`; all of them if
     /// `number` is `None`.
-    pub fn settle(&mut self, number: Option<u64>, pids: &Pids, text: &mut Text)
+    pub fn report_settled_pcrs(&mut self, number: Option<u64>, pids: &Pids, text: &mut Text)
         ensures { self.new.pid ≡ self.old.pid }
     {
         for _ in 0..MAX_PENDING_PCRS {
