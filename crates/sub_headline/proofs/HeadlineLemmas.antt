@@ -46,13 +46,13 @@ use Rattle.sub_answer.specs.Ending.{BufferHoldsOneLineOnly}
 use Rattle.sub_answer.proofs.MemoryLemmas.{law_of_files_in_memory}
 use Rattle.sub_headline.specs.Acceptance.{default_drawing}
 use Rattle.sub_headline.specs.BothClasses.{EachReceiverOfClassGets}
-use Rattle.sub_headline.specs.DrawnOptions.{DisplayOptions, display_options_of}
-use Rattle.sub_headline.specs.DrawnOptions.{arguments_of_display_option}
-use Rattle.sub_headline.specs.DrawnOptions.DisplayOption.{Of}
+use Rattle.sub_headline.specs.DrawnOptions.{CheckRecordingSettings, settings_of_options}
+use Rattle.sub_headline.specs.DrawnOptions.{arguments_of_check_recording_option}
+use Rattle.sub_headline.specs.DrawnOptions.CheckRecordingOption.{Of}
 use Rattle.sub_headline.specs.EnglishPage.{english_due_page}
 use Rattle.sub_headline.specs.EnglishScreen.{EachScreenShows}
 use Rattle.sub_headline.specs.Headline.{ServesOtherReceivers, LawOfHeadline, ForChosenOptions}
-use Rattle.sub_headline.specs.Headline.{ForDisplayOptions}
+use Rattle.sub_headline.specs.Headline.{ForCheckRecordingOptions}
 use Rattle.sub_headline.specs.Headline.{ForRecordingCheck}
 use Rattle.sub_headline.specs.Headline.{ImpliesChosenHeadline}
 use Rattle.sub_headline.specs.OnScreens.{EachDisplayShows}
@@ -68,8 +68,9 @@ use Rattle.sub_headline.specs.PlainHeadline.{Headline}
 use Rattle.sub_headline.specs.PlainReading.{frames_by_place, subtitles_by_place, subtitles_within}
 use Rattle.sub_headline.specs.PlainArguments.{IsName}
 use Rattle.sub_headline.specs.Run.{RunsProgram}
-use Rattle.sub_headline.proofs.ChosenWordLemmas.{law_of_chosen_arguments, law_of_display_arguments}
-use Rattle.sub_headline.proofs.ChosenWordLemmas.{law_of_part_arguments, display_of_parts}
+use Rattle.sub_headline.proofs.ChosenWordLemmas.{law_of_check_recording_arguments}
+use Rattle.sub_headline.proofs.ChosenWordLemmas.{law_of_chosen_arguments}
+use Rattle.sub_headline.proofs.ChosenWordLemmas.{law_of_part_arguments, settings_of_parts}
 use Rattle.sub_headline.proofs.ChosenWordLemmas.{options_allow_no_delay_or_keeping}
 use Rattle.sub_headline.proofs.ChosenWordLemmas.{choices_keep_reading}
 use Rattle.sub_headline.proofs.AcceptanceLemmas.{law_of_plain_acceptance, programme_of}
@@ -465,8 +466,8 @@ module _ {K : Type 0} (contents : K → Option (List ℕ)) (failure_count : K �
       default_layout (reading_of parts).scope
   requests_check_parts program stl pes parts is_stl is_pes =
       let by = options_allow_no_delay_or_keeping (map Of parts) in
-      let at = ap (λ (l : DisplayOptions). l.reading.options)
-      (display_of_parts (display_options_of [])
+      let at = ap (λ (l : CheckRecordingSettings). l.reading.options)
+      (settings_of_parts (settings_of_options [])
       parts) in
       record {
         requested = λ request. law_of_part_arguments program stl pes parts request is_stl is_pes;
@@ -488,25 +489,25 @@ module _ {K : Type 0} (contents : K → Option (List ℕ)) (failure_count : K �
       (requests_check_parts program stl pes parts is_stl is_pes) given_is stl_eq pes_eq
       (part_of_known_bytes r.pid r.size r.range bytes) not_two
 
-  display_run_decides_acceptance : ForDisplayOptions given before
+  drawn_run_decides_acceptance : ForCheckRecordingOptions given before
       (λ l file bytes.
       code ≢ 2
       → ExitCodeDecides (drawing_within l.national l.layout l.reading.scope) l.reading.options file
       (bytes_selected l.reading bytes) code)
-  display_run_decides_acceptance = λ program stl pes display_options file bytes is_stl is_pes
+  drawn_run_decides_acceptance = λ program stl pes choices file bytes is_stl is_pes
       given_is stl_eq
       pes_eq not_two.
-      let l = display_options_of display_options in
+      let l = settings_of_options choices in
       let r = l.reading in
-      let by = options_allow_no_delay_or_keeping display_options in
+      let by = options_allow_no_delay_or_keeping choices in
       exit_code_decides_acceptance
-      (program ∷ codes "check" ∷ stl ∷ pes ∷ flat_map arguments_of_display_option
-      display_options)
+      (program ∷ codes "check" ∷ stl ∷ pes ∷ flat_map arguments_of_check_recording_option
+      choices)
       stl pes
       (stream_of r) r.range r.options l.national l.layout r.scope file bytes
       (bytes_selected r bytes)
       (record {
-        requested = λ request. law_of_display_arguments program stl pes display_options request
+        requested = λ request. law_of_check_recording_arguments program stl pes choices request
             is_stl is_pes;
         none = by.0;
         off = by.1;
@@ -523,8 +524,8 @@ module _ {K : Type 0} (contents : K → Option (List ℕ)) (failure_count : K �
   requests_check_chosen program stl pes choices is_stl is_pes =
       let by = options_allow_no_delay_or_keeping (map Of (map Any choices)) in
       let at =
-      ap (λ (l : DisplayOptions). l.reading.options)
-      (display_of_parts (display_options_of []) (map Any choices))
+      ap (λ (l : CheckRecordingSettings). l.reading.options)
+      (settings_of_parts (settings_of_options []) (map Any choices))
       ∙ ap (λ (r : Reading). r.options) (choices_keep_reading (reading_of []) choices) in
       record {
         requested = λ request. law_of_chosen_arguments program stl pes choices request is_stl
@@ -615,13 +616,13 @@ law_of_headline contents failure_count IsPush given before after output left cod
           read r.scope r.options file (bytes_selected r bytes) is reported.fits
           (AreReadFrom r.scope r.options.origin file (bytes_selected r bytes))
           (files r.scope r.options file (bytes_selected r bytes) is),
-      λ program stl pes display_options file bytes is_stl is_pes given_is stl_eq pes_eq none.
-          let l = display_options_of display_options in
+      λ program stl pes choices file bytes is_stl is_pes given_is stl_eq pes_eq none.
+          let l = settings_of_options choices in
           let reported =
-          display_run_decides_acceptance contents failure_count IsPush output left before after
+          drawn_run_decides_acceptance contents failure_count IsPush output left before after
           given code runs
           program
-          stl pes display_options file bytes is_stl is_pes given_is stl_eq pes_eq (not_two none) in
+          stl pes choices file bytes is_stl is_pes given_is stl_eq pes_eq (not_two none) in
           drawn_read l.national l.layout l.reading.scope l.reading.options file
           (bytes_selected l.reading bytes)
           (reported.reports.0 none) reported.fits,
