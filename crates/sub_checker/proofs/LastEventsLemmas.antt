@@ -304,9 +304,9 @@ pub closing_steps_agree :
     ≡ Closes (is_some g.unread)
     (g.any_unreliable || not
     (reports_no_event (closing_events_of_pes_packets g list pes (length list))))
-closing_steps_agree g list pes last c given left more follows is left_eq continued_frame_steps =
+closing_steps_agree g list pes last c given left more follows is left_eq more_eq =
     ap₂ Closes (left_eq ∙ ap is_some is ∙ some g.unread)
-    (continued_frame_steps
+    (more_eq
     ∙ ap₂ (λ (a b : Bool). a || not b)
     (sym (ap (λ (t : Criteria). t.any_unreliable) follows.known.criteria_are))
     (sym (closing_events_agree g list pes last c given follows is).both_report_nothing))

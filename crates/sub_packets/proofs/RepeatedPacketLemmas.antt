@@ -96,11 +96,11 @@ module _
         → HaveSameContent w (heard ++ first ∷ more) ((heard ++ first ∷ others) ++ first ∷ more)
     alike others more =
         let h = header_from_numbers w first is in
-        let row_or_blank = or_left _ _ is_header in
+        let has_header = or_left _ _ is_header in
         let begun = or_left _ _ is in
         let after =
-        after-append (kind w.page) heard (first ∷ more) row_or_blank
-        ∙ sym (after-append (kind w.page) (heard ++ first ∷ others) (first ∷ more) row_or_blank) in
+        after-append (kind w.page) heard (first ∷ more) has_header
+        ∙ sym (after-append (kind w.page) (heard ++ first ∷ others) (first ∷ more) has_header) in
         record {
           header_eq =
               first_after heard more h.0 h.1
