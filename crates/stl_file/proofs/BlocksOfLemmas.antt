@@ -101,7 +101,8 @@ blocks_are_linked s (suc full) e text le few h =
     (blocks_are_linked s full (e + 1) (drop 112 text) (omega (arith, length-drop 112 text))
     (omega arith) (suffix_has_no_unused_space 112 text h))
 
--- The text fields of the written blocks, joined, are the subtitle's text.
+-- If a text has no unused space, the text fields of the blocks written for it, joined, are the
+-- text.
 blocks_carry_the_text : (s : SubtitleValue) (full e : ℕ) (text : List ℕ)
     → has_no_unused_space text ≡ true
     → flat_map text_of_block (blocks_from s full e text) ≡ text

@@ -94,7 +94,8 @@ module _ (n : Drawing) (ts : List SubtitleValue) (f at : ℕ) (t : SubtitleValue
   pub ends_after : f < t.tco
   ends_after = rw (← is) at (first.after at t (omega arith) inside)
 
-  -- No subtitle is due in the gap before the first subtitle whose TCO is after the frame.
+  -- If the first subtitle whose TCO is after the frame starts later, no subtitle is expected at the
+  -- frame.
   pub none-between : f < t.tci
       → (k : ℕ) (d : SubtitleValue)
       → k < length ts

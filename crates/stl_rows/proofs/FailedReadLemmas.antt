@@ -88,7 +88,8 @@ fails-next {start = start} {old} {new} {scope = scope} reader {block} taken earl
           reported;
     }
 
--- If the source fails within the GSI block, no fault has been reported.
+-- No fault is reported before block 0, the GSI block. So if the source fails within the GSI block,
+-- no fault has been reported.
 pub reads-nothing : (drawing : Drawing) (file : List ℕ)
     {D : Type 0} {IsReported : D → LoadFault → D → Type 0} (reported : D)
     → Reports IsReported reported reported (filter (is_reported_before 0) (faults drawing file))

@@ -199,8 +199,8 @@ module _
                 reached.sent_count_is_current
                 reached.least_frame_is_current next.sent.frame_eq
 
-            -- If a page header of the next frame is listed as lost, reception ends with the fault
-            -- `LostHeader`.
+            -- If a packet of the next frame is listed as lost but must not be lost, reception ends
+            -- with the fault `LostHeader`.
             pub ends_lost :
                 (before place : ℕ)
                 → before ≡ cond (not (l.options.within == 0) && (frame == least)) sent 0

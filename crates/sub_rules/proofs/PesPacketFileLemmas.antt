@@ -187,7 +187,8 @@ file_until_skipped_follows_answer clock answer more =
     ap file_until_first_skipped (file_of-then clock answer more)
     ∙ reading_until_skipped_follows_answer clock answer (file_of_pes_packets clock more)
 
--- For a valid PES packet, both definitions of the bytes after it agree.
+-- After any result of the reader, the contents of the file are the same whether the remaining bytes
+-- are determined by the length field or by the parser.
 both_rests_give_the_same_file : (clock : Clock) (given : ℕ) (bytes : List ℕ)
     (answer : Result (Option PesValue) PesFault)
     → answer_at given bytes ≡ answer

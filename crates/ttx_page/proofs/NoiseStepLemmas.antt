@@ -226,7 +226,7 @@ module _ (keeps anew : Bool) (class : ReceiverClass) (w : PageIdValue) (row colu
       → HasOddText item.0 × (character_code (text_byte item.0 column) ≡ code)
 
   -- The cell may be a space if a packet of its row, in the last transmission of the page, is lost
-  -- or has a wrong byte for the cell.
+  -- or has a wrong byte for the cell (in receivers that drop rows: any wrong byte).
   abbrev pub ExplainLostCells : List Item → Type 0
   ExplainLostCells items =
       (item : Item)
