@@ -228,7 +228,8 @@ pub record IsFaultFreeEnd (c : CheckerValue) : Type 0 where
   pub no_faults_now : active_faults_of c ≡ no_active_faults
   pub first_unfinished : current_run_start c ≡ None
 
--- The page was wrong at the last end, but is not overdue yet.
+-- The page was unfinished at the last end but may still become finished: `within` is not 0, and the
+-- page is not overdue.
 abbrev pub is_currently_pending : CheckerValue → Bool
 is_currently_pending c =
     not (c.within == 0)

@@ -84,8 +84,8 @@ impl Listener {
         is_erasing(header) || (self.watched.keeps && self.repeats_page(header))
     }
 
-    // Returns whether a header of the page repeats the page: it has the sub-code of the last
-    // header, and the page has ended if complete pages are required.
+    // Returns whether a header of the page counts as a repeat: it has the sub-code of the page's
+    // last header, if there is one; and if complete pages are required, the page is not open.
     fn repeats_page(&self, header: &Header) -> bool
         ensures { (heard : List (List ℕ)) → Knows heard self.now → result
             ≡ repeats_page self.now.watched.complete self.now.watched.page heard header.now }
