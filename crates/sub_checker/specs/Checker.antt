@@ -165,8 +165,8 @@ current_wrong_cell c = if is_due_page_undecided c c.frame then None else first_w
 abbrev pub is_currently_undecided : CheckerValue → Bool
 is_currently_undecided c = was_undecided (is_due_page_undecided c) c.first c.frame c.within
 
--- The first cell with a code that was not expected within the last `within` frames. `None` if one
--- of these expected pages is unknown.
+-- The first cell with a code, other than a space, that was not expected within the last `within`
+-- frames. `None` if one of these expected pages is unknown.
 abbrev pub current_unexpected_cell : CheckerValue → Option (ℕ × ℕ)
 current_unexpected_cell c =
     if is_currently_undecided c

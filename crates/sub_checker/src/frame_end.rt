@@ -174,9 +174,9 @@ impl<'a> Checker<'a> {
         }
     }
 
-    // Returns the first cell with a code that was not expected within the last `within` frames;
-    // `None` if one of these expected pages is unknown, or if no cell differs from the expected
-    // page.
+    // Returns the first cell with a code, other than a space, that was not expected within the last
+    // `within` frames; `None` if one of these expected pages is unknown, or if no cell differs from
+    // the expected page.
     fn first_unexpected(&self, differing: Option<(u8, u8)>) -> Option<(u8, u8)>
         ensures { differing ≡ current_wrong_cell self.now → result ≡ current_unexpected_cell
             self.now }

@@ -134,7 +134,7 @@ run_of (m ∷ past) = run_of past
 abbrev pub frame_if_finished : ℕ → Option ℕ → Option ℕ
 frame_if_finished f first_unfinished = if is_none first_unfinished then Some f else None
 
--- The first frame of the current run, from its first header on, at whose end the page was correct.
+-- The first frame of the current run, from its first header on, at whose end the page was finished.
 -- Has no meaning without a current run.
 unfoldable pub first_correct_of : List CheckStep → Option ℕ
 first_correct_of [] = None
@@ -148,8 +148,8 @@ first_correct_of (m ∷ past) = first_correct_of past
 -- ---- trusted frames, and when they are reported
 
 -- The event for the trusted frames of a run that ends before frame f. `run` is the frame of the
--- run's first header, and `whole` is the first frame at whose end the page was correct. There is no
--- event without such a frame.
+-- run's first header, and `whole` is the first frame at whose end the page was finished. There is
+-- no event without such a frame before f.
 abbrev pub trusted : Option ℕ → Option ℕ → ℕ → List Event
 trusted (Some from) (Some whole) f = if nat_lt whole f then Trusted from (f - 1) ∷ [] else []
 trusted run whole f = []

@@ -80,8 +80,8 @@ LawOfReaderAnswers =
     → StartsWithoutValidPacket bytes)
     × (answer_at given bytes ≡ Err TooMany → 0 < length bytes)
 
--- Reading the bytes written for a frame returns that frame, and leaves the bytes that follow. So a
--- schedule is read as it was written.
+-- Unless the maximum number of PES packets was read before, reading the bytes written for a frame
+-- returns that frame, and leaves the bytes that follow. So a schedule is read as it was written.
 abbrev pub LawOfReadingBack : Type 0
 LawOfReadingBack =
     (given : ℕ) (v : PesValue) (rest : List ℕ)
@@ -96,8 +96,8 @@ abbrev pub LawOfLineOrder : Type 0
 LawOfLineOrder = (units : List UnitValue) → AreInLineOrder 0 units ↔ AllPairs PrecedesInLineOrder
     units
 
--- The Teletext packets of one video frame form a value that fits in a `PesFrame`, and the units of
--- that value carry these packets.
+-- Up to 32 Teletext packets of one video frame form a value that fits in a `PesFrame`, and the
+-- units of that value carry these packets.
 abbrev pub LawOfNumberedFrame : Type 0
 LawOfNumberedFrame =
     (pts : ℕ) (packets : List (List ℕ))
