@@ -114,8 +114,8 @@ abbrev pub LawOfPesPackets : Type 0
 LawOfPesPackets = (bytes : List ℕ) → AreBytes bytes → SplitInto bytes (pes_packets_after 0 bytes)
 
 -- A range of a file contains the PES packets with the indices in the range, and the bytes after the
--- last packet of the file if the file ends before the range. The first packet of the range has the
--- index `first`, if the file has that many packets.
+-- last packet of the file if the file ends before the range does or the range has no `last`. The
+-- first packet of the range has the index `first`, if the file has more than `first` packets.
 abbrev pub LawOfRanges : Type 0
 LawOfRanges =
     (first : ℕ) (last : Option ℕ) (pes_packets : List (List ℕ)) (rest : List ℕ)
