@@ -1,5 +1,5 @@
--- Reception by `listen` ends at the end of the file, at a fault, after TIME, or before a packet that
--- is listed as lost but must not be lost.
+-- Reception by `listen` ends at the end of the file, at a fault, after TIME, or before a packet
+-- that is listed as lost but must not be lost.
 use Rattle.std.proofs.lemmas.Bool.Decides.{nat_tests}
 use Rattle.std.proofs.Common.{◌≡◌, ◌∙◌, ap, refl, sym, subst, arith, add-one, ℕ, zero, suc, ◌+◌}
 use Rattle.std.proofs.Common.{◌<◌, ◌≤◌, ◌==◌, ◌&&◌, not, cond, inl, inr, true, List, ◌++◌, length}
