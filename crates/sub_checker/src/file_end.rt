@@ -98,7 +98,7 @@ fn close<A: ReportSink<Event>>(
 }
 
 // Returns whether the trusted frames of the last run must be reported even if nothing was reported
-// before: subtitles were rejected, or an event follows at the end of the file.
+// before: the file has unreliable subtitles, or an event follows at the end of the file.
 fn reports_trusted(checker: &Checker<'_>, pes: u32, fault: Option<CheckFault>) -> bool
     ensures { result
         ≡ (checker.now.any_unreliable || not
