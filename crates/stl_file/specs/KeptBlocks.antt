@@ -52,9 +52,9 @@ unnumbered (breaks f block) = breaks f 0
 unnumbered (finds s block more) = finds s 0 (unnumbered more)
 unnumbered (refuses f block more) = refuses f 0 (unnumbered more)
 
--- If the reader reaches the end of a file, reading it within a scope gives the same results, except
--- block numbers, as reading, for the whole day, the file without the blocks of the subtitles
--- outside the scope. So a part of a file can be checked without cutting it out.
+-- Reading a file within a scope gives the same results as reading, for the whole day, the file
+-- without the blocks of the subtitles outside the scope. So a part of a file can be checked without
+-- cutting it out.
 abbrev pub LawOfScope : Type 0
 LawOfScope =
     (scope : Scope) (gsi : List ℕ) (blocks : List (List ℕ))

@@ -21,9 +21,9 @@ pub fn law_of_files()
         ↔ ((g ≡ take 1024 s) × (subtitles_of (stopped (findings_within_scope scope s)) ≡ Ok ts)) }
 {}
 
-/// If the reader reaches the end of a file, reading it with a scope gives the same results as
-/// reading, for the whole day, the file without the blocks of subtitles outside the scope, apart
-/// from block numbers. No subtitle is outside the scope of the whole day.
+/// Reading a file with a scope gives the same results as reading, for the whole day, the file
+/// without the blocks of subtitles outside the scope, apart from block numbers. No subtitle is
+/// outside the scope of the whole day.
 pub fn law_of_scope()
     ensures part { LawOfScope }
     ensures day { LawOfWholeDay }

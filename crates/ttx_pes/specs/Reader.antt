@@ -48,13 +48,14 @@ IsIncompletePesPacket bytes =
     (length bytes < 6)
     ⊎ ((size : ℕ) × (size_at (take 6 bytes) ≡ Ok size) × (length bytes < size))
 
--- The source failed within a PES packet: the consumed bytes are an incomplete packet.
+-- The source failed within a PES packet: the consumed bytes are an incomplete packet without a
+-- fault.
 pub record FailsWithinPacket (old new : Option (List ℕ)) : Type 0 where
   pub bytes : List ℕ
   pub consumed : Consumes old new bytes
   pub begun : IsIncompletePesPacket bytes
 
--- Reading a PES packet from exactly the consumed bytes gives the fault f.
+-- The consumed bytes of a PES packet are rejected for the format fault f, whatever bytes follow.
 pub record ConsumesRefusedPacket (old new : Option (List ℕ)) (f : PesFault) : Type 0 where
   pub bytes : List ℕ
   pub consumed : Consumes old new bytes
@@ -85,7 +86,7 @@ pub record ReportsPacket
       fault)
   pub packet_limit_refuses_packet : IfErr answer (λ fault. fault ≡ TooMany → before ≡ Reading
       max_pes_packets)
-  -- If the source fails, it fails within the PES packet.
+  -- If the source fails, it fails within the PES packet, whose bytes so far have no fault.
   pub within : failed is_read_fault answer ≡ true → FailsWithinPacket old new
   pub no_bytes_remain_at_end : before ≡ AtEnd → answer ≡ Ok None
   pub ended : (before ≡ Broken) ↔ (answer ≡ Err Ended)

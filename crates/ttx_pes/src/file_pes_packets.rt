@@ -37,8 +37,7 @@ impl<'a, S: Source> FilePesPackets<'a, S> {
     }
 }
 
-// Returns the size of the PES packet at the front of `bytes`, or `None` if they do not begin with a
-// complete PES packet.
+// Returns the size of the PES packet at the front of `bytes`, or `None` if it is incomplete.
 #[inline(always)]
 fn complete_size(bytes: &[u8]) -> Option<usize>
     ensures reported { IfSome result (λ size. size_at (take 6 bytes.now) ≡ Ok size) }

@@ -49,8 +49,7 @@ pub fn law_of_reader_answers()
     ensures { LawOfReaderAnswers }
 {}
 
-/// Unless the maximum number of PES packets was read before, reading the bytes written for a frame
-/// returns that frame, and leaves the bytes that follow.
+/// Reading the bytes written for a frame returns that frame, and leaves the bytes that follow.
 pub fn law_of_reading_back()
     ensures { LawOfReadingBack }
 {}
@@ -61,8 +60,8 @@ pub fn law_of_line_order()
     ensures { LawOfLineOrder }
 {}
 
-/// Up to 32 Teletext packets of one video frame form a value that fits in a `PesFrame`, and the
-/// units of that value carry these packets.
+/// The Teletext packets of one video frame form a value that fits in a `PesFrame`, and the units of
+/// that value carry these packets.
 pub fn law_of_numbered_frame()
     ensures { LawOfNumberedFrame }
 {}
@@ -74,7 +73,7 @@ pub fn law_of_pes_packets()
 {}
 
 /// A range of a file contains the PES packets with the indices in the range, and the bytes after
-/// the last packet of the file if the file ends before the range does or the range has no `last`.
+/// the last packet of the file if the file ends before the range.
 pub fn law_of_ranges()
     ensures { LawOfRanges }
 {}
