@@ -28,7 +28,7 @@ use Rattle.mpeg_ts.proofs.OutcomeLemmas.{output}
 use Rattle.mpeg_ts.proofs.OutcomeLemmas.{output-again, output-end, output-end_complete}
 use Rattle.mpeg_ts.proofs.OutcomeLemmas.{output-excess}
 use Rattle.mpeg_ts.proofs.OutcomeLemmas.{output-gap_where, output-other}
-use Rattle.mpeg_ts.proofs.OutcomeLemmas.{output-no_output_after_wrong}
+use Rattle.mpeg_ts.proofs.OutcomeLemmas.{output-leading_gap}
 use Rattle.mpeg_ts.proofs.OutcomeLemmas.{found_other_is_faulty}
 use Rattle.mpeg_ts.proofs.OutcomeLemmas.{late_fault_needs_short_start, outcome-headless}
 use Rattle.mpeg_ts.proofs.OutcomeLemmas.{outcome-unfinished}
@@ -215,7 +215,7 @@ disjunction_with_false b = grind (arith, nat_tests)
 output-excess_fault_free : (g : Given) (excess : Bool) (rest : List PartOutcome)
     → (excess ≡ true → gave_pes_packet g ≡ false)
     → output g rest ≡ output g (gap_where excess ++ rest)
-output-excess_fault_free g excess rest h1 = grind (arith, nat_tests, output-no_output_after_wrong)
+output-excess_fault_free g excess rest h1 = grind (arith, nat_tests, output-leading_gap)
 
 new_part_after_incomplete : (wrong : Bool) (more : List GoodPacket) (part : Part) (h : Given)
     (g : GoodPacket)
@@ -248,8 +248,7 @@ joined_output_is_correct wrong [] all = record {
       output-end v.given wrong
       ∙ sym (ap (λ l. output v.given (l ++ gap_where wrong))
       (outcome-unfinished (not wrong) part begins e));
-  complete = λ v excess no_output_after_wrong. output-end_complete v.given excess wrong
-      no_output_after_wrong;
+  complete = λ v excess none_given. output-end_complete v.given excess wrong none_given;
 }
 joined_output_is_correct wrong (g ∷ more) all =
     let rest = joined_output_is_correct wrong more all.1 in
@@ -283,7 +282,7 @@ joined_output_is_correct wrong (g ∷ more) all =
           (bytes-with part g)
           o))
           ∙ sym (bytes-with part g))));
-      complete = λ v excess no_output_after_wrong.
+      complete = λ v excess none_given.
           let state : JoiningValue = record v { part = Complete } in
           let after = tail wrong (single_packet_part g) more in
           boolean_cases (begins_part g)
@@ -294,7 +293,7 @@ joined_output_is_correct wrong (g ∷ more) all =
           (disjunction_with_false (is_break g.link))
           ∙ sym (output-gap_where v.given (is_break g.link) after)
           ∙ output-excess_fault_free v.given excess (gap_where (is_break g.link) ++ after)
-          no_output_after_wrong))
+          none_given))
           (λ no. rw no (
           ap (λ l. gap_marker_where (gave_pes_packet v.given) ++ l)
           (rest.complete (without_pending

@@ -53,16 +53,16 @@ with_gap_markers-nothing gap (Other b ∷ more) = refl
 pub gap_ends_packet_output : (g : Given) → gave_pes_packet (last_output_after true g) ≡ false
 gap_ends_packet_output g = grind (arith, nat_tests)
 
-pub output-no_output_after_wrong : (g : Given) (more : List PartOutcome)
+pub output-leading_gap : (g : Given) (more : List PartOutcome)
     → gave_pes_packet g ≡ false
     → output g (Gap ∷ more) ≡ output g more
-output-no_output_after_wrong g more h1 = grind (arith, nat_tests)
+output-leading_gap g more h1 = grind (arith, nat_tests)
 
 pub output-again : (g : Given) (b : Bool) (more : List PartOutcome)
     → output (last_output_after true g) (gap_where b ++ more) ≡ output (last_output_after true g)
     more
 output-again g b more = grind
-    (arith, nat_tests, output-no_output_after_wrong, gap_ends_packet_output)
+    (arith, nat_tests, output-leading_gap, gap_ends_packet_output)
 
 pub output-gap_where : (g : Given) (b : Bool) (more : List PartOutcome)
     → output g (gap_where b ++ more)
@@ -310,13 +310,13 @@ pub output-excess : (g : Given) (wrong : Bool) (goods : List GoodPacket)
     ≡ gap_marker_where (gave_pes_packet g) ++ output (last_output_after true g)
     (following true wrong goods)
 output-excess h wrong [] = grind
-    (arith, nat_tests, output-no_output_after_wrong, gap_ends_packet_output)
+    (arith, nat_tests, output-leading_gap, gap_ends_packet_output)
 output-excess h wrong (g ∷ more) =
     grind (
       arith,
       nat_tests,
       boolean_cases,
-      output-no_output_after_wrong,
+      output-leading_gap,
       gap_ends_packet_output,
       (output-excess h wrong more),
     )

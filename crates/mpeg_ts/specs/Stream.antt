@@ -9,9 +9,9 @@ use Rattle.mpeg_ts.specs.Pid.{greatest_pid}
 use Rattle.mpeg_ts.specs.TransportPacket.{pid, sync_byte}
 use Rattle.mpeg_ts.specs.Window.{WindowValue, buffered_and_left}
 
--- The reading state of a recording: the PID, the packet size, the buffered bytes, the number of
--- bytes to skip before the next item, whether reading is in step, the number of consecutive skipped
--- bytes, and the state of reassembly.
+-- The reading state of a recording: the PID, the packet size, the buffered bytes and the number of
+-- bytes that may still be read, the number of bytes to skip before the next item, whether reading
+-- is in step, the number of consecutive skipped bytes, and the state of reassembly.
 pub record StreamValue : Type 0 where
   pub number : ℕ
   pub distance : ℕ

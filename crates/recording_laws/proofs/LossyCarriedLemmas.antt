@@ -23,7 +23,7 @@ use Rattle.recording_laws.specs.Multiplex.{carriers_of}
 use Rattle.recording_laws.specs.Multiplex.{items_of_carrier, items_of_multiplex, packet_in}
 use Rattle.recording_laws.specs.Multiplex.{carriers_of_pes}
 use Rattle.recording_laws.proofs.LossyCarrierLemmas.{AreCountersConsecutive, IsAnyLossyCarrier}
-use Rattle.recording_laws.proofs.LossyCarrierLemmas.{carried_bytes-no_jump}
+use Rattle.recording_laws.proofs.LossyCarrierLemmas.{carrier_announces_no_jump}
 use Rattle.ttx_pes.specs.PesPackets.{IsPesPacket}
 use Rattle.recording_laws.proofs.LossyNoteLemmas.{IsLossyUnit, IsLossyCarrier, good-quiets-left}
 use Rattle.recording_laws.proofs.LossyNoteLemmas.{notes_of_unit}
@@ -216,7 +216,7 @@ module _ (distance number : ℕ) where
           absurd
           (cc (
             here.0,
-            carried_bytes-no_jump number (sent_packet distance d.packet)
+            carrier_announces_no_jump number (sent_packet distance d.packet)
                 left_d.1.is_carrier.carries left_d.1.packet.no_jump,
           ))
     ]

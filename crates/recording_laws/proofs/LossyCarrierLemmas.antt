@@ -39,17 +39,17 @@ begins-same p q h1 = grind (arith, nat_tests, bytes_eq-Decides, get_or-take)
 payload-same : (p q : List ℕ) → is_same p q ≡ true → payload p ≡ payload q
 payload-same p q h1 = grind (arith, nat_tests, bytes_eq-Decides)
 
-pub carried_bytes-no_jump : (number : ℕ) (p : List ℕ)
+pub carrier_announces_no_jump : (number : ℕ) (p : List ℕ)
     → carries number p ≡ true
     → pid_announces_jump number p ≡ false
     → announces_jump p ≡ false
-carried_bytes-no_jump number p carried_bytes none = grind (arith, nat_tests)
+carrier_announces_no_jump number p carrying none = grind (arith, nat_tests)
 
 payload-long : (number : ℕ) (p : List ℕ)
     → length p ≡ 188
     → carries number p ≡ true
     → 0 < length (payload p)
-payload-long number p long carried_bytes = grind (arith, nat_tests, length-drop)
+payload-long number p long carrying = grind (arith, nat_tests, length-drop)
 
 length-packet : (distance : ℕ) (u : List ℕ)
     → IsRecordedUnit distance u
@@ -147,7 +147,7 @@ module _ (distance number : ℕ) where
       → AllByRecursion (λ f. IsRepetition number p (sent_packet distance f)) (option_to_list again)
       → IsPacketCopy p (repeat_or_packet distance number again p)
   copy-again p again h1 h2 h3 =
-      grind (arith, nat_tests, counter-same, begins-same, payload-same, carried_bytes-no_jump)
+      grind (arith, nat_tests, counter-same, begins-same, payload-same, carrier_announces_no_jump)
 
   pub carrier-payload : (first : Bool) (c : Carrier SentUnit)
       → IsLossyCarrier distance number first c

@@ -9,7 +9,8 @@ use Rattle.recording_laws.proofs.LossyCarrierLemmas.{IsLastCounter, few-gone, fe
 use Rattle.recording_laws.proofs.LossyCarrierLemmas.{fresh-later}
 use Rattle.recording_laws.proofs.LossyCarrierLemmas.{break-left, AreCountersConsecutive}
 use Rattle.recording_laws.proofs.LossyCarrierLemmas.{IsPacketCopy, IsAnyLossyCarrier}
-use Rattle.recording_laws.proofs.LossyCarrierLemmas.{carried_bytes-no_jump, copy-again, cut-left}
+use Rattle.recording_laws.proofs.LossyCarrierLemmas.{carrier_announces_no_jump, copy-again}
+use Rattle.recording_laws.proofs.LossyCarrierLemmas.{cut-left}
 use Rattle.recording_laws.proofs.LossyCarrierLemmas.{good_packet_after_loss}
 use Rattle.recording_laws.proofs.LossyCarrierLemmas.{link_after_loss, linked_packet-left}
 use Rattle.std.proofs.lemmas.Bool.{cases_Bool}
@@ -238,7 +239,7 @@ module _ (distance number : ℕ) (few : Bool) where
       p = sent_packet distance c.packet
 
       none : announces_jump p ≡ false
-      none = carried_bytes-no_jump number p h.is_carrier.carries h.packet.no_jump
+      none = carrier_announces_no_jump number p h.is_carrier.carries h.packet.no_jump
 
       packet_copies_itself : IsPacketCopy p p
       packet_copies_itself = record
@@ -313,15 +314,15 @@ module _ (distance number : ℕ) (few : Bool) where
       → (few ≡ true → is_damaged_before_copy ≡ (wrong || any_unit_damaged (units_before_copy c)))
       → is_some good ≡ true
       → IsLinkExact n wrong c (good_packet_after_loss good is_damaged_before_copy h)
-  linked_packet-copy None i n wrong is_damaged_before_copy c h part_number_is_first_index second
+  linked_packet-copy None i n wrong is_damaged_before_copy c h last_counter second
       small same some = absurd (cc some)
-  linked_packet-copy (Some g) i n wrong is_damaged_before_copy c h part_number_is_first_index second
+  linked_packet-copy (Some g) i n wrong is_damaged_before_copy c h last_counter second
       small same some = record {
         cut = cut-left g h is_damaged_before_copy;
-        far = λ e. link-far i n g h is_damaged_before_copy part_number_is_first_index second e;
+        far = λ e. link-far i n g h is_damaged_before_copy last_counter second e;
         exact = λ e. (
           small e,
-          break-left i n g h is_damaged_before_copy part_number_is_first_index second (small e)
+          break-left i n g h is_damaged_before_copy last_counter second (small e)
               ∙ ap (λ (b : Bool). b || nat_lt 0 n) (same e),
         );
       }
@@ -342,11 +343,11 @@ module _ (distance number : ℕ) (few : Bool) where
       (good_packets_after (history_after_loss good again wrong)
       (flat_map (notes_of_unit distance number) (flat_map items_of_carrier cs))).packets
   unfolding good_packets_after
-  carriers_are_traced good again wrong i n [] part_number_is_first_index each rising small = refl
-  carriers_are_traced good again wrong i n (c ∷ cs) part_number_is_first_index each rising small =
+  carriers_are_traced good again wrong i n [] last_counter each rising small = refl
+  carriers_are_traced good again wrong i n (c ∷ cs) last_counter each rising small =
       elim (split-step good again wrong c cs each.0
       (λ e again w q copy.
-      fresh-later good again w q i n part_number_is_first_index (copy.counter ∙ rising.0)
+      fresh-later good again w q i n last_counter (copy.counter ∙ rising.0)
       (small e).0)) [
         | inl stays ↦
             inl (
@@ -356,7 +357,7 @@ module _ (distance number : ℕ) (few : Bool) where
                   l.packets)
                   (sym stays.goods_eq)
                   (carriers_are_traced good stays.again stays.wrong_after_good i (n + 1) cs
-                  part_number_is_first_index each.1
+                  last_counter each.1
                   (subst (λ (j : ℕ). AreCountersConsecutive distance number j cs) (omega arith)
                   rising.1)
                   (λ e. few-gone n c cs (stays.gone e) (small e).1)),
@@ -376,7 +377,7 @@ module _ (distance number : ℕ) (few : Bool) where
                 first = λ none. first-link good comes.is_damaged_before_copy comes.copy none;
                 linked_packet = λ some.
                     linked_packet-copy good i n wrong comes.is_damaged_before_copy c comes.copy
-                    part_number_is_first_index next
+                    last_counter next
                     (λ e. (small e).0) (λ e. (comes.exact e).1) some;
               },
               comes.wrong_after_good,

@@ -26,7 +26,7 @@ pub block_is_head_text_padding : (s : SubtitleValue) (e : ℕ) (chunk : List ℕ
 unfolding block_of
 block_is_head_text_padding s e chunk = search (rules, drop-replicate, append_assoc)
 
-pub ruleset text_span_after_packet = (append_assoc, block_is_head_text_padding)
+pub ruleset block_layout_rules = (append_assoc, block_is_head_text_padding)
 
 block_has_ebn_and_text : (s : SubtitleValue) (e : ℕ) (chunk : List ℕ)
     → has_no_unused_space chunk ≡ true
@@ -101,7 +101,8 @@ blocks_are_linked s (suc full) e text le few h =
     (blocks_are_linked s full (e + 1) (drop 112 text) (omega (arith, length-drop 112 text))
     (omega arith) (suffix_has_no_unused_space 112 text h))
 
--- The text fields of the written blocks, joined, are the subtitle's text.
+-- If a text has no unused space, the text fields of the blocks written for it, joined, are the
+-- text.
 blocks_carry_the_text : (s : SubtitleValue) (full e : ℕ) (text : List ℕ)
     → has_no_unused_space text ≡ true
     → flat_map text_of_block (blocks_from s full e text) ≡ text

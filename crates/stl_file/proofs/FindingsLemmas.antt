@@ -95,7 +95,8 @@ finds-after : (room block : ℕ) (next : Option StartedSubtitle → Findings) (b
     → FindsFrom block (findings_after_block room next b r)
 finds-after room block next b r le n = grind (arith, finds-before)
 
--- After `block` blocks were read, all results have a greater block number.
+-- After `block` blocks were read, all results have a greater block number, except that `Unfinished`
+-- may have the number `block`.
 pub findings_are_later : (scope : Scope) (room block : ℕ) (begun : Option StartedSubtitle)
     (b : List ℕ)
     → block + room ≡ max_blocks

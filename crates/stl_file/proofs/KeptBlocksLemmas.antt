@@ -85,8 +85,8 @@ later_block_ignores_scope : (scope : Scope) (o : StartedSubtitle) (b : List ℕ)
 unfolding subtitle_block_step
 later_block_ignores_scope scope o b = refl
 
--- If reading a subtitle's first block yields no subtitle yet, the next block belongs to that
--- subtitle.
+-- After a subtitle's first block that is inside the scope and yields no subtitle yet, the states of
+-- reading both files agree.
 first_block_keeps_agreement : (scope : Scope) (b : List ℕ) (n : Option StartedSubtitle)
     → begins_outside scope b ≡ false
     → subtitle_block_step scope None b ≡ Ok (More n)
@@ -401,8 +401,8 @@ cut_file_reads_the_same scope bs (Ok g) each read =
     cut_blocks_read_the_same scope bs None None None max_blocks max_blocks each (refl, refl)
     (omega arith) read
 
--- Reading a part of a file gives the same results as reading the file from which the other
--- subtitles are removed.
+-- If reading a part of a file is not ended by a fault, it gives the same results, except block
+-- numbers, as reading the file from which the other subtitles are removed.
 pub scope_reads_like_cut_file : LawOfScope
 scope_reads_like_cut_file scope g bs size each read =
     rw (

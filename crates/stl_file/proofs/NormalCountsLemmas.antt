@@ -18,7 +18,7 @@ use Rattle.stl_file.specs.Subtitle.{SubtitleValue}
 use Rattle.stl_file.specs.NormalForm.{SubtitlesOrFault, blocks_of_subtitles, subtitles_of}
 use Rattle.stl_file.specs.NormalForm.{blocks_of}
 use Rattle.stl_file.specs.NormalForm.{prepend_subtitle}
-use Rattle.stl_file.specs.NormalCounts.{accepted_subtitles, judged_after_call, normal_counts}
+use Rattle.stl_file.specs.NormalCounts.{accepted_subtitles, subtitles_from_call, normal_counts}
 use Rattle.stl_file.proofs.SubtitleBlocksLemmas.{filtering_adds_no_blocks}
 use Rattle.stl_file.proofs.BlocksOfLemmas.{respelling_needs_no_more_blocks}
 use Rattle.stl_file.proofs.BlocksOfLemmas.{one_block_more_than_chunks}
@@ -31,7 +31,7 @@ pub call_splits_the_outcome : (old new : ReaderValue) (rest next : List ℕ)
     (s : SubtitleValue)
     → GivesNextSubtitle old rest new (Some next) (yielded_subtitle r s)
     → subtitles_of (remaining_outcome old rest)
-    ≡ judged_after_call r s new.block (subtitles_of (remaining_outcome new next))
+    ≡ subtitles_from_call r s new.block (subtitles_of (remaining_outcome new next))
 call_splits_the_outcome old new rest next r s a = grind (arith, nat_tests, same_Some)
 
 -- The normal form of a subtitle has no more blocks than the file has for the subtitle.

@@ -166,8 +166,8 @@ accepted : (s : List ℕ) (r : ReaderValue) (c : Counts)
     → open_result s ≡ good r
     → normal_counts (subtitles_of (outcome_from 0 (drop 1024 s))) ≡ Ok c
     → Accepted s r c
-accepted s r c reader_after_gsi judged =
-    let o = opened_file_has_valid_gsi s r reader_after_gsi in
+accepted s r c opened judged =
+    let o = opened_file_has_valid_gsi s r opened in
     let j = counts_match_accepted_subtitles _ c judged in
     record {
       ts = j.0;
@@ -176,23 +176,18 @@ accepted s r c reader_after_gsi judged =
       form = cc (ap accepted_subtitles j.1, ap (λ (x : ReaderValue). x.gsi) o.2);
     }
 
-module _ (s : List ℕ) (r : ReaderValue) (c : Counts) (g : List ℕ) (reader_after_gsi : open_result s
-    ≡ good r)
+module _ (s : List ℕ) (r : ReaderValue) (c : Counts) (g : List ℕ)
+    (opened : open_result s ≡ good r)
     (judged : normal_counts (subtitles_of (outcome_from 0 (drop 1024 s))) ≡ Ok c)
     (set : g ≡ with_counts c.tnb c.tns r.gsi) (old new : Option (List ℕ)) where
   pub complete_writes_make_normal_form : Appends old new
       (g ++ concat (blocks_of_subtitles
       (accepted_subtitles (subtitles_of (outcome_from 0 (drop 1024 s))))))
       → WritesNormal s old new c.tns
-  complete_writes_make_normal_form w = grind (
-    arith,
-    nat_tests,
-    accepted s r c reader_after_gsi
-        judged,
-  )
+  complete_writes_make_normal_form w = grind (arith, nat_tests, accepted s r c opened judged)
 
   pub failed_writes_make_prefix : AppendsPrefix old new
       (g ++ concat (blocks_of_subtitles
       (accepted_subtitles (subtitles_of (outcome_from 0 (drop 1024 s))))))
       → WritesPrefix s old new
-  failed_writes_make_prefix w = grind (arith, nat_tests, accepted s r c reader_after_gsi judged)
+  failed_writes_make_prefix w = grind (arith, nat_tests, accepted s r c opened judged)

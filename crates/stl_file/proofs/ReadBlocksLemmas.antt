@@ -44,8 +44,9 @@ pub record HasRead
       → findings_from scope from refused (bytes ++ more)
       ≡ findings_with_room scope (max_blocks - block) begun more
 
--- If the source fails within a block, no result of the file has a smaller block number, whatever
--- bytes follow.
+-- If the source fails within a block, every result from this call on has the number of this block
+-- or a greater one, whatever bytes follow; only `Unfinished` may have the number of the block
+-- before.
 pub failed_source_fails_reading : (scope : Scope) (from block : ℕ)
     (refused : Option StartedSubtitle)
     (old mid new : Option (List ℕ)) (begun : Option StartedSubtitle) (bytes : List ℕ)
@@ -87,7 +88,8 @@ module _ {scope : Scope} {from : ℕ} {refused : Option StartedSubtitle}
       let l = length-append h.bytes (take n buffer) in
       grind (arith, nat_tests, prefix_has_its_length, append_assoc)
 
-  -- If no byte is left, the result is the end of the file, or `Unfinished` within a subtitle.
+  -- If no byte is left, the bytes read lead to the result: the end of the file, or `Unfinished`
+  -- within a subtitle.
   pub file_end_leads_to_result : (r : Result Found StlFault)
       → n ≡ 0
       → block ≤ max_blocks

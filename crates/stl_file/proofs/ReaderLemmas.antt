@@ -25,7 +25,8 @@ use Rattle.stl_file.proofs.RestLemmas.{valid_blocks_are_read, accepted_bytes_are
 use Rattle.stl_file.proofs.RestLemmas.{joined_groups}
 use Rattle.stl_file.proofs.ScopeLemmas.{whole_scope_keeps_all_groups}
 
--- The bytes left before a call are the bytes consumed, followed by the bytes left after the call.
+-- If the bytes before a call are known, the bytes left after it are known, and the results for the
+-- bytes before the call are its result, followed by the results for the bytes left.
 pub left-then : (old new : Option (List ℕ)) (rest : List ℕ) {scope : Scope} {from to : ℕ}
     {refused next : Option StartedSubtitle} {t : SubtitleValue} {result : Result Found StlFault}
     → LeadsToResult scope from to refused next old new t result
@@ -86,7 +87,8 @@ last_block_is_subtitle_block prefix b (c ∷ bs) h k = last_block_is_subtitle_bl
     h.1
     (λ start last e size. k start last (sym (append_assoc prefix b (concat (c ∷ bs))) ∙ e) size)
 
--- The blocks of a subtitle end with a block that is not skipped.
+-- If the bytes of blocks do not end with a skipped block, and the blocks contain a subtitle, the
+-- list of blocks ends with a block that is not skipped.
 subtitle_blocks_end_the_list : (s : SubtitleValue) (bs : List (List ℕ))
     → AreBlocksOf s (filter is_subtitle_block bs)
     → AllByRecursion IsBlock bs
@@ -95,7 +97,8 @@ subtitle_blocks_end_the_list : (s : SubtitleValue) (bs : List (List ℕ))
 subtitle_blocks_end_the_list s [] a h k = absurd cc
 subtitle_blocks_end_the_list s (b ∷ bs) a h k = last_block_is_subtitle_block [] b bs h k
 
--- If a call returns a subtitle, the bytes consumed are the blocks of the subtitle.
+-- If a call returns a subtitle and no rejected subtitle remains to be skipped, the bytes consumed
+-- are the blocks of the subtitle, with the skipped blocks before and inside them.
 pub found_subtitle_is_consumed : (from to : ℕ) (old new : Option (List ℕ)) (s : SubtitleValue)
     (kept : Option (List ℕ))
     → kept ≡ None

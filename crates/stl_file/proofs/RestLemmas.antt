@@ -95,8 +95,8 @@ judged_after_started o tail j =
     (prepend_subtitle (record o.subtitle { text = o.subtitle.text ++ flat_map text_of_block tail })
     j)
 
--- If the remaining blocks of a subtitle are linked, reading them returns the subtitle and then the
--- later subtitles.
+-- If the remaining blocks of a subtitle are linked, reading them returns the subtitle, unless it is
+-- skipped, and then the later subtitles.
 linked_blocks_are_read : (scope : Scope) (tail : List (List ℕ)) (room : ℕ)
     (begun : Option StartedSubtitle)
     (b rest : List ℕ) (o : StartedSubtitle)

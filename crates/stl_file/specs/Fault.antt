@@ -34,10 +34,10 @@ code_of_normal_fault (Refused fault block) = code_of_stl_fault fault
 code_of_normal_fault Write = fault_code 29 (codes "Write")
 
 -- The fault is in the bytes of the file, not in the device or an earlier fault.
-abbrev pub is_format_fault : StlFault → Bool
-is_format_fault fault.Read = false
-is_format_fault fault.Ended = false
-is_format_fault _ = true
+abbrev pub is_file_format_fault : StlFault → Bool
+is_file_format_fault fault.Read = false
+is_file_format_fault fault.Ended = false
+is_file_format_fault _ = true
 
 -- The fault means that the source failed.
 abbrev pub is_file_read_failure : StlFault → Bool

@@ -19,8 +19,8 @@ normal_counts (Err f) = Err f
 
 -- The subtitles of the next call of the reader and of all later calls, given the result of the next
 -- call, its block number and the subtitles of the later calls.
-abbrev pub judged_after_call : Result Bool StlFault → SubtitleValue → ℕ → SubtitlesOrFault
+abbrev pub subtitles_from_call : Result Bool StlFault → SubtitleValue → ℕ → SubtitlesOrFault
     → SubtitlesOrFault
-judged_after_call (Ok true) s block left = prepend_subtitle s left
-judged_after_call (Ok false) s block left = Ok []
-judged_after_call (Err f) s block left = Err (Refused f block)
+subtitles_from_call (Ok true) s block left = prepend_subtitle s left
+subtitles_from_call (Ok false) s block left = Ok []
+subtitles_from_call (Err f) s block left = Err (Refused f block)

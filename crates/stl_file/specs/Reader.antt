@@ -8,7 +8,7 @@ use Rattle.stl_file.specs.declared.fault.StlFault.{StlFault}
 use Rattle.stl_file.specs.declared.fault.StlFault.TheVariants as fault
 use Rattle.stl_file.specs.declared.progress.Progress.{Progress}
 use Rattle.stl_file.specs.declared.progress.Progress.TheVariants.{Reading, AtEnd, Broken}
-use Rattle.stl_file.specs.Fault.{is_cut, is_file_read_failure, is_format_fault}
+use Rattle.stl_file.specs.Fault.{is_cut, is_file_read_failure, is_file_format_fault}
 use Rattle.stl_file.specs.Gsi.{gsi_size, checked_gsi}
 use Rattle.stl_file.specs.Scope.{whole}
 use Rattle.stl_file.specs.declared.scope.Scope.{Scope}
@@ -150,7 +150,7 @@ FindsFrom block (finds s at more) = (block ≤ at) × FindsFrom block more
 FindsFrom block (refuses f at more) = (block ≤ at) × FindsFrom block more
 
 -- The source failed: `to` is the block of the first byte that could not be read. Whatever follows
--- the bytes consumed, no result has a smaller block number.
+-- the bytes consumed, the results have at least this block number, in the sense of `FindsFrom`.
 pub record FailsReading
     (scope : Scope) (from to : ℕ) (refused : Option StartedSubtitle) (old new : Option (List ℕ))
     : Type 0 where
@@ -168,7 +168,7 @@ abbrev pub ConsumesByResult :
 ConsumesByResult from to old new (Ok (Some s)) = ConsumesSubtitle from to old new s
 ConsumesByResult from to old new (Ok None) = ConsumesSkippedBlocks from to old new
 ConsumesByResult from to old new (Err f) =
-    (is_format_fault f ≡ true → Refuses from to old new f)
+    (is_file_format_fault f ≡ true → Refuses from to old new f)
     × (is_file_read_failure f ≡ true → FailsReading whole from to None old new)
 
 -- The progress of a reader after a call, by the call's result.

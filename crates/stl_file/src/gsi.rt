@@ -1,7 +1,7 @@
 //! GSI blocks (EBU Tech 3264), stored as the bytes that were read.
 
 ghost use Rattle.std.specs.Prelude.{◌≡◌, ◌+◌, ◌<◌, ◌≤◌, IfErr, IfOk, length, true};
-ghost use Rattle.stl_file.specs.Fault.{is_format_fault};
+ghost use Rattle.stl_file.specs.Fault.{is_file_format_fault};
 ghost use Rattle.stl_file.specs.Gsi.{IsGsiFor, cct, dfc, dsc, field, five_digits, checked_gsi};
 ghost use Rattle.stl_file.specs.Gsi.{with_counts};
 ghost use Rattle.stl_file.specs.GsiFields.{cd, co, cpn, dsn, ecd, en, lc, mnc, mnr, oet, opt};
@@ -100,7 +100,7 @@ impl Gsi {
     #[tactic(auto, unfolding(crate::specs::Gsi::checked_gsi))]
     pub(crate) fn validate(self, takes_open: bool) -> Result<Gsi, StlFault>
         ensures exact { checked_gsi takes_open self ≡ result }
-        ensures kind { IfErr result (λ fault. is_format_fault fault ≡ true) }
+        ensures kind { IfErr result (λ fault. is_file_format_fault fault ≡ true) }
         ensures sound { IfOk result (λ g. (g ≡ self) × IsGsiFor takes_open g) }
     {
         let dfc = self.dfc();

@@ -9,7 +9,8 @@ ghost use Rattle.stl_file.specs.declared.progress.Progress.TheVariants.{Reading}
 ghost use Rattle.stl_file.specs.Fault.{is_normal_write_failure};
 ghost use Rattle.stl_file.specs.NormalForm.{NormalAnswers, blocks_of_subtitles, blocks_of};
 ghost use Rattle.stl_file.specs.NormalForm.{subtitles_of};
-ghost use Rattle.stl_file.specs.NormalCounts.{accepted_subtitles, judged_after_call, normal_counts};
+ghost use Rattle.stl_file.specs.NormalCounts.{accepted_subtitles, normal_counts};
+ghost use Rattle.stl_file.specs.NormalCounts.{subtitles_from_call};
 ghost use Rattle.stl_file.specs.Reader.{outcome_from, remaining_outcome};
 ghost use Rattle.stl_file.specs.Tti.{max_blocks};
 
@@ -87,7 +88,7 @@ fn read_ahead(
 ) -> Result<bool, StlFault>
     requires { reader.old.progress ≡ Reading }
     ensures exact { subtitles_of (remaining_outcome reader.old source.old)
-        ≡ judged_after_call result subtitle.new reader.new.block
+        ≡ subtitles_from_call result subtitle.new reader.new.block
         (subtitles_of (remaining_outcome reader.new source.new)) }
     ensures reading { result ≡ Ok true → reader.new.progress ≡ Reading }
     ensures few { result ≡ Ok true → reader.new.block ≤ max_blocks }

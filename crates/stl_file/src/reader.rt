@@ -8,7 +8,7 @@ ghost use Rattle.std.specs.Io.KnownBytes.{Consumes};
 ghost use Rattle.sub_io.specs.Device.{CanFail, CountsFailureIf, failed};
 ghost use Rattle.sub_io.specs.Reading.{IfKnown};
 ghost use Rattle.stl_file.specs.declared.fault.StlFault.TheVariants.{Ended};
-ghost use Rattle.stl_file.specs.Fault.{is_format_fault, is_file_read_failure};
+ghost use Rattle.stl_file.specs.Fault.{is_file_format_fault, is_file_read_failure};
 ghost use Rattle.stl_file.specs.Gsi.{IsGsi, IsGsiFor};
 ghost use Rattle.stl_file.specs.Reader.{block_of_fault, reported_block, checked_gsi_of_file};
 ghost use Rattle.stl_file.specs.Reader.{open_result, FailsReading};
@@ -76,7 +76,7 @@ impl StlReader {
         ensures start { IfOk result (λ reader.
             (reader.block ≡ 0) × (reader.progress ≡ Reading)) }
         // No subtitle file begins with the rejected bytes.
-        ensures refused { IfErr result (λ fault. is_format_fault fault ≡ true →
+        ensures refused { IfErr result (λ fault. is_file_format_fault fault ≡ true →
             RefusesOpening (S.remaining source.old) (S.remaining source.new) fault) }
         // If the source failed, it failed within the GSI block.
         ensures failed { failed is_file_read_failure result ≡ true →
@@ -154,7 +154,7 @@ impl StlReader {
             (S.remaining source.old) (S.remaining source.new))) }
         // No subtitle file has the rejected bytes at this position.
         ensures refused { self.old.progress ≡ Reading → IfErr result (λ fault.
-            is_format_fault fault ≡ true → Refuses self.old.block self.new.block
+            is_file_format_fault fault ≡ true → Refuses self.old.block self.new.block
             (S.remaining source.old) (S.remaining source.new) fault) }
         // If the source failed, it failed at the block with the number `self.new.block`.
         ensures failed { self.old.progress ≡ Reading → failed is_file_read_failure result ≡ true →
@@ -262,7 +262,7 @@ pub(crate) fn read_gsi<S: Source>(source: &mut S, scope: Scope) -> Result<Gsi, S
         × Consumes (S.remaining source.old) (S.remaining source.new) gsi) }
     ensures left { IfKnown (S.remaining source.old) (λ bytes.
         IfOk result (λ gsi. S.remaining source.new ≡ Some (drop 1024 bytes))) }
-    ensures refused { IfErr result (λ fault. is_format_fault fault ≡ true →
+    ensures refused { IfErr result (λ fault. is_file_format_fault fault ≡ true →
         RefusesOpeningFor scope (S.remaining source.old) (S.remaining source.new) fault) }
     ensures failed { failed is_file_read_failure result ≡ true → (bytes : List ℕ) ×
         (length bytes < 1024)

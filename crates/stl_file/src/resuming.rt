@@ -7,7 +7,7 @@ ghost use Rattle.sub_io.specs.Device.{CanFail, CountsFailureIf, failed};
 ghost use Rattle.sub_io.specs.Reading.{IfKnown};
 ghost use Rattle.stl_file.specs.declared.fault.StlFault.TheVariants.{Ended};
 ghost use Rattle.stl_file.specs.declared.progress.Progress.TheVariants.{Reading};
-ghost use Rattle.stl_file.specs.Fault.{is_format_fault, is_file_read_failure};
+ghost use Rattle.stl_file.specs.Fault.{is_file_format_fault, is_file_read_failure};
 ghost use Rattle.stl_file.specs.Gsi.{IsGsiFor};
 ghost use Rattle.stl_file.specs.Reader.{FailsReading, HasValidBlockNumber, RefusesOpeningFor};
 ghost use Rattle.stl_file.specs.Reading.{skipped_subtitle_from};
@@ -89,7 +89,7 @@ impl ResumingReader {
         ensures start { IfOk result (λ reader. reader
             ≡ record { scope = scope; block = 0; progress = Reading; refused = None }) }
         // No subtitle file begins with the rejected bytes.
-        ensures refused { IfErr result (λ fault. is_format_fault fault ≡ true →
+        ensures refused { IfErr result (λ fault. is_file_format_fault fault ≡ true →
             RefusesOpeningFor scope (S.remaining source.old) (S.remaining source.new) fault) }
         // If the source failed, it failed within the GSI block.
         ensures failed { failed is_file_read_failure result ≡ true →

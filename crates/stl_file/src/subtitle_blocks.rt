@@ -81,7 +81,8 @@ fn take_subtitle_block(
     }
 }
 
-// Applies the first block of a subtitle.
+// Applies the first block of a subtitle. Returns whether the subtitle is complete; false if the
+// subtitle is outside the scope, and so skipped.
 #[tactic(auto, unfolding(crate::specs::Reading::subtitle_block_step))]
 fn take_first_block(
     scope: Scope,
@@ -107,7 +108,8 @@ fn take_first_block(
     Ok(is_last)
 }
 
-// Applies a later block of a subtitle.
+// Applies a later block of a subtitle. Returns whether the subtitle is complete; false if the
+// subtitle is skipped.
 #[tactic(auto, unfolding(crate::specs::Reading::subtitle_block_step))]
 fn take_later_block(
     scope: Scope,

@@ -54,7 +54,7 @@ fn encode_blocks(subtitle: &Subtitle) -> (ArrayVec<u8, 1152>, u8)
 }
 
 // Appends one TTI block of a subtitle, with the given EBN and part of the text.
-#[tactic(auto, using(crate::proofs::BlocksOfLemmas::text_span_after_packet))]
+#[tactic(auto, using(crate::proofs::BlocksOfLemmas::block_layout_rules))]
 fn push_block(out: &mut ArrayVec<u8, 1152>, subtitle: &Subtitle, ebn: u8, chunk: &[u8])
     requires room { length out.old.items + 128 ≤ 1152 }
     requires chunk { length chunk.now ≤ 112 }

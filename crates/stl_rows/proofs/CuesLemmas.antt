@@ -119,5 +119,5 @@ module _ (texts : List ℕ) (cs : List Cue) (f at : ℕ)
   ended-after k d a b =
       let l = length-map cs (subtitle_of_cue texts) in
       let same = cue_has_tco_of_subtitle texts cs k empty_cue d (omega (arith, l)) in
-      let later_findings_are_not_before = point.1 k empty_cue a (omega (arith, l)) in
+      let before_tco = point.1 k empty_cue a (omega (arith, l)) in
       grind (arith, nat_tests)

@@ -82,13 +82,11 @@ draw_line-page jc vp done (c ∷ cs) fits =
     (map new (range_with_len 1 24)) (long ∙ sym (length-map-range_with_len new 1 24)) (λ k h.
     let inside : k < 24 = omega (arith, h, long) in
     elim (cases_eq k at) [
-      | inl drop_splits_at_element ↦
-          get_or-set_at (map old (range_with_len 1 24)) at k (row_of jc line) []
-          drop_splits_at_element
+      | inl same_row ↦
+          get_or-set_at (map old (range_with_len 1 24)) at k (row_of jc line) [] same_row
           (omega (arith, size, first, low))
           ∙ ap (row_of jc) (sym
-          (line_in_row-last vp (k + 1) done line
-          (omega (arith, drop_splits_at_element, first))))
+          (line_in_row-last vp (k + 1) done line (omega (arith, same_row, first))))
           ∙ sym (get_or-map-range_with_len new 1 24 k (k + 1) [] inside (omega arith))
       | inr other ↦
           get_or-set_other (map old (range_with_len 1 24)) at k (row_of jc line) [] other

@@ -94,7 +94,8 @@ module _ (n : Drawing) (ts : List SubtitleValue) (f at : ℕ) (t : SubtitleValue
   pub ends_after : f < t.tco
   ends_after = rw (← is) at (first.after at t (omega arith) inside)
 
-  -- No subtitle is due in the gap before the first subtitle whose TCO is after the frame.
+  -- If the first subtitle whose TCO is after the frame starts later, no subtitle is expected at the
+  -- frame.
   pub none-between : f < t.tci
       → (k : ℕ) (d : SubtitleValue)
       → k < length ts
@@ -237,17 +238,17 @@ pub due_page_stays_without_edges : (n : Drawing) (ts : List SubtitleValue) (f j 
     → j ≤ f
     → ((e : ℕ) → IsEdge ts e → f < e + j → e ≤ f → ⊥)
     → due n ts (f - j) ≡ due n ts f
-due_page_stays_without_edges n ts f zero within none = let drop_splits_at_element : f - 0 ≡
-    f = omega arith in rw drop_splits_at_element refl
+due_page_stays_without_edges n ts f zero within none =
+    let same_frame : f - 0 ≡ f = omega arith in rw same_frame refl
 due_page_stays_without_edges n ts f (suc j) within none =
-    let drop_splits_at_element : due n ts (f - j) ≡ due n ts (f - j - 1) =
+    let same_page : due n ts (f - j) ≡ due n ts (f - j - 1) =
     page_changes_only_at_edges n ts (f - j) (omega arith)
     (λ edge. none (f - j) edge (omega arith) (omega arith)) in
     let before =
     due_page_stays_without_edges n ts f j (omega arith) (λ e edge after until. none e edge
     (omega arith) until) in
     let same : f - suc j ≡ f - j - 1 = omega arith in
-    rw same (sym drop_splits_at_element ∙ before)
+    rw same (sym same_page ∙ before)
 
 -- The TCOs of a programme do not decrease, so a binary search finds the first TCO after a frame.
 pub tcos_never_decrease : (n : Drawing) (ts : List SubtitleValue)
@@ -276,8 +277,8 @@ pub left-from : (n : Drawing) (ts : List SubtitleValue) (f at : ℕ) (t : Subtit
     → at ≤ k
     → k < length ts
     → f < (get_or ts k d).tco
-left-from n ts f at t ok inside is later_findings_are_not_before k d a b =
+left-from n ts f at t ok inside is before_tco k d a b =
     let own : t ≡ get_or ts at d = get_or_read ts at t inside is d in
     let same = ap (λ (s : SubtitleValue). s.tco) own in
     let up = tcos_never_decrease n ts ok at k d a b in
-    omega (arith, up, same, later_findings_are_not_before)
+    omega (arith, up, same, before_tco)

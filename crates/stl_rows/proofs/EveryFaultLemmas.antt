@@ -132,7 +132,7 @@ ending_subtitle_ends_after_times drawing before at (breaks f block) e = e
 ending_subtitle_ends_after_times drawing before at (refuses f block left) e = absurd
     (let none = e.1 in cc)
 ending_subtitle_ends_after_times drawing before at (finds t block left)
-    (inl drop_splits_at_element) = (drop_splits_at_element.2, inl drop_splits_at_element.0)
+    (inl here) = (here.2, inl here.0)
 ending_subtitle_ends_after_times drawing before at (finds t block left) (inr later) =
     let parts =
     empty_append_has_empty_parts (map (load_fault block) (faults_of_next_subtitle drawing before t))

@@ -76,18 +76,20 @@ fails-next {start = start} {old} {new} {scope = scope} reader {block} taken earl
           Consumes-trans start old new taken.bytes failed.bytes taken.consumed failed.consumed;
       block_eq = block-is taken.bytes failed.bytes reader.block block taken.long failed.block;
       reported = λ all is.
-          let drop_splits_at_element = goes all is in
-          let left = consumed_bytes_leave_rest drop_splits_at_element.0 new failed.bytes
-          (rw drop_splits_at_element.1 at failed.consumed) in
+          let progress = goes all is in
+          let left =
+          consumed_bytes_leave_rest progress.0 new failed.bytes
+          (rw progress.1 at failed.consumed) in
           let names : FindsFrom block (findings_from scope reader.block reader.refused
-          drop_splits_at_element.0) =
+          progress.0) =
           rw left.1 (failed.none left.0) in
           reports-unread reader.block block (omega (arith, failed.block)) early_reported names
-          drop_splits_at_element.2
+          progress.2
           reported;
     }
 
--- If the source fails within the GSI block, no fault has been reported.
+-- No fault is reported before block 0, the GSI block. So if the source fails within the GSI block,
+-- no fault has been reported.
 pub reads-nothing : (drawing : Drawing) (file : List ℕ)
     {D : Type 0} {IsReported : D → LoadFault → D → Type 0} (reported : D)
     → Reports IsReported reported reported (filter (is_reported_before 0) (faults drawing file))

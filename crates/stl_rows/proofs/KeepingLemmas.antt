@@ -115,13 +115,13 @@ pub start_no_earlier_than-0 : (js : List JudgedSubtitle) → start_no_earlier_th
 start_no_earlier_than-0 [] = refl
 start_no_earlier_than-0 (j ∷ js) = grind (arith, nat_tests, start_no_earlier_than-0 js)
 
-start_no_earlier_than-earlier : (early later_findings_are_not_before : ℕ) (js : List JudgedSubtitle)
-    → early ≤ later_findings_are_not_before
-    → start_no_earlier_than later_findings_are_not_before js ≡ true
+start_no_earlier_than-earlier : (early late : ℕ) (js : List JudgedSubtitle)
+    → early ≤ late
+    → start_no_earlier_than late js ≡ true
     → start_no_earlier_than early js ≡ true
-start_no_earlier_than-earlier early later_findings_are_not_before [] le h = refl
-start_no_earlier_than-earlier early later_findings_are_not_before (j ∷ js) le h =
-    let rest = start_no_earlier_than-earlier early later_findings_are_not_before js le in
+start_no_earlier_than-earlier early late [] le h = refl
+start_no_earlier_than-earlier early late (j ∷ js) le h =
+    let rest = start_no_earlier_than-earlier early late js le in
     grind (arith, nat_tests)
 
 abbrev pub InOrderFrom : ℕ → List SubtitleValue → Bool
@@ -204,14 +204,14 @@ is_followed (Some times) left = is_followed_in_order times left
 
 -- The reliable subtitles of a file are the kept subtitles, without the last if the next one starts
 -- before its TCI or overlaps it, followed by the reliable subtitles of the rest.
-abbrev pub judged_after_call : Drawing → Option Times → KeptRecords → Findings → AllJudged
-judged_after_call drawing before k left =
+abbrev pub judged_with_kept : Drawing → Option Times → KeptRecords → Findings → AllJudged
+judged_with_kept drawing before k left =
     if k.was_last_kept && not (is_followed before left)
     then joined (take (length k.records - 1) (all_kept k)) (judged_after drawing before true left)
     else joined (all_kept k) (judged_after drawing before k.is_before_unreliable left)
 
 pub judged-start : (drawing : Drawing) (left : Findings)
-    → judged_after drawing None false left ≡ judged_after_call drawing None no_subtitles_yet left
+    → judged_after drawing None false left ≡ judged_with_kept drawing None no_subtitles_yet left
 judged-start drawing left = refl
 
 appending_empty_changes_nothing : (latest other : Bool) (js : List JudgedSubtitle)
@@ -222,7 +222,7 @@ appending_empty_changes_nothing : (latest other : Bool) (js : List JudgedSubtitl
 appending_empty_changes_nothing latest other js given = grind (arith, nat_tests, append-nil)
 
 pub judged-end : (drawing : Drawing) (before : Option Times) (k : KeptRecords)
-    → judged_after_call drawing before k no_more
+    → judged_with_kept drawing before k no_more
     ≡ record { judged = all_kept k; is_before_unreliable = k.is_before_unreliable }
 unfolding judged_after
 judged-end drawing None k = appending_empty_changes_nothing k.was_last_kept k.is_before_unreliable
@@ -232,8 +232,8 @@ judged-end drawing (Some times) k = appending_empty_changes_nothing k.was_last_k
 
 pub judged-refused : (drawing : Drawing) (before : Option Times) (k : KeptRecords)
     (fault : StlFault) (block : ℕ) (left : Findings)
-    → judged_after_call drawing before k (refuses fault block left)
-    ≡ judged_after_call drawing before (after_rejected_subtitle k) left
+    → judged_with_kept drawing before k (refuses fault block left)
+    ≡ judged_with_kept drawing before (after_rejected_subtitle k) left
 unfolding judged_after
 judged-refused drawing None k fault block left = refl
 judged-refused drawing (Some times) k fault block left = refl
@@ -308,8 +308,8 @@ judging_adds_clean_subtitle : (drawing : Drawing) (before : Option Times) (k : K
     (block : ℕ) (left : Findings)
     → length k.after_unreliable_bits ≤ length k.records
     → is_none (first_of (faults_of_next_subtitle drawing before t)) ≡ true
-    → judged_after_call drawing before k (finds t block left)
-    ≡ judged_after_call drawing (Some (times_of t)) (after_kept_subtitle t k) left
+    → judged_with_kept drawing before k (finds t block left)
+    ≡ judged_with_kept drawing (Some (times_of t)) (after_kept_subtitle t k) left
 judging_adds_clean_subtitle drawing before k t block left fits none =
     grind (
       arith,
@@ -328,8 +328,8 @@ judging_drops_reported_subtitle : (drawing : Drawing) (before : Option Times) (k
     (block : ℕ) (left : Findings) (in_order : Bool)
     → is_none (first_of (faults_of_next_subtitle drawing before t)) ≡ false
     → in_order ≡ is_none (first_of (order_faults before (times_of t)))
-    → judged_after_call drawing before k (finds t block left)
-    ≡ judged_after_call drawing (Some (times_of t))
+    → judged_with_kept drawing before k (finds t block left)
+    ≡ judged_with_kept drawing (Some (times_of t))
     (if k.was_last_kept && not in_order then after_faulty_subtitle (without_last_kept k)
     else after_faulty_subtitle k) left
 judging_drops_reported_subtitle drawing before k t block left in_order some is =
@@ -347,8 +347,8 @@ pub judged-next : (drawing : Drawing) (before : Option Times) (k : KeptRecords)
     → length k.after_unreliable_bits ≤ length k.records
     → in_order ≡ is_none (first_of (order_faults before (times_of t)))
     → clean ≡ is_none (first_of (faults_of_next_subtitle drawing before t))
-    → judged_after_call drawing before k (finds t block left)
-    ≡ judged_after_call drawing (Some (times_of t)) (records_after_subtitle in_order clean t k) left
+    → judged_with_kept drawing before k (finds t block left)
+    ≡ judged_with_kept drawing (Some (times_of t)) (records_after_subtitle in_order clean t k) left
 judged-next drawing before k t block left in_order true fits is_order is_clean =
     judging_adds_clean_subtitle drawing before k t block left fits (sym is_clean)
 judged-next drawing before k t block left in_order false fits is_order is_clean =

@@ -238,7 +238,7 @@ lines_of_subtitle national items t = placed_lines items t.vp (lines_by_layout na
 abbrev pub shift_of_subtitle : National → LayoutItems → SubtitleValue → ℕ
 shift_of_subtitle national items t = shift_of_lines items (lines_by_layout national items t.text)
 
--- If a page is drawn, none of the subtitle's lines has a fault.
+-- If a page is drawn, none of the subtitle's lines has a fault, and the page shows these lines.
 pub drawn_by-lines : (national : National) (items : LayoutItems) (t : SubtitleValue) (page : Rows)
     → drawn_by national items t ≡ Ok page
     → (placed_faults items (shift_of_subtitle national items t) (lines_of_subtitle national items t)

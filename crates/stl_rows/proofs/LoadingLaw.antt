@@ -32,8 +32,8 @@ use Rattle.stl_rows.specs.Programme.{order_faults, row_faults, times_before, tim
 use Rattle.stl_rows.proofs.FaultlessLemmas.{empty_append_has_empty_parts, empty_map_has_empty_list}
 use Rattle.stl_rows.proofs.ProgrammeLemmas.{IsProgramme-none, IsProgramme-push, last_element-push}
 
--- If no fault is left in the file, the reader returns all remaining subtitles, and all subtitles
--- together are a programme.
+-- The reader returns all remaining subtitles. If they are valid and the subtitles before them are a
+-- programme, all subtitles together are a programme.
 record IsFaultless (n : Drawing) (records : List SubtitleValue) (left : Findings) : Type 0 where
   all : subtitles_of (stopped left) ≡ Ok (subtitles_of_findings left)
   programme : IsProgramme n records

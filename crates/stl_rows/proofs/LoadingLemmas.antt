@@ -44,7 +44,7 @@ use Rattle.stl_rows.specs.Loading.{loaded_programme, subtitles_of_findings}
 use Rattle.stl_rows.proofs.JudgedLemmas.{faultless_file_is_decided}
 use Rattle.stl_rows.proofs.KeepingLemmas.{RecordsMatchFaults, judged-end, judged-next}
 use Rattle.stl_rows.proofs.KeepingLemmas.{judged-refused}
-use Rattle.stl_rows.proofs.KeepingLemmas.{judged-start, judged_after_call, none-first}
+use Rattle.stl_rows.proofs.KeepingLemmas.{judged-start, judged_with_kept, none-first}
 use Rattle.stl_rows.proofs.KeepingLemmas.{all_kept_means_no_faults}
 use Rattle.stl_rows.proofs.KeepingLemmas.{judged_subtitles_with_bits-subtitles}
 use Rattle.stl_file.specs.KeptBlocks.{is_read_to_the_end}
@@ -159,7 +159,7 @@ pub record LoadingInvariant (drawing : Drawing) (file : List ℕ) (left : Findin
     (before : Option Times)
     (kept : KeptRecords) (early : List LoadFault) : Type 0 where
   pub same : faults drawing file ≡ early ++ faults_after drawing before left
-  pub judged : judged_of drawing file ≡ judged_after_call drawing before kept left
+  pub judged : judged_of drawing file ≡ judged_with_kept drawing before kept left
   pub whole : is_read_to_the_end (findings_within_scope drawing.scope file) ≡ is_read_to_the_end
       left
   pub ends_after : (rest : List LoadFault) (at : ℕ)
@@ -209,14 +209,14 @@ module _ {D : Type 0} {IsReported : D → LoadFault → D → Type 0} {old mid n
       → StopsAtOneOf IsReported old new (early ++ (items ++ rest))
   stops-more early items rest reported s =
       let bound : s.0 ≤ length items = s.2 in
-      let drop_splits_at_element : take (length early + s.0) (early ++ (items ++ rest)) ≡ early ++
+      let prefix_eq : take (length early + s.0) (early ++ (items ++ rest)) ≡ early ++
       take s.0 items =
       take-append-add early (items ++ rest) s.0
       ∙ ap (λ l. early ++ l) (take-append-le s.0 items rest bound) in (
         length early + s.0,
         omega (arith, s.1),
         omega (arith, s.2, length-append early (items ++ rest), length-append items rest),
-        rw drop_splits_at_element (Reports-trans old mid new early (take s.0 items) reported s.3),
+        rw prefix_eq (Reports-trans old mid new early (take s.0 items) reported s.3),
       )
 
   pub fault_is_in_file-stopped : (early items : List LoadFault) {block : ℕ}

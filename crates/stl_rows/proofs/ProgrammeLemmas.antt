@@ -33,7 +33,7 @@ earlier_tcos_are_before_tci : (ts : List SubtitleValue) (t : SubtitleValue) (i :
     → order_faults (times_before ts) (times_of t) ≡ []
     → i < length ts
     → (get_or ts i d).tco ≤ t.tci
-earlier_tcos_are_before_tci ts t i d each ordered_bits_order_subtitles h inside =
+earlier_tcos_are_before_tci ts t i d each in_order h inside =
     let at : ℕ = length ts - 1 in
     let times = (each at d (omega arith)).times in
     grind (arith, nat_tests, tci_follows_last_tco, slice_get-get_or)
@@ -43,7 +43,7 @@ in_order-push : (ts : List SubtitleValue) (t : SubtitleValue)
     → AreInOrder ts
     → order_faults (times_before ts) (times_of t) ≡ []
     → AreInOrder (ts ++ t ∷ [])
-in_order-push ts t each ordered_bits_order_subtitles h i j d below inside =
+in_order-push ts t each in_order h i j d below inside =
     grind (
       arith,
       nat_tests,

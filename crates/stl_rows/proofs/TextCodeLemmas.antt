@@ -14,9 +14,9 @@ use Rattle.stl_rows.specs.TextCode.{HasSevenBits, cell_of, cell_of_pair, code_an
 use Rattle.stl_rows.specs.TextCode.{code_without_cell, first_of, is_common, text_codes}
 use Rattle.stl_rows.proofs.SubSetLemmas.{cell_of_character-small}
 
-split_at_mark : (text : List ℕ) (at : ℕ) → at < length text
+drop_splits_at_element : (text : List ℕ) (at : ℕ) → at < length text
     → drop at text ≡ get_or text at 0 ∷ drop (at + 1) text
-split_at_mark text at h = rw (add-one, drop-cons text at 0) refl
+drop_splits_at_element text at h = rw (add-one, drop-cons text at 0) refl
 
 -- Each of the 256 entries of the table of common bytes is computed and equals the definition.
 pub common_table_matches_definition : (byte : ℕ) → byte < 0x100
@@ -30,13 +30,13 @@ pub text_codes-common : (n : National) (at : ℕ) (text : List ℕ) → at < len
     → text_codes n at (drop at text)
     ≡ (at, Cell (get_or text at 0)) ∷ text_codes n (at + 1) (drop (at + 1) text)
 unfolding cell_of cell_of_pair is_common
-text_codes-common n at text h e = grind (arith, nat_tests, split_at_mark)
+text_codes-common n at text h e = grind (arith, nat_tests, drop_splits_at_element)
 
 pub text_codes-pair : (n : National) (at : ℕ) (text : List ℕ) (code : ℕ) → at + 1 < length text
     → Some code ≡ cell_of_pair n (get_or text at 0) (first_of (drop (at + 1) text))
     → text_codes n at (drop at text) ≡ (at, Cell code) ∷ text_codes n (at + 2) (drop (at + 2) text)
 text_codes-pair n at text code h e =
-    grind (arith, nat_tests, split_at_mark text at, split_at_mark text (at + 1))
+    grind (arith, nat_tests, drop_splits_at_element text at, drop_splits_at_element text (at + 1))
 
 pub other-small : (byte : ℕ) → HasSevenBits (code_without_cell byte)
 unfolding code_without_cell

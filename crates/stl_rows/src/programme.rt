@@ -182,7 +182,7 @@ fn last_cue_until(drawing: &Drawing, subtitles: &Cues<Global>, frame: u32) -> Op
 }
 
 // Returns the TCI of the subtitle whose TCO is the frame.
-fn tci_ending_at(drawing: &Drawing, subtitles: &Cues<Global>, frame: u32) -> Option<u32>
+fn tci_of_ending_subtitle(drawing: &Drawing, subtitles: &Cues<Global>, frame: u32) -> Option<u32>
     requires { IsProgramme drawing.now subtitles.now }
     ensures { result ≡ tci_of_subtitle_ending_at subtitles.now frame }
 {
@@ -360,7 +360,7 @@ impl Programme {
         ensures value { result ≡ tci_of_subtitle_ending_at self.now.records frame }
         ensures programme { IsProgramme self.now.drawing self.now.records }
     {
-        tci_ending_at(&self.drawing, &self.subtitles, frame)
+        tci_of_ending_subtitle(&self.drawing, &self.subtitles, frame)
     }
 
     // Returns whether the expected page is unknown at a frame, given the bits of the subtitles that

@@ -262,9 +262,7 @@ answers_end
           (t.listed file heard)
           (λ a is.
           exactly-accepted drawing options file bytes (first_answer t.events a) loading
-          (λ p described_files_load.
-          ((rw is at (t.checked holds file heard bytes known)) p described_files_load).1 none
-          at_once))
+          (λ p loads. ((rw is at (t.checked holds file heard bytes known)) p loads).1 none at_once))
           (accepted-described_files_load drawing options file bytes loading))
           (λ runs file heard bytes known.
           done-exactly drawing options file bytes pes.known t.number t.events t.answer _ known runs
@@ -272,8 +270,7 @@ answers_end
           (t.listed file heard)
           (λ a is.
           exactly-is_accepted_within drawing options file bytes (first_answer t.events a) loading
-          (λ p described_files_load. ((rw is at (t.checked holds file heard bytes known)) p
-          described_files_load).0))
+          (λ p loads. ((rw is at (t.checked holds file heard bytes known)) p loads).0))
           (accepted-loads_by drawing options file bytes loading))
           (answer-fails t.number t.events t.answer t.ended)
           (λ block memory text.

@@ -128,7 +128,7 @@ answer_of_check_files
           let are = rw heard at (checked file reported) in
           done-exactly drawing options file bytes number answer _ are
           (exactly-accepted drawing options file bytes answer loading
-          (λ p described_files_load. are.checked p described_files_load none at_once bytes refl))
+          (λ p loads. are.checked p loads none at_once bytes refl))
           other)
           (λ other file reported bytes heard.
           let are = rw heard at (checked file reported) in

@@ -18,8 +18,8 @@ use Rattle.sub_listing.specs.declared.status.Status.{Status}
 use Rattle.sub_request.specs.declared.request.Request.{Request}
 use Rattle.sub_request.specs.declared.request.Request.TheVariants as ask
 use Rattle.ttx_pes.specs.Advancing.{buffered_before_known}
-use Rattle.sub_answer.specs.Ending.{EndsWith, BuffersOneLineOnly, IsEmptySource, Lines}
-use Rattle.sub_answer.specs.Ending.{lines_of_sink}
+use Rattle.sub_answer.specs.Ending.{BufferedSinkState, BuffersOneLineOnly, EndsWith, IsEmptySource}
+use Rattle.sub_answer.specs.Ending.{state_of_sink}
 
 untouched :
     (request : Request) (first second : InputCall) (Untouched Other : Type 0) (file out : SinkCall)
@@ -53,10 +53,10 @@ pub first_input_is_source : (request : Request) (source pes_packets : InputCall)
 first_input_is_source request source pes_packets is =
     subst (λ (b : Bool). (if b then pes_packets else source) ≡ source) (sym is) refl
 
-pub first_pes_packets : (request : Request) (source pes_packets : InputCall) → reads_pes_packets
-    request ≡ true
+pub first_input_is_pes_packets : (request : Request) (source pes_packets : InputCall)
+    → reads_pes_packets request ≡ true
     → first_input request source pes_packets ≡ pes_packets
-first_pes_packets request source pes_packets is =
+first_input_is_pes_packets request source pes_packets is =
     subst (λ (b : Bool). (if b then pes_packets else source) ≡ pes_packets) (sym is) refl
 
 both_inputs_are_empty : (b : Bool) (source pes_packets : InputCall)
@@ -141,9 +141,9 @@ flush_ignores_second
 flush_ignores_second (ask.Survey recording options) First Second Other IsAlone reads is = is
 
 pub ends_alone :
-    {IsAlone : Lines → Type 0} (request : Request)
+    {IsAlone : BufferedSinkState → Type 0} (request : Request)
     (IsFirst IsSecond IsFirst' : InputCall → Type 0) (Untouched : Type 0)
-    (IsFile : InputCall → SinkCall → Type 0) (old new : Lines) (result : Status)
+    (IsFile : InputCall → SinkCall → Type 0) (old new : BufferedSinkState) (result : Status)
     → reads_pes_packets request ≡ true
     → EndsWith request IsFirst IsSecond Untouched IsFile IsAlone old new result
     → ((call : InputCall) → IsFirst call → IsFirst' call)
@@ -170,10 +170,10 @@ ends_alone
     }
 
 pub ends_weaker :
-    {IsAlone : Lines → Type 0} (request : Request)
+    {IsAlone : BufferedSinkState → Type 0} (request : Request)
     (IsFirst IsSecond IsFirst' IsSecond' : InputCall → Type 0)
     (Untouched Untouched' : Type 0) (IsFile IsFile' : InputCall → SinkCall → Type 0)
-    (old new : Lines) (result : Status)
+    (old new : BufferedSinkState) (result : Status)
     → EndsWith request IsFirst IsSecond Untouched IsFile IsAlone old new result
     → ((call : InputCall) → IsFirst call → IsFirst' call)
     → ((call : InputCall) → IsSecond call → IsSecond' call)
@@ -312,8 +312,8 @@ followed_of_pes_packets request source pes_packets FirstFails Second None IsAlon
     none =
     followed_pes_packets request (fails pes_packets) Second None IsAlone FirstFails reads
     (flushes_before_implies request _ _ _ _ _ _
-    (λ f. equal_inputs_fail_equally _ _ (first_pes_packets request source pes_packets reads)
-    (first f))
+    (λ f. equal_inputs_fail_equally _ _
+    (first_input_is_pes_packets request source pes_packets reads) (first f))
     (λ f. f)
     (λ so. so) is)
     none
@@ -327,8 +327,8 @@ pub written_of_pes_packets :
     → WritesBeforeRead request FirstFails None
 written_of_pes_packets request source pes_packets FirstFails Before None reads first is none =
     writes_before_implies request _ _ _ _
-    (λ f. equal_inputs_fail_equally _ _ (first_pes_packets request source pes_packets reads)
-    (first f))
+    (λ f. equal_inputs_fail_equally _ _
+    (first_input_is_pes_packets request source pes_packets reads) (first f))
     (λ so. so none) is
 
 pub followed_before :
@@ -342,7 +342,7 @@ pub followed_before :
     → buffer_state old ≡ []
     → FlushesBeforeRead request First Second
     (BuffersOneLineOnly contents buffer_state failure_count IsPush
-    (lines_of_sink contents buffer_state failure_count new))
+    (state_of_sink contents buffer_state failure_count new))
 followed_before
     contents buffer_state buffered failure_count IsPush old new law request First Second is none =
     flushes_before_implies request First First Second Second _ _ (λ f. f) (λ f. f)
@@ -350,7 +350,7 @@ followed_before
     let last = so (law old ∙ ap length none) in
     record {
       sink = new;
-      lines_are = refl;
+      state_is = refl;
       last = record {
         before = last.before;
         settled = sym (law last.before) ∙ last.settled;

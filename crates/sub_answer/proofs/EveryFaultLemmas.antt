@@ -329,10 +329,10 @@ module _ (drawing : Drawing) (options : OptionsValue) (stl pes : SourceCall) (fi
       (programme : ProgrammeValue)
       → loaded_programme drawing file ≡ Ok programme
       → IsCheckAnswer programme options bytes (first_answer (subtitle_events fs ++ events) a)))
-  verdict events a checked file heard bytes reported programme described_files_load =
-      let none = loaded_file_has_no_faults drawing file programme described_files_load in
+  verdict events a checked file heard bytes reported programme loads =
+      let none = loaded_file_has_no_faults drawing file programme loads in
       let whole = (by file heard).whole none in
-      let one : judged.programme ≡ programme = let both = sym whole.0 ∙ described_files_load in cc
+      let one : judged.programme ≡ programme = let both = sym whole.0 ∙ loads in cc
       in
       let nothing : fs ≡ [] = are file heard ∙ none in
       subst (λ gs. IsCheckAnswer programme options bytes
@@ -365,9 +365,8 @@ module _ (drawing : Drawing) (options : OptionsValue) (stl pes : SourceCall) (fi
         no_transmission_is_judged = λ holds e. cc;
         checked = λ holds.
             verdict t.events a
-            (λ bytes reported programme known_from_is_exact. t.checked holds bytes reported
-            programme a
-            known_from_is_exact is);
+            (λ bytes reported programme is_known.
+            t.checked holds bytes reported programme a is_known is);
         listed = both_event_lists_are_expected t.events (Ok a) (λ bytes reported. rw is at
             (t.listed bytes reported));
       }

@@ -20,9 +20,9 @@ use Rattle.sub_listing.specs.DeviceCall.{SinkCall}
 use Rattle.sub_listing.specs.declared.status.Status.{Status}
 use Rattle.sub_listing.specs.declared.status.Status.TheVariants.{Done, Fault}
 use Rattle.sub_answer.specs.Answering.{InputCall}
-use Rattle.sub_answer.specs.Ending.{EndsOverFiles, EndsWith, FilesAfterAnswer, FlushesBufferedLines}
+use Rattle.sub_answer.specs.Ending.{EndsOverFiles, EndsWith, FilesAfterAnswer, FlushesBuffer}
 use Rattle.sub_answer.specs.Ending.{IsSourceOf}
-use Rattle.sub_answer.specs.Ending.{Lines, devices_of, release}
+use Rattle.sub_answer.specs.Ending.{BufferedSinkState, devices_of, release}
 use Rattle.sub_answer.specs.FilesInMemory.{LawOfFilesInMemory, memory_observations}
 use Rattle.sub_answer.specs.Part.{part_requested, bytes_in_range, carried_bytes_if_stream}
 use Rattle.sub_answer.specs.Part.{entire_file}
@@ -55,30 +55,32 @@ part_of_memory_file_is_read part file None input is = absurd is
 part_of_memory_file_is_read part file (Some left) input is = is.is_part.reported
 
 same_status :
-    (printed new : Lines) (status result : Status)
-    → FlushesBufferedLines printed status new result
+    (printed new : BufferedSinkState) (status result : Status)
+    → FlushesBuffer printed status new result
     → result ≢ Fault
     → result ≡ status
 same_status printed new status result h runs = grind (arith, nat_tests)
 
-abbrev Reports : Request → List ℕ → List ℕ → Status → Type 0
-Reports (ask.Check stl pes options national layout scope all) file bytes status =
+-- For `check`: the status is `Done` exactly if the PES packets that were read are accepted for the
+-- subtitle file. This says nothing about another command.
+abbrev IsDoneExactlyIfAccepted : Request → List ℕ → List ℕ → Status → Type 0
+IsDoneExactlyIfAccepted (ask.Check stl pes options national layout scope all) file bytes status =
     (read : List ℕ)
     → bytes_in_range pes.range (carried_bytes_if_stream pes.stream (Some bytes)) ≡ Some read
     → (status ≡ Done) ↔ IsAcceptedBy (drawing_within national layout scope) options file read
-Reports _ file bytes status = ⊤
+IsDoneExactlyIfAccepted _ file bytes status = ⊤
 
-reports :
+done_exactly_if_accepted :
     (request : Request) (file bytes : List ℕ) (stl_left pes_left : Option (List ℕ))
-    (Untouched : Type 0) (IsFile : InputCall → SinkCall → Type 0) (IsAlone : Lines → Type 0)
-    (old new : Lines) (result : Status)
+    (Untouched : Type 0) (IsFile : InputCall → SinkCall → Type 0)
+    (IsAlone : BufferedSinkState → Type 0) (old new : BufferedSinkState) (result : Status)
     → EndsWith request (IsSourceOf memory_observations entire_file (Some file) stl_left)
     (IsSourceOf memory_observations (part_requested request) (Some bytes) pes_left) Untouched IsFile
     IsAlone
     old new result
     → result ≢ Fault
-    → Reports request file bytes result
-reports
+    → IsDoneExactlyIfAccepted request file bytes result
+done_exactly_if_accepted
     (ask.Check stl pes options national layout scope true) file bytes stl_left pes_left Untouched
     IsFile IsAlone old new result e runs =
     λ read read_is.
@@ -90,7 +92,7 @@ reports
     e.first_is) read
     (part_of_memory_file_is_read _ bytes pes_left e.second e.second_is ∙ read_is)
     (λ fails. runs (same ∙ fails)))
-reports
+done_exactly_if_accepted
     (ask.Check stl pes options national layout scope false) file bytes stl_left pes_left Untouched
     IsFile IsAlone old new result e runs =
     λ read read_is.
@@ -102,21 +104,22 @@ reports
     e.first_is) read
     (part_of_memory_file_is_read _ bytes pes_left e.second e.second_is ∙ read_is)
     (λ fails. runs (same ∙ fails)))
-reports ask.Help _ _ _ _ _ _ _ _ _ _ _ _ = tt
-reports ask.Version _ _ _ _ _ _ _ _ _ _ _ _ = tt
-reports (ask.Packet packet) _ _ _ _ _ _ _ _ _ _ _ _ = tt
-reports (ask.Packets pes) _ _ _ _ _ _ _ _ _ _ _ _ = tt
-reports (ask.Show stl) _ _ _ _ _ _ _ _ _ _ _ _ = tt
-reports (ask.Normal input output) _ _ _ _ _ _ _ _ _ _ _ _ = tt
-reports (ask.Schedule stl pes options serial national layout scope) _ _ _ _ _ _ _ _ _ _ _ _ = tt
-reports (ask.Listen pes listening) _ _ _ _ _ _ _ _ _ _ _ _ = tt
-reports (ask.Extract recording pes stream) _ _ _ _ _ _ _ _ _ _ _ _ = tt
-reports (ask.Survey recording options) _ _ _ _ _ _ _ _ _ _ _ _ = tt
+done_exactly_if_accepted ask.Help _ _ _ _ _ _ _ _ _ _ _ _ = tt
+done_exactly_if_accepted ask.Version _ _ _ _ _ _ _ _ _ _ _ _ = tt
+done_exactly_if_accepted (ask.Packet packet) _ _ _ _ _ _ _ _ _ _ _ _ = tt
+done_exactly_if_accepted (ask.Packets pes) _ _ _ _ _ _ _ _ _ _ _ _ = tt
+done_exactly_if_accepted (ask.Show stl) _ _ _ _ _ _ _ _ _ _ _ _ = tt
+done_exactly_if_accepted (ask.Normal input output) _ _ _ _ _ _ _ _ _ _ _ _ = tt
+done_exactly_if_accepted
+    (ask.Schedule stl pes options serial national layout scope) _ _ _ _ _ _ _ _ _ _ _ _ = tt
+done_exactly_if_accepted (ask.Listen pes listening) _ _ _ _ _ _ _ _ _ _ _ _ = tt
+done_exactly_if_accepted (ask.Extract recording pes stream) _ _ _ _ _ _ _ _ _ _ _ _ = tt
+done_exactly_if_accepted (ask.Survey recording options) _ _ _ _ _ _ _ _ _ _ _ _ = tt
 
 over_both :
     (request : Request) (opened : OpenedFiles (List ℕ) MemSinkValue) (first second : List ℕ)
-    (left : FilesAfterAnswer (List ℕ) MemSinkValue) (IsAlone : Lines → Type 0) (old new : Lines)
-    (result : Status)
+    (left : FilesAfterAnswer (List ℕ) MemSinkValue) (IsAlone : BufferedSinkState → Type 0)
+    (old new : BufferedSinkState) (result : Status)
     → opened ≡ ReadBoth first second
     → EndsOverFiles memory_observations (λ was is. is ≡ was) request
     (devices_of (part_requested request)
@@ -131,7 +134,7 @@ same_bytes :
     (reported : Option (List ℕ)) (a b : List ℕ) → reported ≡ Some a → reported ≡ Some b → a ≡ b
 same_bytes reported a b one other = let e = sym one ∙ other in cc
 
-pub law_of_files_in_memory : (IsAlone : Lines → Type 0) → LawOfFilesInMemory IsAlone
+pub law_of_files_in_memory : (IsAlone : BufferedSinkState → Type 0) → LawOfFilesInMemory IsAlone
 law_of_files_in_memory IsAlone
     (ask.Check stl pes options national layout scope all) before after old new status h runs =
     λ file bytes read file_is bytes_is read_is.
@@ -140,8 +143,8 @@ law_of_files_in_memory IsAlone
     subst
     (λ f. (status ≡ Done) ↔ IsAcceptedBy (drawing_within national layout scope) options f read)
     (same_bytes _ o.first file o.first_is file_is)
-    (reports (ask.Check stl pes options national layout scope all) o.first o.second h.left.first
-    h.left.second _ _ IsAlone old new status
+    (done_exactly_if_accepted (ask.Check stl pes options national layout scope all) o.first o.second
+    h.left.first h.left.second _ _ IsAlone old new status
     (over_both (ask.Check stl pes options national layout scope all) h.files o.first o.second h.left
     IsAlone old new status o.opened_eq h.ends)
     runs read

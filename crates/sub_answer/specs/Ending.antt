@@ -29,16 +29,16 @@ use Rattle.sub_answer.specs.declared.part.Part.{Part}
 
 -- The state of a buffered sink: the bytes written to it, including those in its buffer; the bytes
 -- in its buffer; and its number of failed calls.
-pub record Lines : Type 0 where
+pub record BufferedSinkState : Type 0 where
   pub taken : Option (List ℕ)
   pub buffered : List ℕ
   pub count : ℕ
 
 -- The state of a buffered sink, given the functions for the bytes written to it, the bytes in its
 -- buffer, and its number of failed calls.
-abbrev pub lines_of_sink : {O : Type 0}
-    → (O → Option (List ℕ)) → (O → List ℕ) → (O → ℕ) → O → Lines
-lines_of_sink contents buffer_state failure_count o =
+abbrev pub state_of_sink : {O : Type 0}
+    → (O → Option (List ℕ)) → (O → List ℕ) → (O → ℕ) → O → BufferedSinkState
+state_of_sink contents buffer_state failure_count o =
     record { taken = contents o; buffered = buffer_state o; count = failure_count o }
 
 -- The function `buffered` returns the number of bytes in the buffer.
@@ -47,8 +47,9 @@ CountsBuffered {O} buffered buffer_state = (o : O) → buffered o ≡ length (bu
 
 -- The state of a buffered sink, given the functions for the contents of the sink behind the buffer
 -- and for its number of failed calls.
-abbrev pub lines_of_buffer : {D : Type 0} → (D → Option (List ℕ)) → (D → ℕ) → BufferState D → Lines
-lines_of_buffer contents failure_count k = record {
+abbrev pub state_of_buffer : {D : Type 0}
+    → (D → Option (List ℕ)) → (D → ℕ) → BufferState D → BufferedSinkState
+state_of_buffer contents failure_count k = record {
   taken = append_known (contents k.device) k.buffered;
   buffered = k.buffered;
   count = failures_with_refused_writes (failure_count k.device) k.refused;
@@ -59,12 +60,13 @@ lines_of_buffer contents failure_count k = record {
 abbrev pub buffered_call : {D : Type 0}
     → (D → Option (List ℕ)) → (D → ℕ) → BufferState D → BufferState D → SinkCall
 buffered_call contents failure_count old new =
-    sink_call (λ k. (lines_of_buffer contents failure_count k).taken)
-    (λ k. (lines_of_buffer contents failure_count k).count) old new
+    sink_call (λ k. (state_of_buffer contents failure_count k).taken)
+    (λ k. (state_of_buffer contents failure_count k).count) old new
 
 -- The buffer is flushed at the end of a run with the exit status `status`. Either the sink has all
 -- bytes, and the status remains; or one more call has failed, and the status is `Fault`.
-pub record FlushesBufferedLines (old : Lines) (status : Status) (new : Lines) (result : Status)
+pub record FlushesBuffer
+    (old : BufferedSinkState) (status : Status) (new : BufferedSinkState) (result : Status)
     : Type 0 where
   pub kept : Keeps old.taken new.taken
   pub ends :
@@ -77,10 +79,10 @@ pub record FlushesBufferedLines (old : Lines) (status : Status) (new : Lines) (r
 pub record BuffersOneLineOnly
     {O : Type 0} (contents : O → Option (List ℕ)) (buffer_state : O → List ℕ)
     (failure_count : O → ℕ)
-    (IsPush : O → List ℕ → Option ℕ → O → Type 0) (lines : Lines)
+    (IsPush : O → List ℕ → Option ℕ → O → Type 0) (state : BufferedSinkState)
     : Type 0 where
   pub sink : O
-  pub lines_are : lines ≡ lines_of_sink contents buffer_state failure_count sink
+  pub state_is : state ≡ state_of_sink contents buffer_state failure_count sink
   pub last : BuffersLastLineOnly contents (λ o. length (buffer_state o)) IsPush sink
 
 -- Everything before the line of a fault was flushed, and then only this line was written to the
@@ -88,7 +90,8 @@ pub record BuffersOneLineOnly
 -- failed calls, and by the relation for its pushes.
 abbrev pub BufferHoldsOneLineOnly :
     {D : Type 0}
-    → (D → Option (List ℕ)) → (D → ℕ) → (D → List ℕ → Option ℕ → D → Type 0) → Lines → Type 0
+    → (D → Option (List ℕ)) → (D → ℕ) → (D → List ℕ → Option ℕ → D → Type 0) → BufferedSinkState
+    → Type 0
 BufferHoldsOneLineOnly contents failure_count IsPush =
     BuffersOneLineOnly (λ k. append_known (contents k.device) k.buffered) (λ k. k.buffered)
     (λ k. failures_with_refused_writes (failure_count k.device) k.refused) (PushesBuffered IsPush)
@@ -113,8 +116,8 @@ pub record FlushesWithFile
 -- was read, and `IsAlone` that everything except the line of a fault was flushed.
 pub record EndsWith
     (request : Request) (IsFirst IsSecond : InputCall → Type 0) (Untouched : Type 0)
-    (IsFile : InputCall → SinkCall → Type 0) (IsAlone : Lines → Type 0) (old new : Lines)
-    (result : Status)
+    (IsFile : InputCall → SinkCall → Type 0) (IsAlone : BufferedSinkState → Type 0)
+    (old new : BufferedSinkState) (result : Status)
     : Type 0 where
   pub first : InputCall
   pub first_is : IsFirst first
@@ -123,7 +126,7 @@ pub record EndsWith
   pub file : SinkCall
   pub file_is : IsFile first file
   pub status : Status
-  pub printed : Lines
+  pub printed : BufferedSinkState
   pub answers :
       Answers request first second Untouched file
       (record {
@@ -137,7 +140,7 @@ pub record EndsWith
   -- fails, at most the line about the failure is still in the buffer.
   pub followed :
       old.buffered ≡ [] → FlushesBeforeRead request (fails first) (fails second) (IsAlone printed)
-  pub flushed : FlushesBufferedLines printed status new result
+  pub flushed : FlushesBuffer printed status new result
 
 -- The source of the input has no bytes.
 abbrev pub IsEmptySource : InputCall → Type 0
@@ -311,7 +314,7 @@ release left = release_input_before left.first
 abbrev pub EndsOverFiles :
     {I O : Type 0}
     → FileObservations I O → (O → O → Type 0) → Request → Devices I O → FilesAfterAnswer I O
-    → (Lines → Type 0) → Lines → Lines → Status → Type 0
+    → (BufferedSinkState → Type 0) → BufferedSinkState → BufferedSinkState → Status → Type 0
 EndsOverFiles known IsClose request devices left IsAlone old new result =
     EndsWith request (IsSourceOf known devices.part devices.first left.first)
     (IsSourceOf known (part_requested request) devices.second left.second)
@@ -323,7 +326,7 @@ EndsOverFiles known IsClose request devices left IsAlone old new result =
 pub record EndsWithRelease
     {I O : Type 0} (AreMade : List (FileCall I O) → Type 0) (known : FileObservations I O)
     (IsClose : O → O → Type 0) (request : Request) (devices : Devices I O)
-    (IsAlone : Lines → Type 0) (old new : Lines) (result : Status)
+    (IsAlone : BufferedSinkState → Type 0) (old new : BufferedSinkState) (result : Status)
     : Type 0 where
   pub left : FilesAfterAnswer I O
   pub are_released : AreMade (release left)
@@ -333,8 +336,8 @@ pub record EndsWithRelease
 -- the files were released, in their states after the answer. No other calls were made.
 pub record Ends
     {I O : Type 0} (AreMade : List (FileCall I O) → Type 0) (known : FileObservations I O)
-    (IsClose : O → O → Type 0) (request : Request) (IsAlone : Lines → Type 0) (old new : Lines)
-    (result : Status)
+    (IsClose : O → O → Type 0) (request : Request) (IsAlone : BufferedSinkState → Type 0)
+    (old new : BufferedSinkState) (result : Status)
     : Type 0 where
   pub files : OpenedFiles I O
   pub left : FilesAfterAnswer I O
@@ -348,8 +351,10 @@ pub record Ends
       result
 
 -- The line of a fault was printed, and then flushed.
-pub record PrintsFault (fault : UsageFault) (old new : Lines) (result : Status) : Type 0 where
-  pub printed : Lines
+pub record PrintsFault
+    (fault : UsageFault) (old new : BufferedSinkState) (result : Status)
+    : Type 0 where
+  pub printed : BufferedSinkState
   pub line :
       PrintsOrFails (record {
         old = old.taken;
@@ -358,4 +363,4 @@ pub record PrintsFault (fault : UsageFault) (old new : Lines) (result : Status) 
         new_count = printed.count;
       })
       (fault_listing (usage_line fault)) Fault
-  pub flushed : FlushesBufferedLines printed Fault new result
+  pub flushed : FlushesBuffer printed Fault new result

@@ -9,7 +9,7 @@ use Rattle.sub_files.specs.MemoryFiles.{IsMemoryCall, MemFilesValue, bytes_at}
 use Rattle.sub_check.specs.CheckedFiles.{IsAcceptedBy}
 use Rattle.sub_listing.specs.declared.status.Status.{Status}
 use Rattle.sub_listing.specs.declared.status.Status.TheVariants.{Done, Fault}
-use Rattle.sub_answer.specs.Ending.{Ends, FileObservations, Lines, file_observations}
+use Rattle.sub_answer.specs.Ending.{BufferedSinkState, Ends, FileObservations, file_observations}
 use Rattle.sub_answer.specs.Part.{bytes_in_range, carried_bytes_if_stream}
 
 -- The functions that describe files in memory: all their bytes are known, and reading them never
@@ -34,9 +34,10 @@ DecidesAccepted _ files status = ⊤
 -- If `open_and_answer` answered a request with files in memory, the status is `Done` exactly if
 -- their bytes are accepted, unless the output failed or memory ran out. This is true for any
 -- standard output. So the clauses about the bytes of files are not empty.
-abbrev pub LawOfFilesInMemory : (Lines → Type 0) → Type 0
+abbrev pub LawOfFilesInMemory : (BufferedSinkState → Type 0) → Type 0
 LawOfFilesInMemory IsAlone =
-    (request : Request) (before after : MemFilesValue) (old new : Lines) (status : Status)
+    (request : Request) (before after : MemFilesValue) (old new : BufferedSinkState)
+    (status : Status)
     → Ends (CallsInOrder IsMemoryCall before after) memory_observations (λ was is. is ≡ was) request
     IsAlone old new status
     → status ≢ Fault

@@ -32,8 +32,8 @@ pub record PrintsSurvey
   pub fault : status ≢ Done → status ≡ Fault
   pub line : status ≢ Done → out.new_count ≡ out.old_count → EndsInFault listing.text
 
--- The lines of a survey were printed, and the recording was read to its end if the status is
--- `Done`.
+-- The output is as `PrintsSurvey` requires; and if the status is `Done`, the recording was read to
+-- its end.
 pub record AnswersSurvey
     (options : SurveyOptions) (recording : SourceCall) (out : SinkCall) (status : Status)
     : Type 0 where

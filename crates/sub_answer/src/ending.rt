@@ -10,8 +10,8 @@ ghost use Rattle.sub_answer.specs.Answering.{StoresOutputFile, first_input, pes_
 ghost use Rattle.sub_answer.specs.Answering.{reads_pes_packets, entire_call};
 ghost use Rattle.sub_answer.specs.Ending.{BufferHoldsOneLineOnly, EndsWith, FlushesWithFile};
 ghost use Rattle.sub_answer.specs.Ending.{BuffersOneLineOnly, BuffersNothing, IsClosedAfter};
-ghost use Rattle.sub_answer.specs.Ending.{IsEmptyFile, IsEmptySource, PrintsFault, lines_of_sink};
-ghost use Rattle.sub_answer.specs.Ending.{lines_of_buffer};
+ghost use Rattle.sub_answer.specs.Ending.{IsEmptyFile, IsEmptySource, PrintsFault, state_of_sink};
+ghost use Rattle.sub_answer.specs.Ending.{state_of_buffer};
 
 use crate::answering::{answer_from_inputs, print_usage_fault};
 use crate::flushing::{FlushPending, flush_all};
@@ -30,8 +30,8 @@ pub fn answer_without_input<K: Sink>(
     requires { failures_with_refused_writes (K.failure_count out.old.device) out.old.refused ≡ 0 }
     ensures { EndsWith request.now IsEmptySource IsEmptySource ⊤ IsEmptyFile
         (BufferHoldsOneLineOnly K.contents K.failure_count K.is_push)
-        (lines_of_buffer K.contents K.failure_count out.old)
-        (lines_of_buffer K.contents K.failure_count out.new) result }
+        (state_of_buffer K.contents K.failure_count out.old)
+        (state_of_buffer K.contents K.failure_count out.new) result }
 {
     let (mut first, mut nothing) = (MemSource::new(&[]), MemSource::new(&[]));
     let mut pes = FilePesPackets::new(&mut nothing);
@@ -58,8 +58,8 @@ pub fn answer_both_inputs<S: Source, P: NumberedPesPackets, K: Sink>(
         ≡ pes_packets_call P.remaining P.left P.failure_count P.first P.skipped pes.old pes.new)
         (pes.new ≡ pes.old) IsEmptyFile
         (BufferHoldsOneLineOnly K.contents K.failure_count K.is_push)
-        (lines_of_buffer K.contents K.failure_count out.old)
-        (lines_of_buffer K.contents K.failure_count out.new) result }
+        (state_of_buffer K.contents K.failure_count out.old)
+        (state_of_buffer K.contents K.failure_count out.new) result }
     ensures device { P.device pes.new ≡ P.device pes.old }
 {
     let (mut fault_line_without_place, mut room) = ([0; 0], [0; 1]);
@@ -88,8 +88,8 @@ pub fn answer_source<S: Source, F: Close, O: FlushPending<F>>(
         IsEmptySource ⊤
         (IsClosedAfter F.contents F.failure_count F.is_close request.now file.old file.new)
         (BuffersOneLineOnly O.contents O.buffer_state O.failure_count O.is_push)
-        (lines_of_sink O.contents O.buffer_state O.failure_count out.old)
-        (lines_of_sink O.contents O.buffer_state O.failure_count out.new) result }
+        (state_of_sink O.contents O.buffer_state O.failure_count out.old)
+        (state_of_sink O.contents O.buffer_state O.failure_count out.new) result }
     ensures done { result ≡ Status.Done → Flushes F.failure_count file.old file.new
         × BuffersNothing O.buffer_state O.failure_count out.old out.new }
     ensures stored { StoresOutputFile request.now result (F.is_stored file.new.device) }
@@ -121,8 +121,8 @@ pub fn answer_pes_packets<P: NumberedPesPackets, F: Close, O: FlushPending<F>>(
         IsEmptySource ⊤
         (IsClosedAfter F.contents F.failure_count F.is_close request.now file.old file.new)
         (BuffersOneLineOnly O.contents O.buffer_state O.failure_count O.is_push)
-        (lines_of_sink O.contents O.buffer_state O.failure_count out.old)
-        (lines_of_sink O.contents O.buffer_state O.failure_count out.new) result }
+        (state_of_sink O.contents O.buffer_state O.failure_count out.old)
+        (state_of_sink O.contents O.buffer_state O.failure_count out.new) result }
     ensures device { P.device pes.new ≡ P.device pes.old }
     ensures done { result ≡ Status.Done → Flushes F.failure_count file.old file.new
         × BuffersNothing O.buffer_state O.failure_count out.old out.new }
@@ -159,8 +159,8 @@ fn answer_and_flush<S: Source, P: NumberedPesPackets, F: Close, O: FlushPending<
         (pes.new ≡ pes.old)
         (IsClosedAfter F.contents F.failure_count F.is_close request.now file.old file.new)
         (BuffersOneLineOnly O.contents O.buffer_state O.failure_count O.is_push)
-        (lines_of_sink O.contents O.buffer_state O.failure_count out.old)
-        (lines_of_sink O.contents O.buffer_state O.failure_count out.new) result }
+        (state_of_sink O.contents O.buffer_state O.failure_count out.old)
+        (state_of_sink O.contents O.buffer_state O.failure_count out.new) result }
     ensures device { P.device pes.new ≡ P.device pes.old }
     ensures done { result ≡ Status.Done → Flushes F.failure_count file.old file.new
         × BuffersNothing O.buffer_state O.failure_count out.old out.new }
@@ -180,8 +180,8 @@ pub fn print_and_flush_usage_fault<K: Sink>(
     out: &mut BufferedSink<'_, K>,
 ) -> Status
     requires { failures_with_refused_writes (K.failure_count out.old.device) out.old.refused ≡ 0 }
-    ensures says { PrintsFault fault.now (lines_of_buffer K.contents K.failure_count out.old)
-        (lines_of_buffer K.contents K.failure_count out.new) result }
+    ensures says { PrintsFault fault.now (state_of_buffer K.contents K.failure_count out.old)
+        (state_of_buffer K.contents K.failure_count out.new) result }
     ensures status { result ≡ Status.Fault }
 {
     flush_all(print_usage_fault(fault, out), out)

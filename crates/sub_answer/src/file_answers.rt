@@ -8,7 +8,7 @@ ghost use Rattle.sub_files.specs.Opening.{HaveNoFailures, IsOpeningFault};
 ghost use Rattle.sub_answer.specs.Answering.{reads_pes_packets};
 ghost use Rattle.sub_answer.specs.Ending.{BufferHoldsOneLineOnly, Ends, EndsWithRelease, EndsWith};
 ghost use Rattle.sub_answer.specs.Ending.{Fits, IsEmptyFile, IsEmptySource, devices_of};
-ghost use Rattle.sub_answer.specs.Ending.{file_observations, lines_of_buffer, write_devices};
+ghost use Rattle.sub_answer.specs.Ending.{file_observations, state_of_buffer, write_devices};
 ghost use Rattle.sub_answer.specs.Ending.{sources};
 ghost use Rattle.sub_answer.specs.Part as specs;
 
@@ -43,8 +43,8 @@ pub fn open_and_answer<D: FileSystem, K: Sink>(
         D.Output.contents D.Output.failure_count D.Output.is_stored)
         D.Output.is_close request.now
         (BufferHoldsOneLineOnly K.contents K.failure_count K.is_push)
-        (lines_of_buffer K.contents K.failure_count out.old)
-        (lines_of_buffer K.contents K.failure_count out.new)) }
+        (state_of_buffer K.contents K.failure_count out.old)
+        (state_of_buffer K.contents K.failure_count out.new)) }
     ensures leaves_output_unchanged { IfErr result (λ _. out.new ≡ out.old) }
     ensures fault { IfErr result (IsOpeningFault (CallsInOrder D.is_call files.old files.new)
         (files_of_request request.now)) }
@@ -82,8 +82,8 @@ fn answer_opened<D: FileSystem, K: Sink>(
         D.Output.contents D.Output.failure_count D.Output.is_stored)
         D.Output.is_close request.now (devices_of (specs.part_requested request.now) opened)
         (BufferHoldsOneLineOnly K.contents K.failure_count K.is_push)
-        (lines_of_buffer K.contents K.failure_count out.old)
-        (lines_of_buffer K.contents K.failure_count out.new) result }
+        (state_of_buffer K.contents K.failure_count out.old)
+        (state_of_buffer K.contents K.failure_count out.new) result }
 {
     match opened {
         OpenedFiles::Nothing => answer_without_files(alloc, request, out),
@@ -116,8 +116,8 @@ fn answer_without_files<K: Sink>(
     requires { failures_with_refused_writes (K.failure_count out.old.device) out.old.refused ≡ 0 }
     ensures { EndsWith request.now IsEmptySource IsEmptySource ⊤ IsEmptyFile
         (BufferHoldsOneLineOnly K.contents K.failure_count K.is_push)
-        (lines_of_buffer K.contents K.failure_count out.old)
-        (lines_of_buffer K.contents K.failure_count out.new) result }
+        (state_of_buffer K.contents K.failure_count out.old)
+        (state_of_buffer K.contents K.failure_count out.new) result }
 {
     answer_without_input(alloc, request, out)
 }
@@ -142,8 +142,8 @@ fn answer_one_file<D: FileSystem, K: Sink>(
         D.Output.contents D.Output.failure_count D.Output.is_stored)
         D.Output.is_close request.now (sources part (Some file) None)
         (BufferHoldsOneLineOnly K.contents K.failure_count K.is_push)
-        (lines_of_buffer K.contents K.failure_count out.old)
-        (lines_of_buffer K.contents K.failure_count out.new) result }
+        (state_of_buffer K.contents K.failure_count out.old)
+        (state_of_buffer K.contents K.failure_count out.new) result }
 {
     let (mut fault_line_without_place, mut small_buffer) = ([0; 0], [0; 1]);
     let mut none = BufferedSink::new(
@@ -176,8 +176,8 @@ fn answer_with_both_files<D: FileSystem, K: Sink>(
         D.Output.contents D.Output.failure_count D.Output.is_stored)
         D.Output.is_close request.now (sources specs.entire_file (Some stl) (Some pes))
         (BufferHoldsOneLineOnly K.contents K.failure_count K.is_push)
-        (lines_of_buffer K.contents K.failure_count out.old)
-        (lines_of_buffer K.contents K.failure_count out.new) result }
+        (state_of_buffer K.contents K.failure_count out.old)
+        (state_of_buffer K.contents K.failure_count out.new) result }
 {
     let half_length = buffers.len() / 2;
     let (room, other) = buffers.split_at_mut(half_length);
@@ -216,8 +216,8 @@ fn answer_and_write<D: FileSystem, K: Sink>(
         D.Output.contents D.Output.failure_count D.Output.is_stored)
         D.Output.is_close request.now (write_devices specs.entire_file stl output)
         (BufferHoldsOneLineOnly K.contents K.failure_count K.is_push)
-        (lines_of_buffer K.contents K.failure_count out.old)
-        (lines_of_buffer K.contents K.failure_count out.new) result }
+        (state_of_buffer K.contents K.failure_count out.old)
+        (state_of_buffer K.contents K.failure_count out.new) result }
 {
     let half_length = buffers.len() / 2;
     let (room, other) = buffers.split_at_mut(half_length);
@@ -251,8 +251,8 @@ fn answer_and_extract<D: FileSystem, K: Sink>(
         D.Output.is_close request.now
         (write_devices (specs.part_requested request.now) recording output)
         (BufferHoldsOneLineOnly K.contents K.failure_count K.is_push)
-        (lines_of_buffer K.contents K.failure_count out.old)
-        (lines_of_buffer K.contents K.failure_count out.new) result }
+        (state_of_buffer K.contents K.failure_count out.old)
+        (state_of_buffer K.contents K.failure_count out.new) result }
 {
     let half_length = buffers.len() / 2;
     let (room, other) = buffers.split_at_mut(half_length);

@@ -4,8 +4,8 @@ ghost use Rattle.std.proofs.Common.{refl};
 ghost use Rattle.sub_io.specs.Buffered.{BufferState, failures_with_refused_writes};
 ghost use Rattle.sub_io.specs.Device.{CanFail};
 ghost use Rattle.sub_listing.specs.declared.status.Status.{Status};
-ghost use Rattle.sub_answer.specs.Ending.{CountsBuffered, FlushesBufferedLines, lines_of_sink};
-ghost use Rattle.sub_answer.specs.Ending.{lines_of_buffer};
+ghost use Rattle.sub_answer.specs.Ending.{CountsBuffered, FlushesBuffer, state_of_sink};
+ghost use Rattle.sub_answer.specs.Ending.{state_of_buffer};
 
 use sub_io::{BufferedSink, Close, Flush, Sink};
 use sub_listing::Status;
@@ -28,9 +28,9 @@ pub trait FlushPending<F: Close>: Flush {
         requires count { CanFail (Self.failure_count self.old) }
         requires closed { F.is_closed file.now.device ≡ true }
         ensures call { is_flushed self.old file.now status self.new result }
-        ensures lines { FlushesBufferedLines
-            (lines_of_sink Self.contents buffer_state Self.failure_count self.old) status
-            (lines_of_sink Self.contents buffer_state Self.failure_count self.new) result };
+        ensures lines { FlushesBuffer
+            (state_of_sink Self.contents buffer_state Self.failure_count self.old) status
+            (state_of_sink Self.contents buffer_state Self.failure_count self.new) result };
 
     // The function `buffered` returns the number of bytes in the buffer of the output.
     ghost buffered_eq: { CountsBuffered Self.buffered buffer_state };
@@ -54,8 +54,8 @@ impl<F: Close, K: Sink> FlushPending<F> for BufferedSink<'_, K> {
 pub fn flush_all<K: Sink>(status: Status, out: &mut BufferedSink<'_, K>) -> Status
     requires { CanFail (failures_with_refused_writes
         (K.failure_count out.old.device) out.old.refused) }
-    ensures { FlushesBufferedLines (lines_of_buffer K.contents K.failure_count out.old) status
-        (lines_of_buffer K.contents K.failure_count out.new) result }
+    ensures { FlushesBuffer (state_of_buffer K.contents K.failure_count out.old) status
+        (state_of_buffer K.contents K.failure_count out.new) result }
 {
     match out.flush() {
         Ok(()) => status,

@@ -5,8 +5,8 @@ ghost use Rattle.sub_io.specs.Buffered.{Flushes, failures_with_refused_writes};
 ghost use Rattle.sub_io.specs.Device.{CanFail};
 ghost use Rattle.sub_answer.specs.Answering.{StoresOutputFile, reads_pes_packets, entire_call};
 ghost use Rattle.sub_answer.specs.Ending.{BufferHoldsOneLineOnly, EndsWith, BuffersOneLineOnly};
-ghost use Rattle.sub_answer.specs.Ending.{IsClosedAfter, IsEmptyFile, IsEmptySource, lines_of_sink};
-ghost use Rattle.sub_answer.specs.Ending.{lines_of_buffer};
+ghost use Rattle.sub_answer.specs.Ending.{IsClosedAfter, IsEmptyFile, IsEmptySource, state_of_sink};
+ghost use Rattle.sub_answer.specs.Ending.{state_of_buffer};
 ghost use Rattle.sub_answer.specs.Part.{IsPartOf, IsRangeOf, entire_file};
 
 use crate::answering::reads_pes_packets;
@@ -43,8 +43,8 @@ pub fn answer_part<S: Source + Drop, F: Close, O: FlushPending<F>>(
         IsEmptySource ⊤
         (IsClosedAfter F.contents F.failure_count F.is_close request.now file.old file.new)
         (BuffersOneLineOnly O.contents O.buffer_state O.failure_count O.is_push)
-        (lines_of_sink O.contents O.buffer_state O.failure_count out.old)
-        (lines_of_sink O.contents O.buffer_state O.failure_count out.new) result.0 }
+        (state_of_sink O.contents O.buffer_state O.failure_count out.old)
+        (state_of_sink O.contents O.buffer_state O.failure_count out.new) result.0 }
     ensures done { result.0 ≡ Status.Done → Flushes F.failure_count file.old file.new }
     ensures stored { StoresOutputFile request.now result.0 (F.is_stored file.new.device) }
 {
@@ -89,8 +89,8 @@ fn answer_range<P: NumberedPesPackets, F: Close, O: FlushPending<F>>(
         IsEmptySource ⊤
         (IsClosedAfter F.contents F.failure_count F.is_close request.now file.old file.new)
         (BuffersOneLineOnly O.contents O.buffer_state O.failure_count O.is_push)
-        (lines_of_sink O.contents O.buffer_state O.failure_count out.old)
-        (lines_of_sink O.contents O.buffer_state O.failure_count out.new) result }
+        (state_of_sink O.contents O.buffer_state O.failure_count out.old)
+        (state_of_sink O.contents O.buffer_state O.failure_count out.new) result }
     ensures device { P.device pes_packets.new ≡ P.device pes_packets.old }
     ensures done { result ≡ Status.Done → Flushes F.failure_count file.old file.new }
     ensures stored { StoresOutputFile request.now result (F.is_stored file.new.device) }
@@ -126,8 +126,8 @@ pub fn answer_second_part<S: Source, T: Source + Drop, K: Sink>(
         (λ input. input ≡ entire_call S.remaining S.failure_count first.old first.new)
         (IsPartOf part T.remaining T.failure_count whole result.1) (result.1 ≡ whole) IsEmptyFile
         (BufferHoldsOneLineOnly K.contents K.failure_count K.is_push)
-        (lines_of_buffer K.contents K.failure_count out.old)
-        (lines_of_buffer K.contents K.failure_count out.new) result.0 }
+        (state_of_buffer K.contents K.failure_count out.old)
+        (state_of_buffer K.contents K.failure_count out.new) result.0 }
 {
     let Part { stream, range } = part;
     let mut whole = whole;
@@ -165,8 +165,8 @@ fn answer_second_range<S: Source, P: NumberedPesPackets, K: Sink>(
         (IsRangeOf range P.remaining P.left P.failure_count pes_packets.old pes_packets.new)
         (pes_packets.new ≡ pes_packets.old) IsEmptyFile
         (BufferHoldsOneLineOnly K.contents K.failure_count K.is_push)
-        (lines_of_buffer K.contents K.failure_count out.old)
-        (lines_of_buffer K.contents K.failure_count out.new) result }
+        (state_of_buffer K.contents K.failure_count out.old)
+        (state_of_buffer K.contents K.failure_count out.new) result }
     ensures device { P.device pes_packets.new ≡ P.device pes_packets.old }
 {
     match range {

@@ -26,7 +26,8 @@ use Rattle.sub_checker.specs.declared.accepted.Accepted.{Accepted}
 use Rattle.sub_laws.specs.OnScreen.{Complete}
 use Rattle.sub_laws.specs.Repeats.{HasPromisesWithRepeats}
 use Rattle.sub_laws.specs.Stretch.{HasPromises}
-use Rattle.sub_check.specs.CheckedFiles.{AreAccepted, AreAcceptedBy, IsAccepted, IsAcceptedBy}
+use Rattle.sub_check.specs.CheckedFiles.{IsAccepted, IsAcceptedBy, IsResultOfCheckFiles}
+use Rattle.sub_check.specs.CheckedFiles.{IsResultWithoutDelay}
 use Rattle.sub_check.specs.CheckedFiles.{IsChecked, IsCheckedBy, FilesMean, FilesMeanWithin}
 
 pub same_programme :
@@ -169,7 +170,7 @@ module _ (drawing : Drawing) (options : OptionsValue) (stl pes : List ℕ)
     module _ (answer : Result Accepted CheckFault)
         (looked : failed is_subtitle_fault answer ≡ false) where
       pub checked_files_are_accepted : IsChecked programme options pes answer
-          → AreAccepted drawing options stl pes answer
+          → IsResultWithoutDelay drawing options stl pes answer
       checked_files_are_accepted checked = record {
         accepted = λ fine.
             let exactly = checked.accepted looked (answer_after_loading answer looked fine) in (
@@ -187,7 +188,7 @@ module _ (drawing : Drawing) (options : OptionsValue) (stl pes : List ℕ)
       }
 
       pub checked_files_accepted_within : IsCheckedBy programme options pes answer
-          → AreAcceptedBy drawing options stl pes answer
+          → IsResultOfCheckFiles drawing options stl pes answer
       checked_files_accepted_within checked = record {
         accepted = λ fine.
             let exactly = checked.accepted looked (answer_after_loading answer looked fine) in (
@@ -213,7 +214,8 @@ own_fault drawing stl programme block kind reported fine is = grind (arith, nat_
 
 module _ (drawing : Drawing) (options : OptionsValue) (stl pes : List ℕ) (f : LoadFault)
     (loading : LawOfLoading) (reported : IsErrorOfLoad drawing stl f.block f.kind) where
-  pub faulty_subtitles_are_refused : AreAccepted drawing options stl pes (Err (fault.Subtitles f))
+  pub faulty_subtitles_are_refused : IsResultWithoutDelay drawing options stl pes
+      (Err (fault.Subtitles f))
   faulty_subtitles_are_refused = record {
     accepted = λ fine. (
       λ ok. cc,
@@ -224,7 +226,7 @@ module _ (drawing : Drawing) (options : OptionsValue) (stl pes : List ℕ) (f : 
     serves = λ subtitles transmission files_mean ok. cc;
   }
 
-  pub faulty_subtitles_refused_within : AreAcceptedBy drawing options stl pes
+  pub faulty_subtitles_refused_within : IsResultOfCheckFiles drawing options stl pes
       (Err (fault.Subtitles f))
   faulty_subtitles_refused_within = record {
     accepted = λ fine. (

@@ -76,8 +76,7 @@ kept_fault_is_first_reported new (SkippedUntil f ∷ xs) named (mid, keeps, rest
     kept_fault_is_first_reported new xs named (subst (λ m. ReportsInOrder KeepsFirstFault m new xs)
     keeps.1 rest)
 
-module _ (g : Criteria) (frames : Transmission) (complete_units_have_complete_packets : EachPacket
-    IsPacket frames)
+module _ (g : Criteria) (frames : Transmission) (are_packets : EachPacket IsPacket frames)
     (IsSo : ℕ → ℕ → ℕ → Type 0)
     (so : (n f : ℕ) (x : ℕ × ℕ) → IsReadTo g frames n f → broken_cell g frames n f ≡ Some x
     → IsSo f x.0 x.1) where
@@ -109,7 +108,7 @@ module _ (g : Criteria) (frames : Transmission) (complete_units_have_complete_pa
       → IsSo frame row column
   reported_cell_differs frame row column e =
       go (events g frames) (all_faults_are_reported g frames NamesRuleBroken plain
-      unread_fault_names_rule wrong_cell_names_rule complete_units_have_complete_packets) e
+      unread_fault_names_rule wrong_cell_names_rule are_packets) e
       frame
       row column refl
     where

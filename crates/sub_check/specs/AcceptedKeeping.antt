@@ -10,7 +10,7 @@ use Rattle.sub_rules.specs.Fault.{is_failure}
 use Rattle.sub_rules.specs.Transmission.{EachPacket, Transmission}
 use Rattle.sub_rules.specs.declared.fault.CheckFault.{CheckFault}
 use Rattle.sub_checker.specs.declared.accepted.Accepted.{Accepted}
-use Rattle.sub_check.specs.CheckedFiles.{AreAcceptedBy, FilesMeanWithin}
+use Rattle.sub_check.specs.CheckedFiles.{FilesMeanWithin, IsResultOfCheckFiles}
 
 -- The options with the setting that repeats may keep the page: a header without C4, erase page, is
 -- allowed.
@@ -24,8 +24,8 @@ LawOfAcceptedKeeping =
     (drawing : Drawing) (options : OptionsValue) (stl pes : List ℕ)
     (answer later : Result Accepted CheckFault)
     → IsFalse options.keeps
-    → AreAcceptedBy drawing options stl pes answer
-    → AreAcceptedBy drawing (with_keeping options) stl pes later
+    → IsResultOfCheckFiles drawing options stl pes answer
+    → IsResultOfCheckFiles drawing (with_keeping options) stl pes later
     → failed is_failure later ≡ false
     → IsOk answer
     → IsOk later
@@ -38,11 +38,11 @@ LawOfAcceptedWithoutKeeping =
     (drawing : Drawing) (options : OptionsValue) (stl pes : List ℕ)
     (answer later : Result Accepted CheckFault)
     → IsFalse options.keeps
-    → AreAcceptedBy drawing (with_keeping options) stl pes answer
+    → IsResultOfCheckFiles drawing (with_keeping options) stl pes answer
     → ((subtitles : List SubtitleValue) (transmission : Transmission)
     → FilesMeanWithin drawing options stl pes subtitles transmission
     → EachPacket (ErasesPage options.page) transmission)
-    → AreAcceptedBy drawing options stl pes later
+    → IsResultOfCheckFiles drawing options stl pes later
     → failed is_failure later ≡ false
     → IsOk answer
     → IsOk later

@@ -7,7 +7,7 @@ use Rattle.sub_rules.specs.Fault.{is_failure}
 use Rattle.sub_rules.specs.declared.fault.CheckFault.{CheckFault}
 use Rattle.sub_laws.specs.DelayOfFiles.{options_with_delay}
 use Rattle.sub_checker.specs.declared.accepted.Accepted.{Accepted}
-use Rattle.sub_check.specs.CheckedFiles.{AreAcceptedBy}
+use Rattle.sub_check.specs.CheckedFiles.{IsResultOfCheckFiles}
 
 -- A subtitle file and a PES file that are accepted with some delay of `within` frames, possibly 0,
 -- are also accepted with any greater delay, unless a source fails or an allocation is refused.
@@ -17,8 +17,8 @@ LawOfAcceptedWithinMore =
     (answer later : Result Accepted CheckFault)
     → options.origin < 2 ^ 33
     → options.within ≤ more
-    → AreAcceptedBy drawing options stl pes answer
-    → AreAcceptedBy drawing (options_with_delay more options) stl pes later
+    → IsResultOfCheckFiles drawing options stl pes answer
+    → IsResultOfCheckFiles drawing (options_with_delay more options) stl pes later
     → failed is_failure later ≡ false
     → IsOk answer
     → IsOk later

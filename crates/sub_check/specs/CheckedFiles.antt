@@ -85,9 +85,9 @@ pub record IsAccepted
   pub good : Good (record { drawing = drawing; records = subtitles }) transmission options
   pub complete : IsTrue options.asks_complete → Complete transmission options
 
--- The result of `check_files` for the bytes of both files, with the default options, without any
--- delay.
-pub record AreAccepted
+-- `check_files` may return `answer` for the bytes of both files, with the default options, without
+-- any delay.
+pub record IsResultWithoutDelay
     (drawing : Drawing) (options : OptionsValue) (stl pes : List ℕ)
     (answer : Result Accepted CheckFault)
     : Type 0 where
@@ -129,8 +129,8 @@ pub record IsAcceptedBy
       GoodWithRepeats options.keeps (record { drawing = drawing; records = subtitles }) transmission
       options
 
--- The result of `check_files` for the bytes of both files, with any options.
-pub record AreAcceptedBy
+-- `check_files` may return `answer` for the bytes of both files, with any options.
+pub record IsResultOfCheckFiles
     (drawing : Drawing) (options : OptionsValue) (stl pes : List ℕ)
     (answer : Result Accepted CheckFault)
     : Type 0 where

@@ -7,7 +7,8 @@ ghost use Rattle.stl_rows.specs.Layout.{drawing_within};
 ghost use Rattle.stl_rows.specs.Fault.{is_load_read_failure};
 ghost use Rattle.stl_rows.specs.Loading.{FailsLoading};
 ghost use Rattle.stl_rows.specs.declared.fault.LoadFault.{LoadFault};
-ghost use Rattle.sub_check.specs.CheckedFiles.{AreAccepted, AreAcceptedBy, AreChecked};
+ghost use Rattle.sub_check.specs.CheckedFiles.{AreChecked, IsResultOfCheckFiles};
+ghost use Rattle.sub_check.specs.CheckedFiles.{IsResultWithoutDelay};
 ghost use Rattle.sub_rules.specs.Fault.{is_pes_read_failure, is_pes_write_failure};
 ghost use Rattle.sub_rules.specs.Fault.{is_stl_read_failure, is_subtitle_fault};
 
@@ -46,13 +47,15 @@ pub fn check_files<S: Source, P: Source>(
     ensures accepted { IsFalse options.now.keeps → options.now.within ≡ 0
         → IfKnown (S.remaining stl.old) (λ file.
         IfKnown (P.remaining pes.old) (λ bytes.
-        AreAccepted (drawing_within national layout scope) options.now file bytes result)) }
+        IsResultWithoutDelay (drawing_within national layout scope) options.now file bytes
+        result)) }
     // With any options, the files are accepted exactly if the transmission is good by these
     // options, and an accepted transmission has the properties of `HasPromisesWithRepeats`. Options
     // may allow late pages, or repeats that keep the page.
     ensures is_accepted_within { IfKnown (S.remaining stl.old) (λ file.
         IfKnown (P.remaining pes.old) (λ bytes.
-        AreAcceptedBy (drawing_within national layout scope) options.now file bytes result)) }
+        IsResultOfCheckFiles (drawing_within national layout scope) options.now file bytes
+        result)) }
     // If the bytes are known, they determine the returned fault and its place.
     ensures checked { IfKnown (S.remaining stl.old) (λ file.
         AreChecked (drawing_within national layout scope) options.now file (P.remaining pes.old)

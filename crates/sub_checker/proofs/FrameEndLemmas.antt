@@ -9,7 +9,7 @@ use Rattle.sub_plan.specs.Schedule.{due_page_in}
 use Rattle.sub_checker.specs.Checker.{CheckerValue, checker_after_end, back_steps}
 use Rattle.sub_checker.specs.Checker.{current_wrong_cell, end_steps}
 use Rattle.sub_checker.specs.Checker.{is_overdue_at, is_due_page_undecided, is_currently_unfinished}
-use Rattle.sub_checker.specs.Checker.{is_currently_late}
+use Rattle.sub_checker.specs.Checker.{must_be_correct_now}
 use Rattle.sub_checker.specs.Checker.{IsFaultFreeEnd, current_run_start, active_faults_of}
 use Rattle.sub_checker.specs.Checker.{is_currently_undecided, current_unexpected_cell}
 use Rattle.sub_packets.specs.StoredPage.{is_kept_page_incomplete}
@@ -112,7 +112,8 @@ end_events_agree g frames zero n f old new last is at now = rw (is, now)
     (first_end_events_ignore_previous_frame _ _ _ _)
 end_events_agree g frames (suc i) n f old new last is at now = rw (is, now, at (omega arith)) refl
 
--- After the first PES packet, the pace is counted from the latest frame.
+-- After the first PES packet, the frames of silence are counted from the latest frame with a PES
+-- packet.
 silence_is_counted_from_latest_frame : (g : Criteria) (frames : Transmission) (n f : ℕ) → 0 < n
     → is_silent g frames n f ≡ is_silent_for g.pace (latest_frame frames n) f
 unfolding is_silent
@@ -184,7 +185,7 @@ module _ (g : Criteria) (frames : Transmission) (i n f : ℕ) (last : List (List
     first_unfinished_eq : 0 < g.within → current_run_start c ≡ unfinished_run_start g frames n f
     first_unfinished_eq l = rw (first_unfinished l, unfinished_test_is_exact, at) (sym on)
 
-    late_eq : is_currently_late c ≡ is_late g frames n f
+    late_eq : must_be_correct_now c ≡ is_late g frames n f
     unfolding is_late
     late_eq =
         lateness_tests_agree_if_delayed c.within _ _
@@ -246,14 +247,14 @@ module _ (g : Criteria) (frames : Transmission) (i n f : ℕ) (last : List (List
         no_faults_before before active_faults_of_checker_are_exact)
       where
         by : (w : ℕ) → (0 < w → current_run_start c ≡ unfinished_run_start g frames n f)
-            → cond (w == 0) [] (AtEnd c.frame (current_run_start c) (is_currently_late c) ∷ [])
+            → cond (w == 0) [] (AtEnd c.frame (current_run_start c) (must_be_correct_now c) ∷ [])
             ≡ cond (w == 0) []
             (AtEnd f (unfinished_run_start g frames n f) (is_late g frames n f) ∷ [])
         by zero same = refl
         by (suc w) same = rw (late_eq, same (omega arith), at) refl
 
         firsts : cond (c.within == 0) []
-            (AtEnd c.frame (current_run_start c) (is_currently_late c) ∷ [])
+            (AtEnd c.frame (current_run_start c) (must_be_correct_now c) ∷ [])
             ≡ cond (g.within == 0) []
             (AtEnd f (unfinished_run_start g frames n f) (is_late g frames n f) ∷ [])
         firsts =
@@ -290,7 +291,7 @@ pub delayed_end_steps : (d c : CheckerValue) (s : ActiveFaults)
     → 0 < c.within
     → s ≡ active_faults_of c
     → first_unfinished ≡ current_run_start c
-    → late ≡ is_currently_late c
+    → late ≡ must_be_correct_now c
     → end_steps c
     ≡ (back_steps d ++ AtEnd d.frame first_unfinished late ∷ [])
     ++ map Emits (end_events d.active_faults d.last s d.frame)

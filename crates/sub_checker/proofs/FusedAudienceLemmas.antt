@@ -6,7 +6,7 @@ use Rattle.sub_io.proofs.ReportingLemmas.{ReportsPrefix-second, ReportsPrefix-wh
 use Rattle.std.proofs.Common.{ℕ, ap, inl, inr, not, take}
 use Rattle.sub_io.specs.Flushing.{FlushesIfPending, FlushKeepsReports}
 use Rattle.sub_io.specs.Reporting.{Reports, ReportsInOrder, ReportsPrefix, ReportsSome}
-use Rattle.sub_checker.specs.FusedAudience.{IsFused}
+use Rattle.sub_checker.specs.FusedAudience.{ReportsUnlessStopped}
 use Rattle.sub_rules.specs.declared.event.Event.{Event}
 use Rattle.sub_checker.specs.declared.fused.FusedAudience.{FusedAudience}
 
@@ -30,7 +30,7 @@ module _ {D : Type 0} {g : _} (IsReported : D → Event → D → Type 0) where
   receives-more : (old mid new : FusedAudience D g) (e : Event) (es : List Event) (s t : Bool)
       → old.stopped ≡ s
       → mid.stopped ≡ t
-      → IsFused IsReported old e mid
+      → ReportsUnlessStopped IsReported old e mid
       → FusedDeviceReceives mid new es
       → FusedDeviceReceives old new (e ∷ es)
   receives-more old mid new e es true t is then first rest =
@@ -61,7 +61,7 @@ module _ {D : Type 0} {g : _} (IsReported : D → Event → D → Type 0) where
   }
 
   one_by_one : (old new : FusedAudience D g) (es : List Event)
-      → ReportsInOrder (IsFused IsReported) old new es
+      → ReportsInOrder (ReportsUnlessStopped IsReported) old new es
       → FusedDeviceReceives old new es
   one_by_one old new [] same = subst (λ (s : FusedAudience D g). FusedDeviceReceives old s [])
       (sym same)
@@ -71,12 +71,12 @@ module _ {D : Type 0} {g : _} (IsReported : D → Event → D → Type 0) where
       (one_by_one mid new es rest)
 
   pub reported_events_are_received : (old new : FusedAudience D g) (es : List Event)
-      → Reports (IsFused IsReported) old new es
+      → Reports (ReportsUnlessStopped IsReported) old new es
       → FusedDeviceReceives old new es
   reported_events_are_received old new es reported = one_by_one old new es reported.one_by_one
 
   pub some_reported_events_are_received : (old new : FusedAudience D g) → ReportsSome
-      (IsFused IsReported) old new
+      (ReportsUnlessStopped IsReported) old new
       → (new.device.ghost_name ≡ old.device.ghost_name)
       × ReportsSome IsReported old.device.now new.device.now
   some_reported_events_are_received old new some =

@@ -9,7 +9,7 @@ use Rattle.stl_rows.specs.Programme.{last_tco}
 use Rattle.sub_checker.specs.Checker.{CheckerValue, is_overdue_at, is_currently_pending}
 use Rattle.sub_checker.specs.CheckedFrames.{AfterEnd}
 use Rattle.sub_io.specs.Reporting.{Reports}
-use Rattle.sub_checker.specs.FusedAudience.{IsFused}
+use Rattle.sub_checker.specs.FusedAudience.{ReportsUnlessStopped}
 use Rattle.sub_checker.specs.Relay.{ReporterRelays, relay_after, relayed_events}
 use Rattle.sub_checker.specs.declared.reporter.Reporter.{Reporter}
 use Rattle.sub_checker.specs.LastEvents.{closing_events_of_checker, ending_fault, fault_events}
@@ -62,8 +62,8 @@ module _ (g : Criteria) (frames : Transmission) (n : ℕ) (last : List (List ℕ
     within_eq : g.within ≡ c.within
     within_eq = ap (λ (t : Criteria). t.within) follows.known.criteria_are
 
-    -- The page is wrong at frame e but not overdue, so it could have become correct in a later
-    -- frame.
+    -- The page is unfinished at frame e but may still become finished: `within` (w) is not 0, and
+    -- the page is not overdue.
     abbrev is_end_pending : ℕ → ℕ → ℕ → Bool
     is_end_pending w k e =
         is_some (unfinished_run_start g frames k e)
@@ -248,7 +248,7 @@ same_reports_are_relayed_alike {IsReported = IsReported} {a = a} {b = b} es fs a
     let kept : relay_after a.relay (map Emits es) ≡ relay_after a.relay (map Emits fs) =
     rw (alike.emitted_reports_agree a.relay.tracker, alike.trackers_agree a.relay.tracker) refl in
     record {
-      reported = subst (Reports (IsFused IsReported) a.fused b.fused) (sym reported)
+      reported = subst (Reports (ReportsUnlessStopped IsReported) a.fused b.fused) (sym reported)
           relays.reported;
       kept = relays.kept ∙ sym kept;
     }
@@ -290,8 +290,9 @@ closing_reports_if_fault_is_left pes given c = grind (
   ending_faults_reports_nothing_if_none,
 )
 
--- Unread bytes follow the last frame if and only if a fault ended reading; then at least one more
--- event is reported.
+-- The checker's step at the end of the file is that of the rules: it has the same two values,
+-- whether a fault ended reading, and whether subtitles are unreliable or an event is reported at
+-- the end of the file.
 pub closing_steps_agree :
     (g : Criteria) (list : Transmission) (pes : ℕ) (last : List (List ℕ)) (c : CheckerValue)
     (given : Option CheckFault) (left more : Bool)
@@ -303,9 +304,9 @@ pub closing_steps_agree :
     ≡ Closes (is_some g.unread)
     (g.any_unreliable || not
     (reports_no_event (closing_events_of_pes_packets g list pes (length list))))
-closing_steps_agree g list pes last c given left more follows is left_eq continued_frame_steps =
+closing_steps_agree g list pes last c given left more follows is left_eq more_eq =
     ap₂ Closes (left_eq ∙ ap is_some is ∙ some g.unread)
-    (continued_frame_steps
+    (more_eq
     ∙ ap₂ (λ (a b : Bool). a || not b)
     (sym (ap (λ (t : Criteria). t.any_unreliable) follows.known.criteria_are))
     (sym (closing_events_agree g list pes last c given follows is).both_report_nothing))

@@ -16,7 +16,7 @@ use Rattle.sub_rules.specs.declared.event.Event.{Event}
 use Rattle.sub_rules.specs.PesPacketEvents.{SkippedRun}
 use Rattle.sub_checker.specs.declared.trust_tracker.TrustTracker.{TrustTracker}
 use Rattle.sub_rules.proofs.PesPacketEventLemmas.{announced_events-append, skipped_run_after-append}
-use Rattle.sub_checker.specs.FusedAudience.{IsFused}
+use Rattle.sub_checker.specs.FusedAudience.{ReportsUnlessStopped}
 use Rattle.sub_checker.specs.SkippedPesPackets.{skipped_run_of, stored_run}
 use Rattle.sub_checker.specs.Relay.{IsRelayed, ReporterRelays, at_step, relay_after, relayed_events}
 use Rattle.sub_checker.specs.declared.skipped_run.SkippedPesPackets.{SkippedPesPackets}
@@ -52,8 +52,8 @@ module _ {D : Type 0} {g : _} (IsReported : D → Event → D → Type 0) where
   pub relays-none : (s : Reporter D g) → ReporterRelays IsReported s [] s
   relays-none s = record {
     reported =
-        subst (Reports (IsFused IsReported) s.fused s.fused) (sym (skipped-none s.relay))
-        (Reports-none s.fused);
+        subst (Reports (ReportsUnlessStopped IsReported) s.fused s.fused)
+        (sym (skipped-none s.relay)) (Reports-none s.fused);
     kept = sym (after-none s.relay);
   }
 
@@ -63,9 +63,12 @@ module _ {D : Type 0} {g : _} (IsReported : D → Event → D → Type 0) where
       → ReporterRelays IsReported a (xs ++ ys) c
   relays-trans a b c xs ys first second = record {
     reported =
-        subst (Reports (IsFused IsReported) a.fused c.fused) (sym (skipped-append a.relay xs ys))
+        subst (Reports (ReportsUnlessStopped IsReported) a.fused c.fused)
+        (sym (skipped-append a.relay xs ys))
         (Reports-trans _ _ _ _ _ first.reported
-        (subst (λ (p : Relay). Reports (IsFused IsReported) b.fused c.fused (relayed_events p ys))
+        (subst
+        (λ (p : Relay). Reports (ReportsUnlessStopped IsReported) b.fused c.fused
+        (relayed_events p ys))
         first.kept second.reported));
     kept =
         second.kept
@@ -94,8 +97,8 @@ pub reporting_one_step_relays_it : {D : Type 0} {g : _} (IsReported : D → Even
     (m : CheckStep) (es : List Event)
     → es ≡ events_of_step m s.relay.tracker
     → t.relay.tracker ≡ after_step m s.relay.tracker
-    → Reports (IsFused IsReported) s.fused t.fused (announced_events (skipped_run_of s.relay.run)
-    es)
+    → Reports (ReportsUnlessStopped IsReported) s.fused t.fused
+    (announced_events (skipped_run_of s.relay.run) es)
     → t.relay.run ≡ stored_run (skipped_run_after_events (skipped_run_of s.relay.run) es)
     → ReporterRelays IsReported s (m ∷ []) t
 reporting_one_step_relays_it IsReported s t m es is tracker reported run = grind (
@@ -145,7 +148,7 @@ pub silent : {D : Type 0} {g : _} (IsReported : D → Event → D → Type 0) (s
     → ReporterRelays IsReported s (m ∷ []) t
 unfolding announced_events skipped_run_after_events
 silent IsReported s t m is none =
-    let no = Reports-none {IsReported = IsFused IsReported} s.fused in
+    let no = Reports-none {IsReported = ReportsUnlessStopped IsReported} s.fused in
     grind (arith, nat_tests, one_step_is_relayed, relay_state_after_one_step)
 
 module _ {D : Type 0} {g : _} (IsReported : D → Event → D → Type 0) where

@@ -42,8 +42,8 @@ pub record AgreesWithPackets
   pub knows : KnowsLast (packets_before frames n) last c.listener
   pub count : c.counts.headers ≡ header_count g.watched.page (packets_before frames n)
 
--- Once a PES packet was received, the state of the checker has the first frame, and the frame at
--- which the repeat bound is exceeded.
+-- Once a PES packet was received, the state of the checker has the first frame, and the frame after
+-- the one at whose end the repeat bound is exceeded.
 pub record HasStarted (g : Criteria) (frames : Transmission) (n : ℕ) (c : CheckerValue) : Type 0
   where
     pub first_is : c.first ≡ frame_at frames 0
@@ -110,8 +110,8 @@ pub record StaysOpen
   pub before : c.counts.headers_before ≡ header_count g.watched.page (packets_before frames n)
   pub packets : c.counts.packets ≡ length (packets_of_frame frames n)
 
--- The state of the checker between two PES packets. If `within` is not 0, the last frame may not
--- have ended yet.
+-- The state of the checker between two PES packets. The last frame, if there is one, has ended if
+-- `within` is 0, and has not ended yet if it is not.
 pub record BetweenPesPackets (g : Criteria) (sent : Transmission) (last : List (List ℕ))
     (c : CheckerValue) : Type 0
   where

@@ -165,8 +165,8 @@ current_wrong_cell c = if is_due_page_undecided c c.frame then None else first_w
 abbrev pub is_currently_undecided : CheckerValue → Bool
 is_currently_undecided c = was_undecided (is_due_page_undecided c) c.first c.frame c.within
 
--- The first cell with a code that was not expected within the last `within` frames. `None` if one
--- of these expected pages is unknown.
+-- The first cell with a code, other than a space, that was not expected within the last `within`
+-- frames. `None` if one of these expected pages is unknown.
 abbrev pub current_unexpected_cell : CheckerValue → Option (ℕ × ℕ)
 current_unexpected_cell c =
     if is_currently_undecided c
@@ -183,17 +183,17 @@ abbrev pub current_run_start : CheckerValue → Option ℕ
 current_run_start c = extended_unfinished_run c.first_unfinished (is_currently_unfinished c) c.frame
 
 -- The page must be correct by now: `within` is 0, or the page is overdue.
-abbrev pub is_currently_late : CheckerValue → Bool
-is_currently_late c = c.within == 0 || is_overdue_at c.programme c.within c.first
+abbrev pub must_be_correct_now : CheckerValue → Bool
+must_be_correct_now c = c.within == 0 || is_overdue_at c.programme c.within c.first
     (current_run_start c)
     c.frame
 
 -- The faults that are active at the end of the current frame.
 abbrev pub active_faults_of : CheckerValue → ActiveFaults
 active_faults_of c = record {
-  content = if is_currently_late c then current_wrong_cell c else current_unexpected_cell c;
+  content = if must_be_correct_now c then current_wrong_cell c else current_unexpected_cell c;
   gap = nat_le c.repeat_deadline (c.frame + 1);
-  incomplete = is_currently_late c && is_kept_page_incomplete c.listener;
+  incomplete = must_be_correct_now c && is_kept_page_incomplete c.listener;
   undecided = is_currently_undecided c;
   silent = is_silent_for c.pace c.latest_frame c.frame;
 }
@@ -210,7 +210,7 @@ back_steps c = if needs_back_step c then GoesBack c.first_unfinished ∷ [] else
 abbrev pub end_steps : CheckerValue → List CheckStep
 end_steps c =
     back_steps c
-    ++ (if c.within == 0 then [] else AtEnd c.frame (current_run_start c) (is_currently_late c) ∷
+    ++ (if c.within == 0 then [] else AtEnd c.frame (current_run_start c) (must_be_correct_now c) ∷
     [])
     ++ map Emits (end_events c.active_faults c.last (active_faults_of c) c.frame)
 
@@ -228,7 +228,8 @@ pub record IsFaultFreeEnd (c : CheckerValue) : Type 0 where
   pub no_faults_now : active_faults_of c ≡ no_active_faults
   pub first_unfinished : current_run_start c ≡ None
 
--- The page was wrong at the last end, but is not overdue yet.
+-- The page was unfinished at the last end but may still become finished: `within` is not 0, and the
+-- page is not overdue.
 abbrev pub is_currently_pending : CheckerValue → Bool
 is_currently_pending c =
     not (c.within == 0)

@@ -5,7 +5,7 @@ use Rattle.sub_rules.specs.declared.event.Event.{Event}
 use Rattle.sub_checker.specs.declared.fused.FusedAudience.{FusedAudience}
 
 -- A `FusedAudience` passes an event to its device, unless the device has stopped the check.
-pub record IsFused
+pub record ReportsUnlessStopped
     {D : Type 0} {g : _} (IsReported : D → Event → D → Type 0)
     (old : FusedAudience D g) (e : Event) (new : FusedAudience D g)
     : Type 0 where

@@ -35,8 +35,8 @@ pub record MatchesReadFile
   pub whole : AreComplete (frames_of pes_packets)
   pub counts : AreCountsOfFrames g.watched.page (sent_by_pes_packets g pes_packets) a
 
--- The events of the PES packets were reported. If the source failed, only the events of the packets
--- before the failure were reported.
+-- The events of the PES packets were reported; or a prefix of them, if the device stopped the
+-- check; or only the events of the packets before the failure, if the source failed.
 abbrev pub ReportsPesPackets : {D : Type 0} → Criteria → Clock → List ℕ → List PesPacket
     → (D → Event → D → Type 0) → D → D → Result (Option Accepted) CheckFault → Type 0
 ReportsPesPackets g clock bytes pes_packets IsReported old new (Ok (Some a)) =

@@ -5,7 +5,7 @@ use Rattle.sub_rules.specs.PesPacketEvents.{announced_events, no_run, skipped_ru
 use Rattle.sub_rules.specs.Trusted.{CheckStep}
 use Rattle.sub_rules.specs.Trusted.CheckStep.{Emits}
 use Rattle.sub_rules.specs.declared.event.Event.{Event}
-use Rattle.sub_checker.specs.FusedAudience.{IsFused}
+use Rattle.sub_checker.specs.FusedAudience.{ReportsUnlessStopped}
 use Rattle.sub_checker.specs.SkippedPesPackets.{skipped_run_of, stored_run}
 use Rattle.sub_checker.specs.declared.reporter.Relay.{Relay}
 use Rattle.sub_checker.specs.declared.reporter.Reporter.{Reporter}
@@ -36,7 +36,8 @@ pub record ReporterRelays
     {D : Type 0} {g : _} (IsReported : D → Event → D → Type 0)
     (old : Reporter D g) (steps : List CheckStep) (new : Reporter D g)
     : Type 0 where
-  pub reported : Reports (IsFused IsReported) old.fused new.fused (relayed_events old.relay steps)
+  pub reported :
+      Reports (ReportsUnlessStopped IsReported) old.fused new.fused (relayed_events old.relay steps)
   pub kept : new.relay ≡ relay_after old.relay steps
 
 -- The reporter passed one event to its device.

@@ -10,7 +10,7 @@ use Rattle.sub_rules.specs.declared.fault.CheckFault.TheVariants as fault
 use Rattle.sub_checker.specs.declared.trust_tracker.TrustTracker.{TrustTracker}
 
 -- The first frame that is no longer trusted because of the event. `last` is the frame of the last
--- PES packet; `late` is the first frame with a wrong page, if the page is overdue.
+-- PES packet; `late` is the first frame with the unfinished page, if the page is overdue.
 unfoldable pub invalidated : ℕ → Option ℕ → Event → Option ℕ
 invalidated last late (Reported f) = invalidated_frame last late (fault_row f).invalidates
     (fault_row f).place
@@ -22,7 +22,7 @@ is_order_fault (Reported (fault.Order pes)) = true
 is_order_fault event = false
 
 -- The event for the trusted frames of a run that ends before this frame. The frames from `back` on
--- have a wrong page and are not trusted.
+-- have an unfinished page and are not trusted.
 abbrev pub trusted_events_before : Option ℕ → Option ℕ → Option ℕ → Option ℕ → List Event
 trusted_events_before run whole back None = []
 trusted_events_before run whole back (Some f) = trusted run whole (unwrap_or back f)
@@ -38,20 +38,20 @@ abbrev pub trusted_run_after : Option ℕ → Option ℕ → Option ℕ
 trusted_run_after run None = run
 trusted_run_after run (Some f) = None
 
--- The first frame of the run at whose end the page was correct, after frame f of the run. The page
--- is correct at f if `first_unfinished` is `None`.
+-- The first frame of the run at whose end the page was finished, after frame f of the run. The page
+-- is finished at f if `first_unfinished` is `None`.
 abbrev pub first_correct : Option ℕ → Option ℕ → ℕ → Option ℕ
 first_correct (Some whole) first_unfinished f = Some whole
 first_correct None None f = Some f
 first_correct None (Some first_unfinished) f = None
 
--- The first frame of the run at whose end the page was correct, after frame f, with which a run
+-- The first frame of the run at whose end the page was finished, after frame f, with which a run
 -- continues or begins.
 abbrev pub first_correct_frame_in : Option ℕ → Option ℕ → Option ℕ → ℕ → Option ℕ
 first_correct_frame_in None whole first_unfinished f = first_correct None first_unfinished f
 first_correct_frame_in (Some from) whole first_unfinished f = first_correct whole first_unfinished f
 
--- The first frame with a wrong page, if the page is overdue.
+-- The first frame with the unfinished page, if the page is overdue.
 abbrev pub overdue_run_start : TrustTracker → Option ℕ
 overdue_run_start t = if t.is_late then t.first_unfinished else None
 
@@ -61,7 +61,7 @@ first_untrusted_frame t are_left =
     unwrap_or t.first_unfinished (if are_left then unwrap_or t.back t.last else suc t.last)
 
 -- The events to report for one step: the trusted frames that end with it, and its own event. At the
--- end of the file, trusted frames are reported only if anything else is.
+-- end of the file, trusted frames are reported only if an event was reported or `more` is true.
 unfoldable pub events_of_step : CheckStep → TrustTracker → List Event
 events_of_step (Emits e) t =
     trusted_events_before t.run t.whole t.back (invalidated t.last (overdue_run_start t) e) ++

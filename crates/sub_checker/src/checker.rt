@@ -22,7 +22,7 @@ use sub_rules::{ActiveFaults, Event, Watched};
 pub(crate) struct Checker<'a> {
     pub judging: &'a Judging<'a>,
     pub programme: &'a Programme,
-    // Whether subtitles of the file were rejected.
+    // Whether the file has unreliable subtitles: rejected, faulty or out of order.
     pub has_unreliable_subtitle: bool,
     // The repeat bound in frames.
     pub every: u32,
@@ -207,7 +207,8 @@ impl<'a> Checker<'a> {
     }
 
     /// Tells the reporter the first frame of the run of frames with an unfinished page, up to the
-    /// frame before. This is needed only if subtitles were rejected and `within` is not 0.
+    /// frame before. This is needed only if the file has unreliable subtitles and `within` is not
+    /// 0.
     #[inline(always)]
     #[tactic(auto, unfolding(crate::specs::CheckedFrames::reporter_after_back_step))]
     pub fn go_back<A: ReportSink<Event>>(&self, reporter: &mut Reporter<'_, A>)

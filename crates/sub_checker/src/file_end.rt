@@ -2,7 +2,7 @@
 ghost use Rattle.std.specs.Prelude.{◌≡◌, ℕ, IfSome, List, is_none, length, not};
 ghost use Rattle.std.specs.Prelude.{◌||◌};
 ghost use Rattle.sub_io.specs.Reporting.{ReportsSome};
-ghost use Rattle.sub_checker.specs.FusedAudience.{IsFused};
+ghost use Rattle.sub_checker.specs.FusedAudience.{ReportsUnlessStopped};
 ghost use Rattle.sub_rules.specs.FrameRules.{Criteria};
 ghost use Rattle.sub_rules.specs.PesPacketEvents.{steps_of_closing};
 ghost use Rattle.sub_rules.specs.Transmission.{Transmission};
@@ -66,7 +66,7 @@ fn end_and_close<A: ReportSink<Event>>(
 )
     ensures some { (g : Criteria) (list : Transmission) (last : List (List ℕ))
         → BetweenPesPackets g list last checker.old
-        → ReportsSome (IsFused A.is_reported) reporter.old.fused reporter.new.fused }
+        → ReportsSome (ReportsUnlessStopped A.is_reported) reporter.old.fused reporter.new.fused }
     ensures reported { (g : Criteria) (list : Transmission) (last : List (List ℕ))
         → BetweenPesPackets g list last checker.old
         → fault ≡ ending_fault pes g.unread
@@ -83,7 +83,8 @@ fn close<A: ReportSink<Event>>(
     fault: Option<CheckFault>,
     reporter: &mut Reporter<'_, A>,
 )
-    ensures some { ReportsSome (IsFused A.is_reported) reporter.old.fused reporter.new.fused }
+    ensures some { ReportsSome (ReportsUnlessStopped A.is_reported) reporter.old.fused
+        reporter.new.fused }
     ensures reported { (g : Criteria) (list : Transmission) (last : List (List ℕ))
         → AfterEnd g list (length list) last checker.now
         → fault ≡ ending_fault pes g.unread
@@ -97,7 +98,7 @@ fn close<A: ReportSink<Event>>(
 }
 
 // Returns whether the trusted frames of the last run must be reported even if nothing was reported
-// before: subtitles were rejected, or an event follows at the end of the file.
+// before: the file has unreliable subtitles, or an event follows at the end of the file.
 fn reports_trusted(checker: &Checker<'_>, pes: u32, fault: Option<CheckFault>) -> bool
     ensures { result
         ≡ (checker.now.any_unreliable || not

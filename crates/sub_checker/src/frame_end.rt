@@ -15,7 +15,7 @@ ghost use Rattle.stl_file.specs.TimeCode.{day};
 ghost use Rattle.sub_checker.specs.Checker.{AreCountsBounded, checker_after_end};
 ghost use Rattle.sub_checker.specs.Checker.{current_wrong_cell, end_steps};
 ghost use Rattle.sub_checker.specs.Checker.{is_overdue_at, is_due_page_undecided};
-ghost use Rattle.sub_checker.specs.Checker.{is_currently_late};
+ghost use Rattle.sub_checker.specs.Checker.{must_be_correct_now};
 ghost use Rattle.sub_checker.specs.Checker.{IsFaultFreeEnd};
 ghost use Rattle.sub_checker.specs.Checker.{current_run_start, active_faults_of};
 ghost use Rattle.sub_checker.specs.Checker.{is_currently_undecided};
@@ -124,7 +124,8 @@ impl<'a> Checker<'a> {
         self.repeat_deadline <= self.frame + 1
     }
 
-    // Returns whether no PES packet, valid or not, has come within `--pace` frames.
+    // Returns whether at least `--pace` frames have passed since the latest frame with a valid PES
+    // packet. Skipped PES packets do not count. Returns false without `--pace`.
     #[inline(always)]
     fn is_silent(&self) -> bool
         ensures { result ≡ is_silent_for self.now.pace self.now.latest_frame self.now.frame }
@@ -141,7 +142,7 @@ impl<'a> Checker<'a> {
         requires within { 0 < self.now.within }
         ensures active_faults { result.active_faults ≡ active_faults_of self.now }
         ensures first_unfinished { result.first_unfinished ≡ current_run_start self.now }
-        ensures late { result.is_late ≡ is_currently_late self.now }
+        ensures late { result.is_late ≡ must_be_correct_now self.now }
     {
         let differing = self.first_wrong(self.is_due_page_unknown());
         let is_open = self.listener.is_incomplete();
@@ -173,9 +174,9 @@ impl<'a> Checker<'a> {
         }
     }
 
-    // Returns the first cell with a code that was not expected within the last `within` frames;
-    // `None` if one of these expected pages is unknown, or if no cell differs from the expected
-    // page.
+    // Returns the first cell with a code, other than a space, that was not expected within the last
+    // `within` frames; `None` if one of these expected pages is unknown, or if no cell differs from
+    // the expected page.
     fn first_unexpected(&self, differing: Option<(u8, u8)>) -> Option<(u8, u8)>
         ensures { differing ≡ current_wrong_cell self.now → result ≡ current_unexpected_cell
             self.now }

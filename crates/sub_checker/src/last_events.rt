@@ -51,8 +51,8 @@ impl<'a> Checker<'a> {
         }
     }
 
-    // Returns whether the page is wrong at the end of the last frame but not yet overdue: it could
-    // have become correct in a later frame.
+    // Returns whether the page is unfinished at the end of the last frame but not yet overdue: it
+    // could have become finished in a later frame. Returns false if `within` is 0.
     fn is_pending(&self) -> bool
         ensures { result ≡ is_currently_pending self.now }
     {

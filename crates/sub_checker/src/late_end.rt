@@ -23,7 +23,7 @@ pub(crate) fn extended_unfinished_run(
 }
 
 /// Returns whether the page is overdue at the end of `frame`: it has been unfinished for more than
-/// `within` frames, or a subtitle ends that was never shown correctly.
+/// `within` frames, or a subtitle ends whose page was never finished.
 pub(crate) fn is_overdue(
     programme: &Programme,
     within: u32,

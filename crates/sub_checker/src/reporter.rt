@@ -87,8 +87,8 @@ impl<A: ReportSink<Event>> Reporter<'_, A> {
             .end_frame(frame, has_beginning, none_active);
     }
 
-    /// Reports the trusted frames of the last run, if anything else is reported. The last frame is
-    /// not trusted if unread bytes follow it.
+    /// Reports the trusted frames of the last run, if an event was reported or `reports_more` is
+    /// true. The last frame is not trusted if unread bytes follow it.
     pub fn close(&mut self, are_left: bool, reports_more: bool)
         ensures { ReporterRelays A.is_reported self.old (Closes are_left reports_more ∷ [])
             self.new }

@@ -19,7 +19,7 @@ pub(crate) struct TrustTracker {
     pub pes: u32,
     /// The frame of the header with which the current run of trusted frames began, if there is one.
     pub run: Option<u32>,
-    /// The first frame of the current run at whose end the page was correct.
+    /// The first frame of the current run at whose end the page was finished.
     pub whole: Option<u32>,
     /// The frame of the last PES packet; 0 before the first packet.
     pub last: u32,
@@ -112,8 +112,8 @@ impl TrustTracker {
         self.update_trusted_run(frame, has_beginning, none_active);
     }
 
-    // Returns whether the run of trusted frames continues with a correct page and a frame without
-    // faults.
+    // Returns whether there is a run of trusted frames, the page was finished at the end of one of
+    // its frames, and no packet of the current frame has a fault that affects receivers.
     #[inline(always)]
     fn stays_correct(&self) -> bool
         ensures { result
@@ -167,9 +167,9 @@ impl TrustTracker {
         }
     }
 
-    /// Ends the file, and returns the trusted frames of the last run, if anything else is reported.
-    /// The last frame is not trusted if unread bytes follow it; nor are the last frames with a
-    /// wrong page.
+    /// Ends the file, and returns the trusted frames of the last run, if an event was reported or
+    /// `reports_more` is true. The last frame is not trusted if unread bytes follow it; nor are the
+    /// last frames with an unfinished page.
     #[tactic(auto, unfolding(crate::specs::TrustTracker::after_step))]
     pub fn close(&mut self, are_left: bool, reports_more: bool) -> Option<Event>
         ensures reported { first_as_list result ≡ events_of_step (Closes are_left reports_more)
@@ -215,8 +215,8 @@ impl TrustTracker {
     }
 }
 
-// Returns the first frame of the run at whose end the page was correct, after one more frame of the
-// run.
+// Returns the first frame of the run at whose end the page was finished, after one more frame of
+// the run.
 fn first_correct(whole: Option<u32>, first_unfinished: Option<u32>, frame: u32) -> Option<u32>
     ensures { result ≡ first_correct whole first_unfinished frame }
 {
@@ -246,7 +246,7 @@ fn trusted(run: Option<u32>, whole: Option<u32>, frame: u64) -> Option<Event>
 }
 
 // Returns the first frame that is no longer trusted because of the event. `last` is the frame of
-// the last PES packet; `late` is the first frame with a wrong page, if the page is overdue.
+// the last PES packet; `late` is the first frame with the unfinished page, if the page is overdue.
 #[tactic(auto, unfolding(crate::specs::TrustTracker::invalidated))]
 fn invalidated(last: u32, late: Option<u32>, event: &Event) -> Option<u32>
     ensures { result ≡ invalidated last late event.now }

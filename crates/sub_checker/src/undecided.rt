@@ -65,8 +65,8 @@ fn last_undecided(judging: &Judging<'_>, frame: u32, least: u32) -> Option<u32>
     None
 }
 
-// Returns the last frame before `at` with another expected page; `None` if that frame is before
-// `least`.
+// Returns the last frame before the last cue at or before `at`; `None` if there is no such cue, or
+// if that frame is before `least`.
 fn frame_before(judging: &Judging<'_>, at: u32, least: u32) -> Option<u32>
     ensures { MatchOption result
         ((f : ℕ) → least ≤ f → f ≤ at

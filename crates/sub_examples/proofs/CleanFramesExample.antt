@@ -27,7 +27,7 @@ use Rattle.stl_rows.specs.PreparedLine.{prepared_by_layout, row_starting_at, sta
 use Rattle.stl_rows.specs.SubSets.{sub_set}
 use Rattle.stl_rows.specs.TextCode.{cell_of, cell_of_pair, is_common}
 use Rattle.sub_laws.specs.CleanStretch.{IsUnreported}
-use Rattle.sub_examples.specs.Examples.{ExampleOfCleanFrames, closing_header}
+use Rattle.sub_examples.specs.Examples.{ExampleOfCleanFrames, time_filling_header}
 use Rattle.sub_examples.specs.Examples.{transmission_damaged_first, options_with_bound}
 use Rattle.sub_examples.specs.Examples.{english_header, later_subtitle, row_22}
 use Rattle.sub_rules.specs.FrameRules.{criteria_of}
@@ -67,7 +67,7 @@ example_of_clean_frames = record {
   refused = refused;
   clean = clean;
   receiver_state = λ got old new near hears.
-      let sent : List (List ℕ) = english_header ∷ row_22 ∷ closing_header ∷ [] in
+      let sent : List (List ℕ) = english_header ∷ row_22 ∷ time_filling_header ∷ [] in
       let enough =
       law_of_unreported_stretch later_subtitle transmission_damaged_first (options_with_bound 1)
       None false

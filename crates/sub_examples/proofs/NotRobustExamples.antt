@@ -17,12 +17,12 @@ use Rattle.sub_rules.specs.Events.{first_wrong_cell_after}
 use Rattle.ttx_page.specs.PacketKind.{kind}
 use Rattle.stl_rows.specs.DuePage.{due}
 use Rattle.stl_rows.specs.SubSets.{sub_set}
-use Rattle.sub_examples.specs.Examples.{ExamplesOfNeededParts, closing_header, english_header}
+use Rattle.sub_examples.specs.Examples.{ExamplesOfNeededParts, time_filling_header, english_header}
 use Rattle.sub_examples.specs.Examples.{header_without_c4, row_1, header_of_coded_bytes}
 use Rattle.sub_examples.proofs.RobustTests.{needed}
 
 abbrev exclamation_mark_page : List (List ℕ)
-exclamation_mark_page = english_header ∷ row_1 0xA1 ∷ closing_header ∷ []
+exclamation_mark_page = english_header ∷ row_1 0xA1 ∷ time_filling_header ∷ []
 
 -- The header of page 888 with one wrong bit in its page units.
 abbrev header_with_wrong_units : List ℕ
@@ -44,20 +44,23 @@ examples_of_needed_parts = record {
   -- The receiver receives frames 900000 and 900001 unchanged.
   frames_rise = needed 62 _ _ 900000 0 900001 (english_header ∷ row_1 0xA1 ∷ []) refl;
   -- A second bit in the header's address is received wrong, so the receiver misses the header.
-  exact_addresses = needed 64 _ _ 900000 0 900000 (header_with_two_wrong_bits ∷ closing_header ∷ [])
+  exact_addresses =
+      needed 64 _ _ 900000 0 900000 (header_with_two_wrong_bits ∷ time_filling_header ∷ [])
       refl;
   -- The receiver receives only the last packet, with one wrong bit in its page units.
   exact_headers = needed 65 _ _ 900000 2 900000 (header_with_wrong_units ∷ []) refl;
   -- The header does not erase the receiver's old page of question marks.
-  subtitle_headers = needed 67 _ _ 900000 0 900000 (header_without_c4 ∷ closing_header ∷ []) refl;
+  subtitle_headers =
+      needed 67 _ _ 900000 0 900000 (header_without_c4 ∷ time_filling_header ∷ []) refl;
   -- The byte A0 of row 1 is received as A1.
   odd_rows = needed 68 _ _ 900000 0 900000 exclamation_mark_page refl;
   -- The receiver receives both packets of row 1 unchanged.
   same_rows =
-      needed 69 _ _ 900000 0 900000 (english_header ∷ row_1 0x20 ∷ row_1 0xA1 ∷ closing_header ∷ [])
+      needed 69 _ _ 900000 0 900000
+      (english_header ∷ row_1 0x20 ∷ row_1 0xA1 ∷ time_filling_header ∷ [])
       refl;
   -- The receiver receives all packets unchanged.
   due_content = needed 72 _ _ 900000 0 900000 exclamation_mark_page refl;
   -- The receiver starts at the end of the first frame, after its header.
-  headers_in_time = needed 73 _ _ 900000 2 900001 (closing_header ∷ []) refl;
+  headers_in_time = needed 73 _ _ 900000 2 900001 (time_filling_header ∷ []) refl;
 }

@@ -225,8 +225,8 @@ reports_only_rule number g frames a b =
     && (number == 73 || frame_ends_pass_test (λ n f. not (active_faults_at g frames n f).gap) frames
     a b)))
 
-value_unless_error : (n m : ℕ) (b : Bool) → (n == m || b) ≡ true → n ≢ m → b ≡ true
-value_unless_error n m b e other = elim (or_cases (n == m) b e) [
+test_of_other_rule_passes : (n m : ℕ) (b : Bool) → (n == m || b) ≡ true → n ≢ m → b ≡ true
+test_of_other_rule_passes n m b e other = elim (or_cases (n == m) b e) [
   | inl same ↦ absurd (other (eqb-true n m same))
   | inr passes ↦ passes
 ]
@@ -256,19 +256,20 @@ unreported_but number g frames a b e =
     ((each_of PacketsPass (λ r. PacketsPass r ≡ true) (λ r. holds (PacketsPass r)) packet_rules).0
     packets.0)) in
     record {
-      rising = λ other. (rising_is_decided frames).0 (value_unless_error number 62 _ order.0 other);
+      rising = λ other.
+          (rising_is_decided frames).0 (test_of_other_rule_passes number 62 _ order.0 other);
       packets = λ r needed other.
           none_breaks r g frames a b
           ((implied _ _ (holds (is_needed_by_receivers r)) (holds _)).0
-          (value_unless_error number (number_of r) _ (options_with_bound r) other) needed);
+          (test_of_other_rule_passes number (number_of r) _ (options_with_bound r) other) needed);
       content = λ other n f end low high.
           absent_test_means_none _
           (at_ends (λ n f. is_none (active_faults_at g frames n f).content) frames a b
-          (value_unless_error number 72 _ ends.0 other) n f end low high);
+          (test_of_other_rule_passes number 72 _ ends.0 other) n f end low high);
       gap = λ other n f end low high.
           (fails _).0
           (at_ends (λ n f. not (active_faults_at g frames n f).gap) frames a b
-          (value_unless_error number 73 _ ends.1 other) n f end low high);
+          (test_of_other_rule_passes number 73 _ ends.1 other) n f end low high);
     }
 
 pub needed :

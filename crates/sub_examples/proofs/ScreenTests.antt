@@ -30,7 +30,7 @@ use Rattle.ttx_page.specs.Screen.{Display, ShowsAt}
 use Rattle.ttx_page.specs.Span.{has_page_header, has_no_page_end}
 use Rattle.ttx_page.proofs.NoiseLaws.{AreNear-themselves}
 use Rattle.sub_plan.specs.Examples.{page_888}
-use Rattle.sub_examples.specs.Examples.{english_header, row_22, closing_header, one_frame}
+use Rattle.sub_examples.specs.Examples.{english_header, row_22, time_filling_header, one_frame}
 use Rattle.sub_examples.specs.Examples.{options_with_bound}
 use Rattle.sub_examples.specs.Examples.{no_subtitles}
 use Rattle.sub_rules.specs.Good.{Good}
@@ -51,9 +51,9 @@ english_header_is_page_888 : kind page_888 english_header ≡ ThisPage header_88
 unfolding kind address header coded_header decoded_nibble is_near
 english_header_is_page_888 = refl
 
-closing_header_ends_page : kind page_888 closing_header ≡ EndsPage
+time_filling_header_ends_page : kind page_888 time_filling_header ≡ EndsPage
 unfolding kind address header coded_header decoded_nibble is_near
-closing_header_ends_page = refl
+time_filling_header_ends_page = refl
 
 packet_is_row_22 : kind page_888 row_22 ≡ Row 22
 unfolding kind address header coded_header decoded_nibble is_near
@@ -71,10 +71,10 @@ opened :
 opened old new step = subst (λ k. StepAt k english_header old new) english_header_is_page_888 step
 
 closed :
-    (old new : State) → Step page_888 old closing_header new → new.is_open ≡ false
+    (old new : State) → Step page_888 old time_filling_header new → new.is_open ≡ false
 closed old new step =
     ap (λ (s : State). s.is_open)
-    (subst (λ k. StepAt k closing_header old new) closing_header_ends_page step)
+    (subst (λ k. StepAt k time_filling_header old new) time_filling_header_ends_page step)
 
 left_open :
     (old new : State) → old ≡ state_on_blank_page → Step page_888 old row_22 new → new.is_open ≡

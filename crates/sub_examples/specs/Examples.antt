@@ -59,10 +59,9 @@ undecodable_header = header_of_coded_bytes (0x15 ∷ 0x15 ∷ 0xD3 ∷ 0xD0 ∷ 
 
 -- The header of page FF with subcode 3F7F (in EN 300 706: time filling header), which ends the
 -- page.
-abbrev pub closing_header : List ℕ
-closing_header = header_of_coded_bytes (0x15 ∷ 0x15 ∷ 0xEA ∷ 0xEA ∷ 0xEA ∷ 0x2F ∷ 0xEA ∷ 0x5E ∷ 0x15
-    ∷ 0x15
-    ∷ [])
+abbrev pub time_filling_header : List ℕ
+time_filling_header =
+    header_of_coded_bytes (0x15 ∷ 0x15 ∷ 0xEA ∷ 0xEA ∷ 0xEA ∷ 0x2F ∷ 0xEA ∷ 0x5E ∷ 0x15 ∷ 0x15 ∷ [])
 
 -- Packet 8/1, row 1 of magazine 8: the given first byte of text, and 39 spaces.
 abbrev pub row_1 : ℕ → List ℕ
@@ -103,7 +102,7 @@ options_with_bound every =
 
 -- A transmission of frame 900000 with this header and the header that ends the page.
 abbrev pub one_header : List ℕ → Transmission
-one_header sent = one_frame (sent ∷ closing_header ∷ [])
+one_header sent = one_frame (sent ∷ time_filling_header ∷ [])
 
 -- A programme without subtitles: the expected page is always blank.
 abbrev pub no_subtitles : ProgrammeValue
@@ -135,8 +134,8 @@ one_subtitle text =
 abbrev pub ExampleOfGoodTransmission : Type 0
 ExampleOfGoodTransmission =
     Good (one_subtitle (0x48 ∷ 0x69 ∷ []))
-    (two_frames (english_header ∷ row_22 ∷ closing_header ∷ []) (english_header ∷ closing_header ∷
-    []))
+    (two_frames (english_header ∷ row_22 ∷ time_filling_header ∷ [])
+    (english_header ∷ time_filling_header ∷ []))
     (options_with_bound 1)
 
 -- ---- for each fault that matters to receivers, a transmission that fails at a receiver
@@ -177,16 +176,16 @@ pub record IsRuleNeeded (number : ℕ) (transmission : Transmission) (every : �
 
 -- A transmission in which row 1 is first blank, and then has an exclamation mark.
 abbrev pub changed_row : Transmission
-changed_row = one_frame (english_header ∷ row_1 0x20 ∷ row_1 0xA1 ∷ closing_header ∷ [])
+changed_row = one_frame (english_header ∷ row_1 0x20 ∷ row_1 0xA1 ∷ time_filling_header ∷ [])
 
 -- A transmission with frame 900001 listed after frame 900002, which ends the page. So its row is
 -- ignored.
 abbrev pub transmission_out_of_order : Transmission
 transmission_out_of_order =
     record { frame = 900000; packets = english_header ∷ [] }
-    ∷ record { frame = 900002; packets = closing_header ∷ [] }
+    ∷ record { frame = 900002; packets = time_filling_header ∷ [] }
     ∷ record { frame = 900001; packets = row_1 0xA1 ∷ [] }
-    ∷ record { frame = 900003; packets = english_header ∷ closing_header ∷ [] }
+    ∷ record { frame = 900003; packets = english_header ∷ time_filling_header ∷ [] }
     ∷ []
 
 -- Each of the eight rules is necessary: a transmission that breaks only this rule fails at a
@@ -198,21 +197,22 @@ pub record ExamplesOfNeededParts : Type 0 where
   pub exact_addresses : IsRuleNeeded 64 (one_header header_with_wrong_bit) 1
   -- With one wrong bit, a packet X/0 becomes a header that was never sent.
   pub exact_headers : IsRuleNeeded 65
-      (one_frame (english_header ∷ closing_header ∷ undecodable_header ∷ [])) 1
+      (one_frame (english_header ∷ time_filling_header ∷ undecodable_header ∷ [])) 1
   -- Without C4, a receiver does not erase its old page.
   pub subtitle_headers : IsRuleNeeded 67 (one_header header_without_c4) 1
   -- The byte A0 may be received as A1, which has odd parity: an exclamation mark that was never
   -- sent.
-  pub odd_rows : IsRuleNeeded 68 (one_frame (english_header ∷ row_1 0xA0 ∷ closing_header ∷ [])) 1
+  pub odd_rows :
+      IsRuleNeeded 68 (one_frame (english_header ∷ row_1 0xA0 ∷ time_filling_header ∷ [])) 1
   -- Row 1 is sent twice with different codes. The check uses the first packet, but a receiver
   -- stores the second.
   pub same_rows : IsRuleNeeded 69 changed_row 1
   -- Every receiver shows an exclamation mark that is not expected.
-  pub due_content : IsRuleNeeded 72 (one_frame (english_header ∷ row_1 0xA1 ∷ closing_header ∷ []))
-      1
+  pub due_content :
+      IsRuleNeeded 72 (one_frame (english_header ∷ row_1 0xA1 ∷ time_filling_header ∷ [])) 1
   -- A receiver that starts after the first frame receives no header within the repeat bound.
-  pub headers_in_time : IsRuleNeeded 73 (two_frames (english_header ∷ closing_header ∷ [])
-      (closing_header ∷ [])) 1
+  pub headers_in_time : IsRuleNeeded 73 (two_frames (english_header ∷ time_filling_header ∷ [])
+      (time_filling_header ∷ [])) 1
 
 -- ---- clean frames of a rejected transmission
 
@@ -237,9 +237,9 @@ later_subtitle = record {
 -- has a byte with even parity.
 abbrev pub transmission_damaged_first : Transmission
 transmission_damaged_first =
-    record { frame = 900000; packets = header_without_c4 ∷ row_1 0xA0 ∷ closing_header ∷ [] }
-    ∷ record { frame = 900001; packets = english_header ∷ row_22 ∷ closing_header ∷ [] }
-    ∷ record { frame = 900002; packets = english_header ∷ closing_header ∷ [] }
+    record { frame = 900000; packets = header_without_c4 ∷ row_1 0xA0 ∷ time_filling_header ∷ [] }
+    ∷ record { frame = 900001; packets = english_header ∷ row_22 ∷ time_filling_header ∷ [] }
+    ∷ record { frame = 900002; packets = english_header ∷ time_filling_header ∷ [] }
     ∷ []
 
 -- The transmission is rejected, but no fault is reported after its first frame. So a receiver of
@@ -252,6 +252,6 @@ pub record ExampleOfCleanFrames : Type 0 where
       900001 900002
   pub receiver_state :
       (got : List (List ℕ)) (old new : State)
-      → AllZip AreNear (english_header ∷ row_22 ∷ closing_header ∷ []) got
+      → AllZip AreNear (english_header ∷ row_22 ∷ time_filling_header ∷ []) got
       → Hears page_888 old got new
       → (cell new.page 22 19 ≡ 0x48) ⊎ (cell new.page 22 19 ≡ space)

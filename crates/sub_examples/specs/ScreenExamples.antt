@@ -7,7 +7,7 @@ use Rattle.ttx_page.specs.Screen.{Display, Shows}
 use Rattle.stl_rows.specs.Programme.{ProgrammeValue}
 use Rattle.sub_plan.specs.Options.{OptionsValue}
 use Rattle.sub_plan.specs.Examples.{page_888}
-use Rattle.sub_examples.specs.Examples.{english_header, row_22, closing_header, one_frame}
+use Rattle.sub_examples.specs.Examples.{english_header, row_22, time_filling_header, one_frame}
 use Rattle.sub_examples.specs.Examples.{options_with_bound}
 use Rattle.sub_examples.specs.Examples.{no_subtitles}
 use Rattle.sub_rules.specs.Good.{Good}
@@ -27,7 +27,7 @@ display_before_header screen =
 abbrev pub ExampleOfEndedPage : Type 0
 ExampleOfEndedPage =
     (old new : Display)
-    → Shows page_888 old (english_header ∷ closing_header ∷ []) new
+    → Shows page_888 old (english_header ∷ time_filling_header ∷ []) new
     → new.screen ≡ Some blank
 
 -- The screen does not change before a header ends the page: rows alone do not change it.

@@ -25,7 +25,7 @@ bytes_at name files =
     else None
 
 -- The lookup result for a file with these bytes, or for a missing file. All files in memory have
--- the same device and inode, so an existing file is never overwritten.
+-- the same device and inode.
 abbrev pub lookup_result_for_bytes : Option (List ℕ) → LookupResult
 lookup_result_for_bytes (Some bytes) = At 0 0
 lookup_result_for_bytes None = Nothing

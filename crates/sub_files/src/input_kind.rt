@@ -42,9 +42,9 @@ impl InputKinds {
     }
 }
 
-/// Returns whether a line is a fault that times in the wrong order cause: 21, a TCI that is not
-/// before its TCO, or 56, a TCI before the TCI of the previous subtitle.
-pub fn is_time_fault(line: &[u8]) -> bool {
+// Returns whether a line is a fault that times in the wrong order cause: 21, a TCI that is not
+// before its TCO, or 56, a TCI before the TCI of the previous subtitle.
+pub(crate) fn is_time_fault(line: &[u8]) -> bool {
     line.starts_with(b"refused 21 ") || line.starts_with(b"refused 56 ")
 }
 
@@ -79,7 +79,8 @@ fn has_text_at(bytes: &[u8], place: usize, text: &[u8]) -> bool {
     }
 }
 
-// Returns whether bytes contain `SYNC_BYTES` sync bytes (47), the first of them at `start`.
+// Returns whether bytes contain `SYNC_BYTES` sync bytes (0x47), `size` bytes apart, the first of
+// them at `start`.
 fn has_sync_bytes(bytes: &[u8], start: usize, size: usize) -> bool {
     for number in 0..SYNC_BYTES {
         let place = start.saturating_add(number.saturating_mul(size));

@@ -25,7 +25,7 @@ pub use distinct_files::LookupResult;
 pub use error_reporter::ErrorReporter;
 pub use file_system::FileSystem;
 pub use files::{CreatedFile, PesFile, StlFile};
-pub use input_kind::{InputKind, InputKinds, explain_refusal, input_kind_of, is_time_fault};
+pub use input_kind::{InputKind, InputKinds, explain_refusal, input_kind_of};
 pub use memory::{MemFile, MemFiles};
 pub use opening::{BUFFER_SIZE, OpenedFiles, open, required_buffer_size, room};
 pub use standard_streams::{StreamInPlace, occupy_closed_stream};

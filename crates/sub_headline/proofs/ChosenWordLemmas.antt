@@ -38,10 +38,11 @@ use Rattle.sub_headline.specs.PlainOptions.{arguments_of_check_option}
 use Rattle.sub_headline.specs.RecordingOptions.{LawOfPartArguments, RecordingOption, Reading}
 use Rattle.sub_headline.specs.RecordingOptions.{with_recording_option}
 use Rattle.sub_headline.specs.RecordingOptions.{reading_of}
-use Rattle.sub_headline.specs.DrawnOptions.{LawOfDisplayArguments, DisplayOption, DisplayOptions}
-use Rattle.sub_headline.specs.DrawnOptions.{with_display_option, display_options_of}
-use Rattle.sub_headline.specs.DrawnOptions.{arguments_of_display_option}
-use Rattle.sub_headline.specs.DrawnOptions.DisplayOption.{Letters, Lines, Of}
+use Rattle.sub_headline.specs.DrawnOptions.{CheckRecordingOption, CheckRecordingSettings}
+use Rattle.sub_headline.specs.DrawnOptions.{LawOfCheckRecordingArguments}
+use Rattle.sub_headline.specs.DrawnOptions.{with_check_recording_option, settings_of_options}
+use Rattle.sub_headline.specs.DrawnOptions.{arguments_of_check_recording_option}
+use Rattle.sub_headline.specs.DrawnOptions.CheckRecordingOption.{Letters, Lines, Of}
 use Rattle.stl_rows.specs.LayoutText.{layout_of_text}
 use Rattle.sub_headline.specs.RecordingOptions.{requested_recording, arguments_of_recording_option}
 use Rattle.sub_headline.specs.RecordingOptions.RecordingOption.{Pid, Size, Numbers, From, To}
@@ -54,19 +55,19 @@ use Rattle.sub_headline.proofs.OptionWordLemmas.{values_after_options, key, next
 use Rattle.sub_headline.proofs.OptionWordLemmas.{rules}
 use Rattle.sub_headline.proofs.OptionWordLemmas.{values_with_choice}
 use Rattle.sub_headline.proofs.OptionWordLemmas.{option_values}
-use Rattle.sub_headline.proofs.OptionWordLemmas.{walk_reads_display_options}
+use Rattle.sub_headline.proofs.OptionWordLemmas.{walk_reads_check_recording_options}
 use Rattle.sub_headline.proofs.PlainWordLemmas.{walk_at_position, state_after_files}
 use Rattle.sub_headline.proofs.PlainWordLemmas.{walk_takes_plain_word}
 use Rattle.sub_headline.proofs.RowLemmas.{default_at, rules_fill_defaults}
 use Rattle.sub_headline.proofs.RowLemmas.{first_value_is_first_text, first_text, values_at}
 use Rattle.sub_headline.proofs.RowLemmas.{or_default}
 
-abbrev values_after_parts : Text → List (List Text) → List DisplayOption → List (List Text)
+abbrev values_after_parts : Text → List (List Text) → List CheckRecordingOption → List (List Text)
 values_after_parts id vs parts = fold (values_with_choice id) vs parts
 
 -- The first text among an argument's values, or the default text if there are none.
-abbrev text_without_zeros : Text → List (List Text) → Text
-text_without_zeros default vs = unwrap_or (first_text (or_default vs (default ∷ []))) []
+abbrev text_or_default : Text → List (List Text) → Text
+text_or_default default vs = unwrap_or (first_text (or_default vs (default ∷ []))) []
 
 -- The names of the arguments of `check` to which an option may give a value.
 abbrev keys : List Text
@@ -101,7 +102,8 @@ unlisted_id_differs_from_all id (one ∷ others) none =
     let by = or_false_parts (bytes_eq one id) (contains_text id others) none in
     (by.0, unlisted_id_differs_from_all id others by.1)
 
-unlisted_id_differs_from_key : (id : Text) → contains_text id keys ≡ false → (part : DisplayOption)
+unlisted_id_differs_from_key : (id : Text) → contains_text id keys ≡ false
+    → (part : CheckRecordingOption)
     → bytes_eq (key part) id ≡
     false
 unlisted_id_differs_from_key id none (Of (Any (Page text n is))) = (unlisted_id_differs_from_all id
@@ -134,8 +136,8 @@ unlisted_id_differs_from_key id none (Lines text n name is) = (unlisted_id_diffe
     none).1.1.1.1.1.1.1.1.1.1.1.1.1.0
 
 not_given :
-    (id : Text) (apart : (part : DisplayOption) → bytes_eq (key part) id ≡ false)
-    (vs : List (List Text)) (parts : List DisplayOption)
+    (id : Text) (apart : (part : CheckRecordingOption) → bytes_eq (key part) id ≡ false)
+    (vs : List (List Text)) (parts : List CheckRecordingOption)
     → values_after_parts id vs parts ≡ vs
 not_given id apart vs [] = refl
 not_given id apart vs (part ∷ parts) =
@@ -147,30 +149,30 @@ not_given id apart vs (part ∷ parts) =
     ∙ not_given id apart vs parts
 
 abbrev parsed_option_text : {A : Type 0} → (Text → Option A) → Option Text → Option (Option A)
-parsed_option_text printed_usage_fault_is_fault text = option_map_or (λ text. option_map Some
-    (printed_usage_fault_is_fault text)) text (Some None)
+parsed_option_text parse text =
+    option_map_or (λ text. option_map Some (parse text)) text (Some None)
 
 -- The number of frames in the text of `--pace`: at least 1, and at most the frames of a day.
 abbrev pace_of_text : Text → Option ℕ
 pace_of_text text = between 1 day (number_of_text text)
 
 -- The values of the arguments give the settings `l` for reading and drawing.
-record OptionsHaveValues (held : Text → List (List Text)) (l : DisplayOptions) : Type 0
+record OptionsHaveValues (held : Text → List (List Text)) (l : CheckRecordingSettings) : Type 0
   where
     pub page_is :
-        page_of_text (text_without_zeros (codes "888") (held (codes "page"))) ≡ Some
+        page_of_text (text_or_default (codes "888") (held (codes "page"))) ≡ Some
         l.reading.options.page
     pub every_eq :
-        number_of_text (text_without_zeros (codes "250") (held (codes "every"))) ≡ Some
+        number_of_text (text_or_default (codes "250") (held (codes "every"))) ≡ Some
         l.reading.options.every
     pub origin_eq :
-        number_of_text (text_without_zeros (codes "0") (held (codes "origin"))) ≡ Some
+        number_of_text (text_or_default (codes "0") (held (codes "origin"))) ≡ Some
         l.reading.options.origin
     pub pace_eq :
         parsed_option_text pace_of_text (first_text (held (codes "pace"))) ≡ Some
         l.reading.options.pace
     pub complete_eq :
-        bytes_eq (text_without_zeros (codes "false") (held (codes "complete")))
+        bytes_eq (text_or_default (codes "false") (held (codes "complete")))
         (codes "true")
         ≡ l.reading.options.asks_complete
     pub within_option_is_zero : l.reading.options.within ≡ 0
@@ -178,7 +180,7 @@ record OptionsHaveValues (held : Text → List (List Text)) (l : DisplayOptions)
     pub pid_eq : parsed_option_text pid_of_text (first_text (held (codes "pid"))) ≡ Some
         l.reading.pid
     pub size_eq :
-        packet_size_of_text (text_without_zeros (codes "188")
+        packet_size_of_text (text_or_default (codes "188")
         (held (codes "packet-size")))
         ≡ Some l.reading.size
     pub range_eq : parsed_option_text range_of_text
@@ -191,10 +193,10 @@ record OptionsHaveValues (held : Text → List (List Text)) (l : DisplayOptions)
         option_map_or frame_of_text (first_text (held (codes "to"))) (Some day)
         ≡ Some l.reading.scope.to
     pub open_eq :
-        bytes_eq (text_without_zeros (codes "false") (held (codes "open"))) (codes "true")
+        bytes_eq (text_or_default (codes "false") (held (codes "open"))) (codes "true")
         ≡ l.reading.scope.takes_open
     pub option_eq :
-        named_option (text_without_zeros (codes "english") (held (codes "option"))) ≡
+        named_option (text_or_default (codes "english") (held (codes "option"))) ≡
         Some l.national
     pub layout_eq :
         option_map_or layout_of_text (first_text (held (codes "layout")))
@@ -204,16 +206,17 @@ record OptionsHaveValues (held : Text → List (List Text)) (l : DisplayOptions)
 abbrev with_options : Reading → OptionsValue → Reading
 with_options r o = record r { options = o }
 
-abbrev with_reading : DisplayOptions → Reading → DisplayOptions
+abbrev with_reading : CheckRecordingSettings → Reading → CheckRecordingSettings
 with_reading l r = record l { reading = r }
 
-abbrev values_after_next : (Text → List (List Text)) → DisplayOption → Text → List (List Text)
+abbrev values_after_next :
+    (Text → List (List Text)) → CheckRecordingOption → Text → List (List Text)
 values_after_next held part id = values_with_choice id (held id) part
 
-next_option_keeps_meaning : (held : Text → List (List Text)) (l : DisplayOptions)
-    (part : DisplayOption)
+next_option_keeps_meaning : (held : Text → List (List Text)) (l : CheckRecordingSettings)
+    (part : CheckRecordingOption)
     → OptionsHaveValues held l
-    → OptionsHaveValues (values_after_next held part) (with_display_option l part)
+    → OptionsHaveValues (values_after_next held part) (with_check_recording_option l part)
 next_option_keeps_meaning held l (Of (Any (Page text n is))) m = assumption (is, m)
 next_option_keeps_meaning held l (Of (Any (Every text n is))) m = assumption (is, m)
 next_option_keeps_meaning held l (Of (Any (Origin text n is))) m = assumption (is, m)
@@ -234,16 +237,17 @@ next_option_keeps_meaning held l (Of IncludeOpen) m =
 next_option_keeps_meaning held l (Letters text n name is) m = assumption (is, m)
 next_option_keeps_meaning held l (Lines text n name is) m = assumption (is, m)
 
-abbrev values_by_parts : (Text → List (List Text)) → List DisplayOption → Text → List (List Text)
+abbrev values_by_parts :
+    (Text → List (List Text)) → List CheckRecordingOption → Text → List (List Text)
 values_by_parts held parts id = values_after_parts id (held id) parts
 
-options_keep_meaning : (held : Text → List (List Text)) (l : DisplayOptions)
-    (parts : List DisplayOption)
+options_keep_meaning : (held : Text → List (List Text)) (l : CheckRecordingSettings)
+    (parts : List CheckRecordingOption)
     → OptionsHaveValues held l
-    → OptionsHaveValues (values_by_parts held parts) (fold with_display_option l parts)
+    → OptionsHaveValues (values_by_parts held parts) (fold with_check_recording_option l parts)
 options_keep_meaning held l [] m = m
 options_keep_meaning held l (part ∷ parts) m =
-    options_keep_meaning (values_after_next held part) (with_display_option l part) parts
+    options_keep_meaning (values_after_next held part) (with_check_recording_option l part) parts
     (next_option_keeps_meaning held l part m)
 
 english_is_option_name : named_option (codes "english") ≡ Some English
@@ -253,7 +257,7 @@ english_is_option_name = refl
 abbrev nothing : Text → List (List Text)
 nothing id = []
 
-no_options_give_defaults : OptionsHaveValues nothing (display_options_of [])
+no_options_give_defaults : OptionsHaveValues nothing (settings_of_options [])
 unfolding page_of_text number_of_text packet_size_of_text
 no_options_give_defaults = record {
   page_is = refl;
@@ -278,7 +282,7 @@ HasText [] = ⊤
 HasText ([] ∷ vs) = ⊥
 HasText ((text ∷ more) ∷ vs) = ⊤
 
-option_has_text : (part : DisplayOption) → HasText (option_values part ∷ [])
+option_has_text : (part : CheckRecordingOption) → HasText (option_values part ∷ [])
 option_has_text (Of (Any (Page text n is))) = tt
 option_has_text (Of (Any (Every text n is))) = tt
 option_has_text (Of (Any (Origin text n is))) = tt
@@ -294,13 +298,13 @@ option_has_text (Of IncludeOpen) = tt
 option_has_text (Letters text n name is) = tt
 option_has_text (Lines text n name is) = tt
 
-further_option_keeps_text : (b : Bool) (part : DisplayOption) (vs : List (List Text))
+further_option_keeps_text : (b : Bool) (part : CheckRecordingOption) (vs : List (List Text))
     → HasText vs
     → HasText (if b then option_values part ∷ [] else vs)
 further_option_keeps_text true part vs has = option_has_text part
 further_option_keeps_text false part vs has = has
 
-options_keep_texts : (id : Text) (parts : List DisplayOption) (vs : List (List Text))
+options_keep_texts : (id : Text) (parts : List CheckRecordingOption) (vs : List (List Text))
     → HasText vs
     → HasText (values_after_parts id vs parts)
 options_keep_texts id [] vs has = has
@@ -310,7 +314,7 @@ options_keep_texts id (part ∷ parts) vs has =
 
 nonempty_values_have_text : (default : Text) (vs : List (List Text))
     → HasText vs
-    → first_text (or_default vs (default ∷ [])) ≡ Some (text_without_zeros default vs)
+    → first_text (or_default vs (default ∷ [])) ≡ Some (text_or_default default vs)
 nonempty_values_have_text default [] has = refl
 nonempty_values_have_text default ([] ∷ vs) has = absurd has
 nonempty_values_have_text default ((text ∷ more) ∷ vs) has = refl
@@ -324,38 +328,38 @@ record RowsHaveValues (rows : List Row) (stl recording : Text) (held : Text → 
     : Type 0 where
   pub stl_eq : first_of (codes "stl") rows ≡ Some stl
   pub recording_eq : first_of (codes "recording") rows ≡ Some recording
-  pub page_is : first_of (codes "page") rows ≡ Some (text_without_zeros (codes "888")
+  pub page_is : first_of (codes "page") rows ≡ Some (text_or_default (codes "888")
       (held (codes "page")))
   pub every_eq :
       first_of (codes "every") rows ≡ Some
-      (text_without_zeros (codes "250") (held (codes "every")))
+      (text_or_default (codes "250") (held (codes "every")))
   pub origin_eq :
       first_of (codes "origin") rows ≡ Some
-      (text_without_zeros (codes "0") (held (codes "origin")))
+      (text_or_default (codes "0") (held (codes "origin")))
   pub complete_eq :
       first_of (codes "complete") rows ≡ Some
-      (text_without_zeros (codes "false") (held (codes "complete")))
-  pub all_eq : first_of (codes "all") rows ≡ Some (text_without_zeros (codes "false")
+      (text_or_default (codes "false") (held (codes "complete")))
+  pub all_eq : first_of (codes "all") rows ≡ Some (text_or_default (codes "false")
       (held (codes "all")))
   pub option_eq :
       first_of (codes "option") rows ≡ Some
-      (text_without_zeros (codes "english") (held (codes "option")))
+      (text_or_default (codes "english") (held (codes "option")))
   pub layout_eq : first_of (codes "layout") rows ≡ first_text (held (codes "layout"))
   pub from_eq : first_of (codes "from") rows ≡ first_text (held (codes "from"))
   pub to_eq : first_of (codes "to") rows ≡ first_text (held (codes "to"))
   pub open_eq :
       first_of (codes "open") rows ≡ Some
-      (text_without_zeros (codes "false") (held (codes "open")))
+      (text_or_default (codes "false") (held (codes "open")))
   pub within_option_is_zero : first_of (codes "within") rows ≡ Some (codes "0")
   pub pid_eq : first_of (codes "pid") rows ≡ first_text (held (codes "pid"))
   pub packet_size_eq :
       first_of (codes "packet-size") rows
-      ≡ Some (text_without_zeros (codes "188") (held (codes "packet-size")))
+      ≡ Some (text_or_default (codes "188") (held (codes "packet-size")))
   pub pes_eq : first_of (codes "pes") rows ≡ first_text (held (codes "pes"))
   pub pace_eq : first_of (codes "pace") rows ≡ first_text (held (codes "pace"))
   pub keeping_eq : first_of (codes "keeping") rows ≡ Some (codes "false")
 
-module _ (stl pes : Text) (parts : List DisplayOption) where
+module _ (stl pes : Text) (parts : List CheckRecordingOption) where
   abbrev pub final_state : Held
   final_state = fold next (state_after_files stl pes) parts
 
@@ -378,7 +382,7 @@ module _ (stl pes : Text) (parts : List DisplayOption) where
       → bytes_eq id id ≡ true
       → values_at id (rows_of_state (state_after_files stl pes)) ≡ vs
       → drop 1 vs ≡ []
-      → ((part : DisplayOption) → bytes_eq (key part) id ≡ false)
+      → ((part : CheckRecordingOption) → bytes_eq (key part) id ≡ false)
       → first_of id (finished rules final_state) ≡ first_text (fold (default_at id) vs rules)
   first_not_given id vs same is short apart =
       first_value_by_test id vs same is short
@@ -524,10 +528,10 @@ scope_eq rows from to also scope from_eq to_eq open_eq from_says to_says open_sa
 -- The arguments contain `--all`.
 abbrev lists_all : (Text → List (List Text)) → Bool
 lists_all held = bytes_eq
-    (text_without_zeros (codes "false") (held (codes "all"))) (codes "true")
+    (text_or_default (codes "false") (held (codes "all"))) (codes "true")
 
 module _ (rows : List Row) (stl recording : Text) (held : Text → List (List Text))
-    (l : DisplayOptions)
+    (l : CheckRecordingSettings)
     (say : RowsHaveValues rows stl recording held) (m : OptionsHaveValues held
     l) where
   too_far :
@@ -588,14 +592,12 @@ module _ (rows : List Row) (stl recording : Text) (held : Text → List (List Te
       ≡ Requested.Check stl (requested_recording recording l.reading) (options_in l.reading.options)
       l.national l.layout l.reading.scope (lists_all held))
       × (l.reading.options.origin < 2 ^ 33)
-  in_range false time requested near_is time_field_gives_frame is = let e = sym (too_far near_is) ∙
-      is in cc
-  in_range true false requested near_is time_field_gives_frame is = let e = sym
-      (no_time near_is time_field_gives_frame) ∙ is
-      in cc
-  in_range true true requested near_is time_field_gives_frame is =
-      let e = sym is ∙ check_eq near_is time_field_gives_frame
-      in (cc, grind (arith, nat_tests, time_field_gives_frame))
+  in_range false time requested near_is time_is is = let e = sym (too_far near_is) ∙ is in cc
+  in_range true false requested near_is time_is is =
+      let e = sym (no_time near_is time_is) ∙ is in cc
+  in_range true true requested near_is time_is is =
+      let e = sym is ∙ check_eq near_is time_is
+      in (cc, grind (arith, nat_tests, time_is))
 
 options_are_equal : (o : OptionsValue)
     → o.within ≡ 0
@@ -604,11 +606,11 @@ options_are_equal : (o : OptionsValue)
 options_are_equal o within keeps = grind (arith, nat_tests)
 
 -- With any of these options `within` is 0, and each header of the page has to erase the page.
-pub check_arguments_are_found : (parts : List DisplayOption)
-    → ((display_options_of parts).reading.options.within ≡ 0)
-    × IsFalse (display_options_of parts).reading.options.keeps
-check_arguments_are_found parts =
-    let m = options_keep_meaning nothing (display_options_of []) parts no_options_give_defaults in
+pub options_allow_no_delay_or_keeping : (parts : List CheckRecordingOption)
+    → ((settings_of_options parts).reading.options.within ≡ 0)
+    × IsFalse (settings_of_options parts).reading.options.keeps
+options_allow_no_delay_or_keeping parts =
+    let m = options_keep_meaning nothing (settings_of_options []) parts no_options_give_defaults in
     (m.within_option_is_zero, m.keeps_is_false)
 
 -- After the name of a command, all words are arguments of this command.
@@ -637,14 +639,14 @@ program_name_gives_command program more =
     (walked entire_app.top.rules (names_of entire_app) (walk_from nothing_held) (codes "check"))
     refl)
 
-check_rows_are_found : (stl pes : Text) (parts : List DisplayOption)
+check_rows_are_found : (stl pes : Text) (parts : List CheckRecordingOption)
     → IsName stl
     → IsName pes
-    → rows_after rules [] (stl ∷ pes ∷ flat_map arguments_of_display_option parts)
+    → rows_after rules [] (stl ∷ pes ∷ flat_map arguments_of_check_recording_option parts)
     ≡ finished rules (final_state stl pes parts)
 unfolding subttx_app
 check_rows_are_found stl pes parts is_stl is_pes =
-    let more = flat_map arguments_of_display_option parts in
+    let more = flat_map arguments_of_check_recording_option parts in
     ap
     (λ (w : Walk). finished rules
     (fold (walked rules []) (walked rules [] w pes) more).held)
@@ -654,7 +656,7 @@ check_rows_are_found stl pes parts is_stl is_pes =
     (to_positional rules (arg_by_index rules 1) stl (walk_at_position nothing_held 1)
     nothing_held).held 2 pes is_pes)
     ∙ ap (λ (w : Walk). finished rules w.held)
-    (walk_reads_display_options (state_after_files stl pes) parts)
+    (walk_reads_check_recording_options (state_after_files stl pes) parts)
 
 requests_no_help : (program stl pes : Text) (more : List Text)
     → requests_help (program ∷ codes "check" ∷ stl ∷ pes ∷ more) ≡ false
@@ -674,18 +676,19 @@ check_requested_ok arguments rows requested command is =
     let e =
     sym (ap (option_map (λ command. command_request command.0 command.1)) command) ∙ is in cc
 
-rows_give_request : (stl recording : Text) (parts : List DisplayOption) (requested : Requested)
+rows_give_request : (stl recording : Text) (parts : List CheckRecordingOption)
+    (requested : Requested)
     → check_request (finished rules (final_state stl recording parts)) ≡ Ok requested
     → (all : Bool)
     × (requested
-    ≡ Requested.Check stl (requested_recording recording (display_options_of parts).reading)
-    (display_options_of parts).reading.options (display_options_of parts).national
-    (display_options_of parts).layout
-    (display_options_of parts).reading.scope all)
-    × ((display_options_of parts).reading.options.origin < 2 ^ 33)
+    ≡ Requested.Check stl (requested_recording recording (settings_of_options parts).reading)
+    (settings_of_options parts).reading.options (settings_of_options parts).national
+    (settings_of_options parts).layout
+    (settings_of_options parts).reading.scope all)
+    × ((settings_of_options parts).reading.options.origin < 2 ^ 33)
 rows_give_request stl recording parts requested is =
-    let m = options_keep_meaning nothing (display_options_of []) parts no_options_give_defaults in
-    let l = display_options_of parts in
+    let m = options_keep_meaning nothing (settings_of_options []) parts no_options_give_defaults in
+    let l = settings_of_options parts in
     let so =
     in_range (finished rules (final_state stl recording parts)) stl recording _ l
     (final_rows_have_values stl recording parts) m _ _ requested refl refl is in (
@@ -699,55 +702,59 @@ rows_give_request stl recording parts requested is =
       so.1,
     )
 
-pub law_of_display_arguments : LawOfDisplayArguments
-law_of_display_arguments program stl pes parts request is_stl is_pes (inl version) =
-    let e = sym (requests_no_version program stl pes (flat_map arguments_of_display_option parts)) ∙
+pub law_of_check_recording_arguments : LawOfCheckRecordingArguments
+law_of_check_recording_arguments program stl pes parts request is_stl is_pes (inl version) =
+    let e =
+    sym (requests_no_version program stl pes (flat_map arguments_of_check_recording_option parts)) ∙
     version.0 in cc
-law_of_display_arguments program stl pes parts request is_stl is_pes (inr (inl help)) =
-    let e = sym (requests_no_help program stl pes (flat_map arguments_of_display_option parts)) ∙
+law_of_check_recording_arguments program stl pes parts request is_stl is_pes (inr (inl help)) =
+    let e =
+    sym (requests_no_help program stl pes (flat_map arguments_of_check_recording_option parts)) ∙
     help.1 in cc
-law_of_display_arguments program stl pes parts request is_stl is_pes (inr (inr asks)) =
+law_of_check_recording_arguments program stl pes parts request is_stl is_pes (inr (inr asks)) =
     rows_give_request stl pes parts (value_of_request request)
     (sym (ap check_request (check_rows_are_found stl pes parts is_stl is_pes))
-    ∙ check_requested_ok (program ∷ codes "check" ∷ stl ∷ pes ∷ flat_map arguments_of_display_option
+    ∙ check_requested_ok (program ∷ codes "check" ∷ stl ∷ pes
+    ∷ flat_map arguments_of_check_recording_option
     parts)
-    (rows_after rules [] (stl ∷ pes ∷ flat_map arguments_of_display_option parts))
+    (rows_after rules [] (stl ∷ pes ∷ flat_map arguments_of_check_recording_option parts))
     (value_of_request request)
-    (program_name_gives_command program (stl ∷ pes ∷ flat_map arguments_of_display_option parts))
+    (program_name_gives_command program
+    (stl ∷ pes ∷ flat_map arguments_of_check_recording_option parts))
     asks.2.requested)
 
 arguments_of_parts : (parts : List RecordingOption)
-    → flat_map arguments_of_display_option (map Of parts) ≡ flat_map arguments_of_recording_option
-    parts
+    → flat_map arguments_of_check_recording_option (map Of parts)
+    ≡ flat_map arguments_of_recording_option parts
 arguments_of_parts [] = refl
 arguments_of_parts (part ∷ parts) = ap (λ (ws : List Text). arguments_of_recording_option part ++
     ws)
     (arguments_of_parts parts)
 
-pub display_of_parts : (l : DisplayOptions) (parts : List RecordingOption)
-    → fold with_display_option l (map Of parts)
+pub settings_of_parts : (l : CheckRecordingSettings) (parts : List RecordingOption)
+    → fold with_check_recording_option l (map Of parts)
     ≡ with_reading l (fold with_recording_option l.reading parts)
-display_of_parts l [] = refl
-display_of_parts l (part ∷ parts) =
-    display_of_parts (with_reading l (with_recording_option l.reading part)) parts
+settings_of_parts l [] = refl
+settings_of_parts l (part ∷ parts) =
+    settings_of_parts (with_reading l (with_recording_option l.reading part)) parts
 
 pub law_of_part_arguments : LawOfPartArguments
 law_of_part_arguments program stl pes parts request is_stl is_pes asks =
     let so =
-    law_of_display_arguments program stl pes (map Of parts) request is_stl is_pes
+    law_of_check_recording_arguments program stl pes (map Of parts) request is_stl is_pes
     (subst
     (λ (ws : List Text). IsRequestOf (program ∷ codes "check" ∷ stl ∷ pes ∷ ws) request)
     (sym (arguments_of_parts parts)) asks) in
-    let at = display_of_parts (display_options_of []) parts in (
+    let at = settings_of_parts (settings_of_options []) parts in (
       so.0,
       so.1
           ∙ ap
-          (λ (l : DisplayOptions).
+          (λ (l : CheckRecordingSettings).
           Requested.Check stl (requested_recording pes l.reading) l.reading.options l.national
           l.layout
           l.reading.scope so.0)
           at,
-      subst (λ (l : DisplayOptions). l.reading.options.origin < 2 ^ 33) at so.2,
+      subst (λ (l : CheckRecordingSettings). l.reading.options.origin < 2 ^ 33) at so.2,
     )
 
 pub choices_keep_arguments : (choices : List CheckOption)

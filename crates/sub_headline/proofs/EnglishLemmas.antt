@@ -37,21 +37,21 @@ use Rattle.sub_headline.specs.EnglishPage.{english_lines, english_page, page_or_
 
 -- If a table has no cell for a pair of bytes, it still has none after an entry for a single byte is
 -- put in front of it.
-absent_cell_has_no_pair : (x : Bool) (a rest : Option ℕ) → rest ≡ None →
+single_byte_entry_adds_no_pair : (x : Bool) (a rest : Option ℕ) → rest ≡ None →
     (if x && false then a else rest) ≡ None
-absent_cell_has_no_pair true a rest e = e
-absent_cell_has_no_pair false a rest e = e
+single_byte_entry_adds_no_pair true a rest e = e
+single_byte_entry_adds_no_pair false a rest e = e
 
 -- English has no characters that are encoded as two bytes.
 english_has_no_second_cell : (byte next : ℕ) → cell_of_character (sub_set English).characters
     (Some byte) next ≡ None
 unfolding sub_set is_encoded_by
 english_has_no_second_cell byte next =
-    absent_cell_has_no_pair (0xA3 == next) _ _
-    (absent_cell_has_no_pair (0x24 == next) _ _
-    (absent_cell_has_no_pair (0xA4 == next)
-    _ _ (absent_cell_has_no_pair (0x40 == next) _ _ (absent_cell_has_no_pair (0x23 == next)
-    _ _ refl))))
+    single_byte_entry_adds_no_pair (0xA3 == next) _ _
+    (single_byte_entry_adds_no_pair (0x24 == next) _ _
+    (single_byte_entry_adds_no_pair (0xA4 == next)
+    _ _ (single_byte_entry_adds_no_pair (0x40 == next) _ _
+    (single_byte_entry_adds_no_pair (0x23 == next) _ _ refl))))
 
 choice_of_absent_is_absent : (x : Bool) (a : Option ℕ) → a ≡ None → (if x then a else None) ≡ None
 choice_of_absent_is_absent true a e = e
@@ -65,19 +65,19 @@ english_byte_has_no_pair byte (Some next) = choice_of_absent_is_absent (is_diacr
 
 -- If two tables have the same cell for a byte, they still do after the same entry for a single byte
 -- is put in front of both.
-equal_branches_are_equal : (x : Bool) (a p q : Option ℕ) → p ≡ q
+same_entry_keeps_cells_equal : (x : Bool) (a p q : Option ℕ) → p ≡ q
     → (if x && true then a else p) ≡ (if x then a else q)
-equal_branches_are_equal true a p q e = refl
-equal_branches_are_equal false a p q e = e
+same_entry_keeps_cells_equal true a p q e = refl
+same_entry_keeps_cells_equal false a p q e = e
 
 cell_eq : (byte : ℕ) → cell_of English byte ≡ english_cell byte
 unfolding cell_of sub_set is_encoded_by english_cell
 cell_eq byte =
     ap (λ (o : Option ℕ). if is_common byte then Some byte else o)
-    (equal_branches_are_equal (0xA3 == byte) _ _ _
-    (equal_branches_are_equal (0x24 == byte) _ _ _
-    (equal_branches_are_equal (0xA4 == byte) _ _ _
-    (equal_branches_are_equal (0x40 == byte) _ _ _ (equal_branches_are_equal (0x23 == byte)
+    (same_entry_keeps_cells_equal (0xA3 == byte) _ _ _
+    (same_entry_keeps_cells_equal (0x24 == byte) _ _ _
+    (same_entry_keeps_cells_equal (0xA4 == byte) _ _ _
+    (same_entry_keeps_cells_equal (0x40 == byte) _ _ _ (same_entry_keeps_cells_equal (0x23 == byte)
     _ _ _ refl)))))
 
 first_code_precedes_others : (place byte : ℕ) (bytes : List ℕ)

@@ -46,13 +46,13 @@ use Rattle.sub_answer.specs.Ending.{BufferHoldsOneLineOnly}
 use Rattle.sub_answer.proofs.MemoryLemmas.{law_of_files_in_memory}
 use Rattle.sub_headline.specs.Acceptance.{default_drawing}
 use Rattle.sub_headline.specs.BothClasses.{EachReceiverOfClassGets}
-use Rattle.sub_headline.specs.DrawnOptions.{DisplayOptions, display_options_of}
-use Rattle.sub_headline.specs.DrawnOptions.{arguments_of_display_option}
-use Rattle.sub_headline.specs.DrawnOptions.DisplayOption.{Of}
+use Rattle.sub_headline.specs.DrawnOptions.{CheckRecordingSettings, settings_of_options}
+use Rattle.sub_headline.specs.DrawnOptions.{arguments_of_check_recording_option}
+use Rattle.sub_headline.specs.DrawnOptions.CheckRecordingOption.{Of}
 use Rattle.sub_headline.specs.EnglishPage.{english_due_page}
 use Rattle.sub_headline.specs.EnglishScreen.{EachScreenShows}
 use Rattle.sub_headline.specs.Headline.{ServesOtherReceivers, LawOfHeadline, ForChosenOptions}
-use Rattle.sub_headline.specs.Headline.{ForDisplayOptions}
+use Rattle.sub_headline.specs.Headline.{ForCheckRecordingOptions}
 use Rattle.sub_headline.specs.Headline.{ForRecordingCheck}
 use Rattle.sub_headline.specs.Headline.{ImpliesChosenHeadline}
 use Rattle.sub_headline.specs.OnScreens.{EachDisplayShows}
@@ -68,9 +68,10 @@ use Rattle.sub_headline.specs.PlainHeadline.{Headline}
 use Rattle.sub_headline.specs.PlainReading.{frames_by_place, subtitles_by_place, subtitles_within}
 use Rattle.sub_headline.specs.PlainArguments.{IsName}
 use Rattle.sub_headline.specs.Run.{RunsProgram}
-use Rattle.sub_headline.proofs.ChosenWordLemmas.{law_of_chosen_arguments, law_of_display_arguments}
-use Rattle.sub_headline.proofs.ChosenWordLemmas.{law_of_part_arguments, display_of_parts}
-use Rattle.sub_headline.proofs.ChosenWordLemmas.{check_arguments_are_found}
+use Rattle.sub_headline.proofs.ChosenWordLemmas.{law_of_check_recording_arguments}
+use Rattle.sub_headline.proofs.ChosenWordLemmas.{law_of_chosen_arguments}
+use Rattle.sub_headline.proofs.ChosenWordLemmas.{law_of_part_arguments, settings_of_parts}
+use Rattle.sub_headline.proofs.ChosenWordLemmas.{options_allow_no_delay_or_keeping}
 use Rattle.sub_headline.proofs.ChosenWordLemmas.{choices_keep_reading}
 use Rattle.sub_headline.proofs.AcceptanceLemmas.{law_of_plain_acceptance, programme_of}
 use Rattle.sub_headline.proofs.EnglishAcceptanceLemmas.{drawn_of, files_of_request}
@@ -156,35 +157,35 @@ reports
     (ap (λ r. bytes_in_range r (carried_bytes_if_stream pes0.stream (Some bytes))) is.range_eq
     ∙ ap (λ s. bytes_in_range range (carried_bytes_if_stream s (Some bytes))) is.stream_eq
     ∙ read_is)))
-reports ask.Help stl pes st ra o n y c all file bytes read files s e at_stl with_pes_number r
+reports ask.Help stl pes st ra o n y c all file bytes read files s e at_stl at_pes r
     reported = cc
-reports ask.Version stl pes st ra o n y c all file bytes read files s e at_stl with_pes_number r
+reports ask.Version stl pes st ra o n y c all file bytes read files s e at_stl at_pes r
     reported = cc
-reports (ask.Packet p) stl pes st ra o n y c all file bytes read files s e at_stl with_pes_number r
+reports (ask.Packet p) stl pes st ra o n y c all file bytes read files s e at_stl at_pes r
     reported =
     cc
-reports (ask.Packets p) stl pes st ra o n y c all file bytes read files s e at_stl with_pes_number r
+reports (ask.Packets p) stl pes st ra o n y c all file bytes read files s e at_stl at_pes r
     reported =
     cc
-reports (ask.Show p) stl pes st ra o n y c all file bytes read files s e at_stl with_pes_number r
+reports (ask.Show p) stl pes st ra o n y c all file bytes read files s e at_stl at_pes r
     reported = cc
 reports
-    (ask.Normal a b) stl pes st ra o n y c all file bytes read files s e at_stl with_pes_number r
+    (ask.Normal a b) stl pes st ra o n y c all file bytes read files s e at_stl at_pes r
     reported =
     cc
 reports
     (ask.Schedule a b d serial national layout scope) stl pes st ra o n y c all file bytes read
-    files s e at_stl with_pes_number r reported = cc
+    files s e at_stl at_pes r reported = cc
 reports
-    (ask.Listen p l) stl pes st ra o n y c all file bytes read files s e at_stl with_pes_number r
+    (ask.Listen p l) stl pes st ra o n y c all file bytes read files s e at_stl at_pes r
     reported =
     cc
 reports
-    (ask.Extract a b d) stl pes st ra o n y c all file bytes read files s e at_stl with_pes_number r
+    (ask.Extract a b d) stl pes st ra o n y c all file bytes read files s e at_stl at_pes r
     reported =
     cc
 reports
-    (ask.Survey a b) stl pes st ra o n y c all file bytes read files s e at_stl with_pes_number r
+    (ask.Survey a b) stl pes st ra o n y c all file bytes read files s e at_stl at_pes r
     reported =
     cc
 
@@ -464,9 +465,9 @@ module _ {K : Type 0} (contents : K → Option (List ℕ)) (failure_count : K �
       (stream_of (reading_of parts)) (reading_of parts).range (reading_of parts).options English
       default_layout (reading_of parts).scope
   requests_check_parts program stl pes parts is_stl is_pes =
-      let by = check_arguments_are_found (map Of parts) in
-      let at = ap (λ (l : DisplayOptions). l.reading.options)
-      (display_of_parts (display_options_of [])
+      let by = options_allow_no_delay_or_keeping (map Of parts) in
+      let at = ap (λ (l : CheckRecordingSettings). l.reading.options)
+      (settings_of_parts (settings_of_options [])
       parts) in
       record {
         requested = λ request. law_of_part_arguments program stl pes parts request is_stl is_pes;
@@ -488,25 +489,25 @@ module _ {K : Type 0} (contents : K → Option (List ℕ)) (failure_count : K �
       (requests_check_parts program stl pes parts is_stl is_pes) given_is stl_eq pes_eq
       (part_of_known_bytes r.pid r.size r.range bytes) not_two
 
-  display_run_decides_acceptance : ForDisplayOptions given before
+  drawn_run_decides_acceptance : ForCheckRecordingOptions given before
       (λ l file bytes.
       code ≢ 2
       → ExitCodeDecides (drawing_within l.national l.layout l.reading.scope) l.reading.options file
       (bytes_selected l.reading bytes) code)
-  display_run_decides_acceptance = λ program stl pes display_options file bytes is_stl is_pes
+  drawn_run_decides_acceptance = λ program stl pes choices file bytes is_stl is_pes
       given_is stl_eq
       pes_eq not_two.
-      let l = display_options_of display_options in
+      let l = settings_of_options choices in
       let r = l.reading in
-      let by = check_arguments_are_found display_options in
+      let by = options_allow_no_delay_or_keeping choices in
       exit_code_decides_acceptance
-      (program ∷ codes "check" ∷ stl ∷ pes ∷ flat_map arguments_of_display_option
-      display_options)
+      (program ∷ codes "check" ∷ stl ∷ pes ∷ flat_map arguments_of_check_recording_option
+      choices)
       stl pes
       (stream_of r) r.range r.options l.national l.layout r.scope file bytes
       (bytes_selected r bytes)
       (record {
-        requested = λ request. law_of_display_arguments program stl pes display_options request
+        requested = λ request. law_of_check_recording_arguments program stl pes choices request
             is_stl is_pes;
         none = by.0;
         off = by.1;
@@ -521,10 +522,10 @@ module _ {K : Type 0} (contents : K → Option (List ℕ)) (failure_count : K �
       stl pes
       None None (options_of_check_options choices) English default_layout whole
   requests_check_chosen program stl pes choices is_stl is_pes =
-      let by = check_arguments_are_found (map Of (map Any choices)) in
+      let by = options_allow_no_delay_or_keeping (map Of (map Any choices)) in
       let at =
-      ap (λ (l : DisplayOptions). l.reading.options)
-      (display_of_parts (display_options_of []) (map Any choices))
+      ap (λ (l : CheckRecordingSettings). l.reading.options)
+      (settings_of_parts (settings_of_options []) (map Any choices))
       ∙ ap (λ (r : Reading). r.options) (choices_keep_reading (reading_of []) choices) in
       record {
         requested = λ request. law_of_chosen_arguments program stl pes choices request is_stl
@@ -615,13 +616,13 @@ law_of_headline contents failure_count IsPush given before after output left cod
           read r.scope r.options file (bytes_selected r bytes) is reported.fits
           (AreReadFrom r.scope r.options.origin file (bytes_selected r bytes))
           (files r.scope r.options file (bytes_selected r bytes) is),
-      λ program stl pes display_options file bytes is_stl is_pes given_is stl_eq pes_eq none.
-          let l = display_options_of display_options in
+      λ program stl pes choices file bytes is_stl is_pes given_is stl_eq pes_eq none.
+          let l = settings_of_options choices in
           let reported =
-          display_run_decides_acceptance contents failure_count IsPush output left before after
+          drawn_run_decides_acceptance contents failure_count IsPush output left before after
           given code runs
           program
-          stl pes display_options file bytes is_stl is_pes given_is stl_eq pes_eq (not_two none) in
+          stl pes choices file bytes is_stl is_pes given_is stl_eq pes_eq (not_two none) in
           drawn_read l.national l.layout l.reading.scope l.reading.options file
           (bytes_selected l.reading bytes)
           (reported.reports.0 none) reported.fits,

@@ -30,8 +30,9 @@ use Rattle.stl_file.specs.TimeCode.{day}
 use Rattle.sub_words.specs.Arguments.{between}
 use Rattle.sub_headline.specs.PlainOptions.CheckOption.{Page, Every, Origin, Pace, Complete}
 use Rattle.sub_headline.specs.PlainOptions.CheckOption.{EveryFault}
-use Rattle.sub_headline.specs.DrawnOptions.{DisplayOption, arguments_of_display_option}
-use Rattle.sub_headline.specs.DrawnOptions.DisplayOption.{Letters, Lines, Of}
+use Rattle.sub_headline.specs.DrawnOptions.{CheckRecordingOption}
+use Rattle.sub_headline.specs.DrawnOptions.{arguments_of_check_recording_option}
+use Rattle.sub_headline.specs.DrawnOptions.CheckRecordingOption.{Letters, Lines, Of}
 use Rattle.sub_headline.specs.RecordingOptions.RecordingOption.{Pid, Size, Numbers, From, To}
 use Rattle.sub_headline.specs.RecordingOptions.RecordingOption.{IncludeOpen}
 use Rattle.sub_headline.specs.RecordingOptions.RecordingOption.{Any}
@@ -156,7 +157,7 @@ walk_takes_option_value c id h word name =
 abbrev pub rules : List Rule
 rules = check_shape.rules
 
-abbrev pub key : DisplayOption → Text
+abbrev pub key : CheckRecordingOption → Text
 key (Of (Any (Page text page is))) = codes "page"
 key (Of (Any (Every text frames is))) = codes "every"
 key (Of (Any (Origin text pts is))) = codes "origin"
@@ -172,7 +173,7 @@ key (Of IncludeOpen) = codes "open"
 key (Letters text national name is) = codes "option"
 key (Lines text layout name is) = codes "layout"
 
-abbrev pub option_values : DisplayOption → List Text
+abbrev pub option_values : CheckRecordingOption → List Text
 option_values (Of (Any (Page text page is))) = text ∷ []
 option_values (Of (Any (Every text frames is))) = text ∷ []
 option_values (Of (Any (Origin text pts is))) = text ∷ []
@@ -197,7 +198,7 @@ waiting_state id h = record (settled rules h) { pending = Some (id, []) }
 abbrev state_with_value : Text → Text → Held → Held
 state_with_value id text h = record (settled rules h) { pending = Some (id, text ∷ []) }
 
-abbrev pub next : Held → DisplayOption → Held
+abbrev pub next : Held → CheckRecordingOption → Held
 next h (Of (Any (Page text page is))) = state_with_value (codes "page") text h
 next h (Of (Any (Every text frames is))) = state_with_value (codes "every") text h
 next h (Of (Any (Origin text pts is))) = state_with_value (codes "origin") text h
@@ -391,61 +392,64 @@ walk_reads_open_option : (h : Held)
 unfolding subttx_app clap_on_literals
 walk_reads_open_option h = refl
 
-walk_reads_display_option : (h : Held) (choice : DisplayOption)
-    → fold (walked rules []) (walk_at_position h 3) (arguments_of_display_option choice) ≡
+walk_reads_check_recording_option : (h : Held) (choice : CheckRecordingOption)
+    → fold (walked rules []) (walk_at_position h 3) (arguments_of_check_recording_option choice) ≡
     walk_at_position (next h choice) 3
-walk_reads_display_option h (Of (Any (Page text page is))) =
+walk_reads_check_recording_option h (Of (Any (Page text page is))) =
     ap (λ (w : Walk). walked rules [] w text) (walk_reads_page_option h)
     ∙ walk_reads_page_value h text (page_is_name text page is)
-walk_reads_display_option h (Of (Any (Every text frames is))) =
+walk_reads_check_recording_option h (Of (Any (Every text frames is))) =
     ap (λ (w : Walk). walked rules [] w text) (walk_reads_every_option h)
     ∙ walk_reads_every_value h text (number_is_name text frames is)
-walk_reads_display_option h (Of (Any (Origin text pts is))) =
+walk_reads_check_recording_option h (Of (Any (Origin text pts is))) =
     ap (λ (w : Walk). walked rules [] w text) (walk_reads_origin_option h)
     ∙ walk_reads_origin_value h text (number_is_name text pts is)
-walk_reads_display_option h (Of (Any (Pace text frames is))) =
+walk_reads_check_recording_option h (Of (Any (Pace text frames is))) =
     ap (λ (w : Walk). walked rules [] w text) (walk_reads_pace_option h)
     ∙ walk_reads_pace_value h text (pace_is_name text frames is)
-walk_reads_display_option h (Of (Any Complete)) = walk_reads_complete_option h
-walk_reads_display_option h (Of (Any EveryFault)) = walk_reads_all_option h
-walk_reads_display_option h (Of (Pid text pid is)) =
+walk_reads_check_recording_option h (Of (Any Complete)) = walk_reads_complete_option h
+walk_reads_check_recording_option h (Of (Any EveryFault)) = walk_reads_all_option h
+walk_reads_check_recording_option h (Of (Pid text pid is)) =
     ap (λ (w : Walk). walked rules [] w text) (walk_reads_pid_option h)
     ∙ walk_reads_pid_value h text (pid_is_name text pid is)
-walk_reads_display_option h (Of (Size text size is)) =
+walk_reads_check_recording_option h (Of (Size text size is)) =
     ap (λ (w : Walk). walked rules [] w text) (walk_reads_size_option h)
     ∙ walk_reads_size_value h text (size_is_name text size is)
-walk_reads_display_option h (Of (Numbers text range is)) =
+walk_reads_check_recording_option h (Of (Numbers text range is)) =
     ap (λ (w : Walk). walked rules [] w text) (walk_reads_pes_option h)
     ∙ walk_reads_pes_value h text (range_is_name text range is)
-walk_reads_display_option h (Of (From text frame name is)) =
+walk_reads_check_recording_option h (Of (From text frame name is)) =
     ap (λ (w : Walk). walked rules [] w text) (walk_reads_from_option h) ∙ walk_reads_from_value h
     text name
-walk_reads_display_option h (Of (To text frame name is)) =
+walk_reads_check_recording_option h (Of (To text frame name is)) =
     ap (λ (w : Walk). walked rules [] w text) (walk_reads_to_option h) ∙ walk_reads_to_value h text
     name
-walk_reads_display_option h (Of IncludeOpen) = walk_reads_open_option h
-walk_reads_display_option h (Letters text national name is) =
+walk_reads_check_recording_option h (Of IncludeOpen) = walk_reads_open_option h
+walk_reads_check_recording_option h (Letters text national name is) =
     ap (λ (w : Walk). walked rules [] w text) (walk_reads_national_option h)
     ∙ walk_reads_national_value h text name
-walk_reads_display_option h (Lines text layout name is) =
+walk_reads_check_recording_option h (Lines text layout name is) =
     ap (λ (w : Walk). walked rules [] w text) (walk_reads_layout_option h)
     ∙ walk_reads_layout_value h text name
 
-pub walk_reads_display_options : (h : Held) (choices : List DisplayOption)
-    → fold (walked rules []) (walk_at_position h 3) (flat_map arguments_of_display_option choices)
+pub walk_reads_check_recording_options : (h : Held) (choices : List CheckRecordingOption)
+    → fold (walked rules []) (walk_at_position h 3)
+    (flat_map arguments_of_check_recording_option choices)
     ≡ walk_at_position (fold next h choices) 3
-walk_reads_display_options h [] = refl
-walk_reads_display_options h (choice ∷ choices) =
-    fold-append (walked rules []) (walk_at_position h 3) (arguments_of_display_option choice)
-    (flat_map arguments_of_display_option choices)
-    ∙ ap (λ (w : Walk). fold (walked rules []) w (flat_map arguments_of_display_option choices))
-    (walk_reads_display_option h choice)
-    ∙ walk_reads_display_options (next h choice) choices
+walk_reads_check_recording_options h [] = refl
+walk_reads_check_recording_options h (choice ∷ choices) =
+    fold-append (walked rules []) (walk_at_position h 3)
+    (arguments_of_check_recording_option choice)
+    (flat_map arguments_of_check_recording_option choices)
+    ∙ ap
+    (λ (w : Walk). fold (walked rules []) w (flat_map arguments_of_check_recording_option choices))
+    (walk_reads_check_recording_option h choice)
+    ∙ walk_reads_check_recording_options (next h choice) choices
 
 abbrev pub rows_of_state : Held → List Row
 rows_of_state h = (settled rules h).rows
 
-option_sets_row : (h : Held) (choice : DisplayOption)
+option_sets_row : (h : Held) (choice : CheckRecordingOption)
     → rows_of_state (next h choice)
     ≡ set_row (key choice) (reading_by (rule_at (key choice))) (option_values choice)
     (rows_of_state h)
@@ -467,10 +471,10 @@ option_sets_row h (Lines text layout name is) = refl
 
 -- The values of the argument `id` after one more option: the option's values if it sets this
 -- argument.
-abbrev pub values_with_choice : Text → List (List Text) → DisplayOption → List (List Text)
+abbrev pub values_with_choice : Text → List (List Text) → CheckRecordingOption → List (List Text)
 values_with_choice id vs choice = if bytes_eq (key choice) id then option_values choice ∷ [] else vs
 
-key_equals_itself : (choice : DisplayOption) → bytes_eq (key choice) (key choice) ≡ true
+key_equals_itself : (choice : CheckRecordingOption) → bytes_eq (key choice) (key choice) ≡ true
 key_equals_itself (Of (Any (Page text page is))) = refl
 key_equals_itself (Of (Any (Every text frames is))) = refl
 key_equals_itself (Of (Any (Origin text pts is))) = refl
@@ -486,7 +490,7 @@ key_equals_itself (Of IncludeOpen) = refl
 key_equals_itself (Letters text national name is) = refl
 key_equals_itself (Lines text layout name is) = refl
 
-setting_row_changes_own_id : (b : Bool) (id : Text) (how : Reading) (choice : DisplayOption)
+setting_row_changes_own_id : (b : Bool) (id : Text) (how : Reading) (choice : CheckRecordingOption)
     (rows : List Row)
     → bytes_eq (key choice) id ≡ b
     → drop 1 (values_at id rows) ≡ []
@@ -503,7 +507,7 @@ setting_row_changes_own_id true id how choice rows is short =
 setting_row_changes_own_id false id how choice rows is short =
     set_other (key choice) id is how (option_values choice) rows
 
-values_after_option : (id : Text) (h : Held) (choice : DisplayOption)
+values_after_option : (id : Text) (h : Held) (choice : CheckRecordingOption)
     → drop 1 (values_at id (rows_of_state h)) ≡ []
     → values_at id (rows_of_state (next h choice)) ≡ values_with_choice id
     (values_at id (rows_of_state h))
@@ -521,7 +525,7 @@ option_keeps_one_value : (b : Bool) (v : List Text) (vs : List (List Text))
 option_keeps_one_value true v vs short = refl
 option_keeps_one_value false v vs short = short
 
-pub values_after_options : (id : Text) (h : Held) (choices : List DisplayOption)
+pub values_after_options : (id : Text) (h : Held) (choices : List CheckRecordingOption)
     → drop 1 (values_at id (rows_of_state h)) ≡ []
     → values_at id (rows_of_state (fold next h choices))
     ≡ fold (values_with_choice id) (values_at id (rows_of_state h)) choices

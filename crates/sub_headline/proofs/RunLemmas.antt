@@ -8,10 +8,11 @@ use Rattle.sub_request.specs.declared.request.UsageFault.TheVariants as usage
 use Rattle.sub_listing.specs.Listing.{exit_code}
 use Rattle.sub_listing.specs.declared.status.Status.{Status}
 use Rattle.sub_listing.specs.declared.status.Status.TheVariants.{Done, Fault}
-use Rattle.sub_answer.specs.Ending.{BufferHoldsOneLineOnly, FileObservations, Lines, PrintsFault}
+use Rattle.sub_answer.specs.Ending.{BufferHoldsOneLineOnly, BufferedSinkState, FileObservations}
+use Rattle.sub_answer.specs.Ending.{PrintsFault}
 use Rattle.sub_headline.specs.Run.{RunAnswers, RunEnds, RunsProgram}
 
-printed_usage_fault_is_fault : (fault : UsageFault) (old new : Lines) (result : Status)
+printed_usage_fault_is_fault : (fault : UsageFault) (old new : BufferedSinkState) (result : Status)
     → PrintsFault fault old new result
     → result ≡ Fault
 printed_usage_fault_is_fault fault old new result says = grind (arith, nat_tests)
@@ -19,19 +20,20 @@ printed_usage_fault_is_fault fault old new result says = grind (arith, nat_tests
 -- The run answered its request, and the exit code is the number of the answer's status.
 pub record HasAnswered
     {I O : Type 0} (AreMade : List (FileCall I O) → Type 0) (reported : FileObservations I O)
-    (IsClose : O → O → Type 0) (given : Result (List Text) UsageFault) (IsAlone : Lines → Type 0)
-    (code : ℕ)
+    (IsClose : O → O → Type 0) (given : Result (List Text) UsageFault)
+    (IsAlone : BufferedSinkState → Type 0) (code : ℕ)
     : Type 0 where
-  pub old : Lines
-  pub new : Lines
+  pub old : BufferedSinkState
+  pub new : BufferedSinkState
   pub status : Status
   pub code_eq : code ≡ exit_code status
   pub answered : RunAnswers AreMade reported IsClose given IsAlone old new status
 
 exit_code_explained :
     {I O : Type 0} (AreMade : List (FileCall I O) → Type 0) (reported : FileObservations I O)
-    (IsClose : O → O → Type 0) (given : Result (List Text) UsageFault) (IsAlone : Lines → Type 0)
-    (code : ℕ) (status : Status) (old new : Lines)
+    (IsClose : O → O → Type 0) (given : Result (List Text) UsageFault)
+    (IsAlone : BufferedSinkState → Type 0) (code : ℕ) (status : Status)
+    (old new : BufferedSinkState)
     → code ≡ exit_code status
     → code ≢ 2
     → RunEnds AreMade reported IsClose given IsAlone old new status

@@ -17,60 +17,62 @@ use Rattle.sub_headline.specs.RecordingOptions.{requested_recording}
 use Rattle.sub_headline.specs.RecordingOptions.{arguments_of_recording_option}
 
 -- One option: a national option or a layout, with its text, or an option for a recording.
-pub data DisplayOption : Type 0 where
+pub data CheckRecordingOption : Type 0 where
   Letters : (text : Text)
       → (national : National)
       → IsName text
       → named_option text ≡ Some national
-      → DisplayOption
+      → CheckRecordingOption
   Lines : (text : Text)
       → (layout : Layout)
       → IsName text
       → layout_of_text text ≡ Some layout
-      → DisplayOption
-  Of : RecordingOption → DisplayOption
+      → CheckRecordingOption
+  Of : RecordingOption → CheckRecordingOption
 
 -- The command-line arguments for an option.
-abbrev pub arguments_of_display_option : DisplayOption → List Text
-arguments_of_display_option (Letters text national name is) = codes "--option" ∷ text ∷ []
-arguments_of_display_option (Lines text layout name is) = codes "--layout" ∷ text ∷ []
-arguments_of_display_option (Of part) = arguments_of_recording_option part
+abbrev pub arguments_of_check_recording_option : CheckRecordingOption → List Text
+arguments_of_check_recording_option (Letters text national name is) = codes "--option" ∷ text ∷ []
+arguments_of_check_recording_option (Lines text layout name is) = codes "--layout" ∷ text ∷ []
+arguments_of_check_recording_option (Of part) = arguments_of_recording_option part
 
 -- The settings for reading a recording and for drawing subtitles.
-pub record DisplayOptions : Type 0 where
+pub record CheckRecordingSettings : Type 0 where
   pub reading : Reading
   pub national : National
   pub layout : Layout
 
 -- The settings after one more option.
-abbrev pub with_display_option : DisplayOptions → DisplayOption → DisplayOptions
-with_display_option l (Letters text national name is) = record l { national = national }
-with_display_option l (Lines text layout name is) = record l { layout = layout }
-with_display_option l (Of part) = record l { reading = with_recording_option l.reading part }
+abbrev pub with_check_recording_option :
+    CheckRecordingSettings → CheckRecordingOption → CheckRecordingSettings
+with_check_recording_option l (Letters text national name is) = record l { national = national }
+with_check_recording_option l (Lines text layout name is) = record l { layout = layout }
+with_check_recording_option l (Of part) =
+    record l { reading = with_recording_option l.reading part }
 
 -- The settings for a list of options. By default, subtitles are drawn with the English national
 -- option and the default layout.
-abbrev pub display_options_of : List DisplayOption → DisplayOptions
-display_options_of display_options =
-    fold with_display_option
+abbrev pub settings_of_options : List CheckRecordingOption → CheckRecordingSettings
+settings_of_options choices =
+    fold with_check_recording_option
     (record { reading = reading_of []; national = English; layout = default_layout })
-    display_options
+    choices
 
 -- The arguments `check STL RECORDING` and these options request a check of the two files with the
 -- settings of the options, and the PTS of frame 0 is less than 2^33.
-abbrev pub LawOfDisplayArguments : Type 0
-LawOfDisplayArguments =
-    (program stl recording : Text) (display_options : List DisplayOption) (request : Request)
+abbrev pub LawOfCheckRecordingArguments : Type 0
+LawOfCheckRecordingArguments =
+    (program stl recording : Text) (choices : List CheckRecordingOption) (request : Request)
     → IsName stl
     → IsName recording
-    → IsRequestOf (program ∷ codes "check" ∷ stl ∷ recording ∷ flat_map arguments_of_display_option
-    display_options) request
+    → IsRequestOf (program ∷ codes "check" ∷ stl ∷ recording
+    ∷ flat_map arguments_of_check_recording_option choices) request
     → (all : Bool)
     × (value_of_request request
     ≡ Requested.Check stl
-    (requested_recording recording (display_options_of display_options).reading)
-    (display_options_of display_options).reading.options
-    (display_options_of display_options).national
-    (display_options_of display_options).layout
-    (display_options_of display_options).reading.scope all)
-    × ((display_options_of display_options).reading.options.origin < 2 ^ 33)
+    (requested_recording recording (settings_of_options choices).reading)
+    (settings_of_options choices).reading.options
+    (settings_of_options choices).national
+    (settings_of_options choices).layout
+    (settings_of_options choices).reading.scope all)
+    × ((settings_of_options choices).reading.options.origin < 2 ^ 33)

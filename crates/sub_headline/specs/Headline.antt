@@ -16,8 +16,9 @@ use Rattle.sub_plan.specs.Options.{OptionsValue}
 use Rattle.sub_rules.specs.Transmission.{Transmission}
 use Rattle.sub_answer.specs.FilesInMemory.{memory_observations}
 use Rattle.sub_headline.specs.BothClasses.{EachReceiverOfClassGets}
-use Rattle.sub_headline.specs.DrawnOptions.{DisplayOption, DisplayOptions, display_options_of}
-use Rattle.sub_headline.specs.DrawnOptions.{arguments_of_display_option}
+use Rattle.sub_headline.specs.DrawnOptions.{CheckRecordingOption, CheckRecordingSettings}
+use Rattle.sub_headline.specs.DrawnOptions.{arguments_of_check_recording_option}
+use Rattle.sub_headline.specs.DrawnOptions.{settings_of_options}
 use Rattle.sub_headline.specs.EnglishPage.{english_due_page}
 use Rattle.sub_headline.specs.EnglishScreen.{EachScreenShows}
 use Rattle.sub_headline.specs.PlainAcceptance.{IsAcceptedInPlainTerms}
@@ -170,25 +171,26 @@ ImpliesRecordingReading given files code =
     (frames_by_place r.options.origin (bytes_selected r bytes)))
 
 -- The statement `IsSo` is true for the settings and the contents of two files in a run with the
--- arguments `check STL RECORDING` and any of the options of type `DisplayOption`, in any order.
-abbrev pub ForDisplayOptions :
-    Result (List Text) UsageFault → MemFilesValue → (DisplayOptions → List ℕ → List ℕ → Type 0) →
-    Type 0
-ForDisplayOptions given files IsSo =
-    (program stl recording : Text) (display_options : List DisplayOption) (file bytes : List ℕ)
+-- arguments `check STL RECORDING` and any of the options of type `CheckRecordingOption`, in any
+-- order.
+abbrev pub ForCheckRecordingOptions :
+    Result (List Text) UsageFault → MemFilesValue
+    → (CheckRecordingSettings → List ℕ → List ℕ → Type 0) → Type 0
+ForCheckRecordingOptions given files IsSo =
+    (program stl recording : Text) (choices : List CheckRecordingOption) (file bytes : List ℕ)
     → IsName stl
     → IsName recording
-    → given ≡ Ok (program ∷ codes "check" ∷ stl ∷ recording ∷ flat_map arguments_of_display_option
-    display_options)
+    → given ≡ Ok (program ∷ codes "check" ∷ stl ∷ recording
+    ∷ flat_map arguments_of_check_recording_option choices)
     → bytes_at stl files ≡ Some file
     → bytes_at recording files ≡ Some bytes
-    → IsSo (display_options_of display_options) file bytes
+    → IsSo (settings_of_options choices) file bytes
 
 -- If the exit code is 0, the headline is true for subtitles drawn with the national option and the
 -- layout.
 abbrev pub ImpliesDrawnHeadline : Result (List Text) UsageFault → MemFilesValue → ℕ → Type 0
 ImpliesDrawnHeadline given files code =
-    ForDisplayOptions given files
+    ForCheckRecordingOptions given files
     (λ l file bytes.
     let o = l.reading.options in
     code ≡ 0

@@ -11,15 +11,16 @@ use Rattle.sub_request.specs.declared.request.UsageFault.TheVariants as usage
 use Rattle.sub_words.specs.Requests.{IsRequestOf, IsFaultOf}
 use Rattle.sub_listing.specs.Listing.{exit_code}
 use Rattle.sub_listing.specs.declared.status.Status.{Status}
-use Rattle.sub_answer.specs.Ending.{BufferHoldsOneLineOnly, Ends, FileObservations, Lines}
+use Rattle.sub_answer.specs.Ending.{BufferHoldsOneLineOnly, BufferedSinkState, Ends}
+use Rattle.sub_answer.specs.Ending.{FileObservations}
 use Rattle.sub_answer.specs.Ending.{PrintsFault}
-use Rattle.sub_answer.specs.Ending.{lines_of_buffer}
+use Rattle.sub_answer.specs.Ending.{state_of_buffer}
 
 -- The arguments are a request, which was answered. No other files were opened or released.
 pub record RunAnswers
     {I O : Type 0} (AreMade : List (FileCall I O) → Type 0) (known : FileObservations I O)
-    (IsClose : O → O → Type 0) (given : Result (List Text) UsageFault) (IsAlone : Lines → Type 0)
-    (old new : Lines) (result : Status)
+    (IsClose : O → O → Type 0) (given : Result (List Text) UsageFault)
+    (IsAlone : BufferedSinkState → Type 0) (old new : BufferedSinkState) (result : Status)
     : Type 0 where
   pub arguments : List Text
   pub arguments_were_given : given ≡ Ok arguments
@@ -47,7 +48,7 @@ IsUsageFaultReason AreMade (Err why) fault = (fault ≡ why) × AreMade []
 -- No request was answered, and the line of the fault was printed.
 pub record RunReportsFault
     {I O : Type 0} (AreMade : List (FileCall I O) → Type 0) (given : Result (List Text) UsageFault)
-    (old new : Lines) (result : Status)
+    (old new : BufferedSinkState) (result : Status)
     : Type 0 where
   pub fault : UsageFault
   pub cause : IsUsageFaultReason AreMade given fault
@@ -58,7 +59,8 @@ pub record RunReportsFault
 abbrev pub RunEnds :
     {I O : Type 0}
     → (List (FileCall I O) → Type 0) → FileObservations I O → (O → O → Type 0)
-    → Result (List Text) UsageFault → (Lines → Type 0) → Lines → Lines → Status → Type 0
+    → Result (List Text) UsageFault → (BufferedSinkState → Type 0)
+    → BufferedSinkState → BufferedSinkState → Status → Type 0
 RunEnds AreMade known IsClose given IsAlone old new result =
     RunAnswers AreMade known IsClose given IsAlone old new result
     ⊎ RunReportsFault AreMade given old new result
@@ -81,9 +83,9 @@ pub record RunsProgram
       (let old : BufferState K =
       record { device = output; buffered = []; room = room; failed = false; refused = 0 } in
       let EndsSo = RunEnds AreMade known IsClose given
-      (BufferHoldsOneLineOnly contents failure_count IsPush) (lines_of_buffer contents failure_count
+      (BufferHoldsOneLineOnly contents failure_count IsPush) (state_of_buffer contents failure_count
       old)
-      (lines_of_buffer contents failure_count new) status in
-      let SaysMemory = PrintsFault usage.Memory (lines_of_buffer contents failure_count old)
-      (lines_of_buffer contents failure_count new) status in
+      (state_of_buffer contents failure_count new) status in
+      let SaysMemory = PrintsFault usage.Memory (state_of_buffer contents failure_count old)
+      (state_of_buffer contents failure_count new) status in
       EndsSo ⊎ (AreMade [] × SaysMemory))

@@ -1,6 +1,6 @@
 //! The meaning of exit status 0 of `check`, and of the characters that viewers see.
 ghost use Rattle.sub_headline.specs.Acceptance.{LawOfEnglishAcceptance, LawOfPlainAcceptance};
-ghost use Rattle.sub_headline.specs.DrawnOptions.{LawOfDisplayArguments};
+ghost use Rattle.sub_headline.specs.DrawnOptions.{LawOfCheckRecordingArguments};
 ghost use Rattle.sub_headline.specs.EnglishScreen.{LawOfEnglishCharacters};
 ghost use Rattle.sub_headline.specs.Headline.{LawOfHeadline};
 ghost use Rattle.sub_headline.specs.PlainOptions.{LawOfChosenArguments};
@@ -41,8 +41,8 @@ pub fn law_of_part_arguments()
 
 /// The arguments `check STL RECORDING` with a national option or a layout request a check of
 /// subtitles drawn with them.
-pub fn law_of_display_arguments()
-    ensures { LawOfDisplayArguments }
+pub fn law_of_check_recording_arguments()
+    ensures { LawOfCheckRecordingArguments }
 {}
 
 /// The cell for a byte of English text shows the character of that byte.

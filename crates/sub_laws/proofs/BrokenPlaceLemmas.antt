@@ -127,7 +127,7 @@ first_header_has_a_packet P (x ∷ xs) f e h = go (header x) refl e (λ d. first
     go o q d ih = grind arith
 
 module _ (programme : ProgrammeValue) (options : OptionsValue) (unread : Option UnreadReason)
-    (t : Transmission) (frame_count_is_not_zero : 0 < options.every)
+    (t : Transmission) (repeat_bound_is_not_zero : 0 < options.every)
     (h : MeetsRequirements (criteria_of programme options unread) t) where
   some : 0 < length t
   some = h.some
@@ -150,9 +150,9 @@ module _ (programme : ProgrammeValue) (options : OptionsValue) (unread : Option 
   packets_on_air_keep_rules f l =
       let last = last-same t in
       elim (cases_lt f (frame_at t 0)) [
-        | inl run_is_within_delay_and_unmissed ↦ up_to 0 (omega arith)
+        | inl early ↦ up_to 0 (omega arith)
             (packets_on_air_are_a_prefix t rising 0 f (omega arith) (λ s. absurd (omega arith))
-            (λ m. run_is_within_delay_and_unmissed))
+            (λ m. early))
         | inr low ↦ let (m, end, is, from) = frame_has_its_end t rising f some low (omega arith) in
             up_to m end.1 is
       ]
@@ -207,7 +207,7 @@ module _ (programme : ProgrammeValue) (options : OptionsValue) (unread : Option 
       let (n, end, on, from) = frame_has_its_end t rising f some (omega arith)
       (omega (arith, last-same t)) in
       elim (end_has_recent_header n f end) [
-        | inl run_is_within_delay_and_unmissed ↦ (first_frame t, low, omega arith, opens)
+        | inl early ↦ (first_frame t, low, omega arith, opens)
         | inr (j, m, below, head) ↦
             let r = rising_frames_are_ordered t (length t) rising j (n - 1) (omega arith)
             (omega (arith, end.0, end.1)) in
@@ -378,7 +378,7 @@ module _ (programme : ProgrammeValue) (options : OptionsValue) (t : Transmission
       → HasRecentPageHeader (criteria_of programme options None) t n f
   later_end_has_recent_header n f high later = elim
       (cases_lt (f + 1) (frame_at t 0 + options.every)) [
-        | inl run_is_within_delay_and_unmissed ↦ inl run_is_within_delay_and_unmissed
+        | inl early ↦ inl early
         | inr late ↦
             let first = first-same t in
             let last = last-same t in

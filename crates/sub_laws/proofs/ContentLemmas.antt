@@ -139,7 +139,7 @@ module _ (programme : ProgrammeValue) (options : OptionsValue) (unread : Option 
           record {
             is_cell = w.is_cell;
             wrong = w.broken;
-            unexpected = λ start_is_not_late. absurd (true≢false (sym late ∙ start_is_not_late));
+            unexpected = λ not_late. absurd (true≢false (sym late ∙ not_late));
           }
       go false late =
           let found =
@@ -151,7 +151,7 @@ module _ (programme : ProgrammeValue) (options : OptionsValue) (unread : Option 
             is_cell = found.0;
             wrong = λ right.
                 found.1 (inr (f, inr refl, le_refl f, omega arith, right.kept_eq));
-            unexpected = λ start_is_not_late. found.1;
+            unexpected = λ not_late. found.1;
           }
 
   module _ (n f : ℕ) (r : IsReadTo g frames n f) (x : ℕ × ℕ)
@@ -214,8 +214,8 @@ module _ (programme : ProgrammeValue) (options : OptionsValue) (unread : Option 
           packets_on_air_are_those_read fresh)
           ∙ ap (λ ps. kept options.keeps options.page ps x.0 x.1)
           (sym packets_on_air_are_those_read);
-      unexpected = λ start_is_not_late due.
-          broken_cell_facts.unexpected (sym lateness_depends_on_read_frames ∙ start_is_not_late)
+      unexpected = λ not_late due.
+          broken_cell_facts.unexpected (sym lateness_depends_on_read_frames ∙ not_late)
           (code_due_within_may_show
           (subst
           (λ ps. IsDueWithin programme read options f x.0 x.1

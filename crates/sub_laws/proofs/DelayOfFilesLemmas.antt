@@ -51,15 +51,15 @@ read_longer within more origin low longer (v ∷ values) (s ∷ frames) each = (
 )
 
 -- A `within` of n + 1 frames is not 0, so it merges consecutive PES packets of one frame.
-frame_count_is_not_zero : (n : ℕ) → (suc n == 0) ≡ false
-frame_count_is_not_zero n = grind (arith, nat_tests)
+positive_delay_is_not_zero : (n : ℕ) → (suc n == 0) ≡ false
+positive_delay_is_not_zero n = grind (arith, nat_tests)
 
 positive_delays_send_the_same : (within more : ℕ) (sent : Transmission) (s : SentFrame)
     → sent_after (suc within) sent s ≡ sent_after (suc more) sent s
 positive_delays_send_the_same within more [] s = refl
 positive_delays_send_the_same within more (first ∷ sent) s = rw (
-  frame_count_is_not_zero within,
-  frame_count_is_not_zero more,
+  positive_delay_is_not_zero within,
+  positive_delay_is_not_zero more,
 ) refl
 
 positive_delays_join_the_same : (within more : ℕ) (sent frames : Transmission)

@@ -58,7 +58,7 @@ module _ (transmission : Transmission) (a b : ℕ) (stretch : IsWithinTransmissi
       → a ≤ frame_at transmission i
   not_earlier i k l m far = elim (cases_lt (frame_at transmission i) a) [
     | inr from ↦ from
-    | inl run_is_within_delay_and_unmissed ↦
+    | inl early ↦
         let first = first-same transmission in
         let low = rising_frames_are_ordered transmission (length transmission) rising 0 i
         (omega arith) l in

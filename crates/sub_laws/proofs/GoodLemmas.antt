@@ -110,7 +110,7 @@ pub repeated_header_keeps_pace : (w : Watched) (every frames : ℕ) (t : Transmi
 repeated_header_keeps_pace w every frames [] some l repeats f low high = absurd (omega arith)
 repeated_header_keeps_pace w every frames (s ∷ ss) some l repeats f low high =
     elim (cases_lt f (s.frame + frames)) [
-      | inl run_is_within_delay_and_unmissed ↦ (0, some, low, run_is_within_delay_and_unmissed)
+      | inl early ↦ (0, some, low, early)
       | inr late ↦
           let (g, from, to, holds) = repeats (f + 1 - every) (omega arith) (omega arith) in
           let (j, there, at, has) = header_in_frame_has_an_index w (s ∷ ss) g holds in

@@ -119,8 +119,8 @@ module _ (programme : ProgrammeValue) (transmission : Transmission) (options : O
           (last_frame transmission) f (complete asks) low high;
     }
 
-    -- A good transmission is good under options with any `within`, if its pages are complete or
-    -- need not be.
+    -- A good transmission is also good with any `within`, if its pages are complete or complete
+    -- pages are not required.
     pub good_transmission_is_good_without_delay : GoodWithRepeats false programme transmission
         options
     good_transmission_is_good_without_delay = record {

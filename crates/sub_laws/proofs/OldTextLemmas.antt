@@ -127,8 +127,8 @@ module _ (keeps : Bool) (programme : ProgrammeValue) (transmission : Transmissio
     (options : OptionsValue) (e row column code : ℕ)
     (good : GoodWithRepeats keeps programme transmission options)
     (goes : HasTextEnding programme options.within e row column code)
-    (from_first_printable : first_frame transmission + options.within < e)
-    (up_to_last_printable : e + options.within ≤ last_frame transmission) where
+    (from_first_frame : first_frame transmission + options.within < e)
+    (up_to_last_frame : e + options.within ≤ last_frame transmission) where
   finished :
       (f : ℕ) × (e ≤ f + options.within + 1) × (f < e)
       × (kept keeps options.page (on_air_until transmission f) row column ≡ code)
@@ -144,7 +144,7 @@ module _ (keeps : Bool) (programme : ProgrammeValue) (transmission : Transmissio
   not_kept :
       kept keeps options.page (on_air_until transmission (e + options.within)) row column ≢ code
   not_kept is =
-      elim (good.codes (e + options.within) row column (omega arith) up_to_last_printable
+      elim (good.codes (e + options.within) row column (omega arith) up_to_last_frame
       goes.is_cell) [
         | inl spaced ↦ goes.is_text (sym is ∙ spaced)
         | inr (d, first, before, near, due) ↦
@@ -156,7 +156,7 @@ module _ (keeps : Bool) (programme : ProgrammeValue) (transmission : Transmissio
       (packets_between transmission (e - options.within) (e + options.within + 1))
       ≡ true
   begins =
-      let (f, late, run_is_within_delay_and_unmissed, is) = finished in
+      let (f, late, early, is) = finished in
       let frames = transmission in
       let after = packets_between frames (f + 1) (e + options.within + 1) in
       let split =

@@ -59,19 +59,19 @@ sent_exactly origin (v ∷ values) (s ∷ frames) each =
       sent_exactly origin values frames each.1,
     )
 
-exact_reading_holds_with_memory :
+sent_frames_are_read_exactly :
     (origin : ℕ) (values : List PesValue) (frames : Transmission)
     → AllZip (IsSentAs origin) values frames
     → AllZip (IsReadAs (clock 0 origin)) values frames
-exact_reading_holds_with_memory origin [] [] each = tt
-exact_reading_holds_with_memory origin [] (s ∷ frames) each = elim each [ ]
-exact_reading_holds_with_memory origin (v ∷ values) [] each = elim each [ ]
-exact_reading_holds_with_memory origin (v ∷ values) (s ∷ frames) each = (
+sent_frames_are_read_exactly origin [] [] each = tt
+sent_frames_are_read_exactly origin [] (s ∷ frames) each = elim each [ ]
+sent_frames_are_read_exactly origin (v ∷ values) [] each = elim each [ ]
+sent_frames_are_read_exactly origin (v ∷ values) (s ∷ frames) each = (
   record {
     frame = (law_of_exact_clock origin v.pts s.frame).1 (each.0.in_day, sym each.0.pts);
     packets = each.0.packets;
   },
-  exact_reading_holds_with_memory origin values frames each.1,
+  sent_frames_are_read_exactly origin values frames each.1,
 )
 
 exact_frames :
@@ -82,7 +82,7 @@ exact_frames origin bytes frames = grind (
   nat_tests,
   joined-none,
   sent_exactly,
-  exact_reading_holds_with_memory,
+  sent_frames_are_read_exactly,
 )
 
 pub law_of_exact_frames : LawOfExactFrames

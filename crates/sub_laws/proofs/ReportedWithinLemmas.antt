@@ -210,9 +210,9 @@ module _ (programme : ProgrammeValue) (options : OptionsValue) (t : Transmission
       → is_missed (requested.ending (f + 1)) from r ≡ false
   no_subtitle_is_missed n f r end first_unfinished = go (requested.ending (f + 1)) refl
     where
-      start_is_not_late : (tci : ℕ) → tci < r → from ≤ tci
+      later_run_misses_no_subtitle : (tci : ℕ) → tci < r → from ≤ tci
           → (nat_le r tci || ((r == from) && nat_lt tci from)) ≡ false
-      start_is_not_late tci l m = grind (arith, nat_tests)
+      later_run_misses_no_subtitle tci l m = grind (arith, nat_tests)
 
       go : (o : Option ℕ) → requested.ending (f + 1) ≡ o → is_missed o from r ≡ false
       go None found = refl
@@ -228,7 +228,7 @@ module _ (programme : ProgrammeValue) (options : OptionsValue) (t : Transmission
           let first = first-same t in
           let later = run_starts_after_finished_frame n f r e end first_unfinished (omega arith)
           (omega arith) finished in
-          start_is_not_late tci (omega arith) (omega arith)
+          later_run_misses_no_subtitle tci (omega arith) (omega arith)
 
   in_time : (n f : ℕ) → IsEnd t n f
       → is_overdue requested from (unfinished_run_start requested t n f) f ≡ false

@@ -116,7 +116,7 @@ module _ (programme : ProgrammeValue) (transmission : Transmission) (options : O
       stretches.frame_has_an_end transmission a b unreported.stretch unreported.rising f low high in
       elim ((gap_test_is_exact g transmission n f end.1).0
       (ap not (unreported_end_is_no_gap n f end low high))) [
-        | inl run_is_within_delay_and_unmissed ↦ inl (omega arith)
+        | inl early ↦ inl (omega arith)
         | inr (j, l, late, has) ↦
             let rises =
             rising_frames_are_ordered transmission (length transmission)
@@ -157,7 +157,7 @@ module _ (programme : ProgrammeValue) (transmission : Transmission) (options : O
                 )
             | inr every ↦
                 elim (covered (start + options.every - 1) (omega arith) (omega arith)) [
-                  | inl run_is_within_delay_and_unmissed ↦ absurd (omega arith)
+                  | inl early ↦ absurd (omega arith)
                   | inr (j, l, before, late, has) ↦ (
                     frame_at transmission j,
                     omega arith,

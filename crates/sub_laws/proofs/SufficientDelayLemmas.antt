@@ -101,8 +101,7 @@ module _ (programme : ProgrammeValue) (options : OptionsValue) (unread : Option 
         → IsCell row column
         → IsDueWithin programme t options f row column
         (kept options.keeps options.page (packets_before t n) row column)
-    early_end_has_expected_codes n f end low high run_is_within_delay_and_unmissed row column
-        named =
+    early_end_has_expected_codes n f end low high not_late row column named =
         grind (
           arith,
           nat_tests,
@@ -132,8 +131,8 @@ module _ (programme : ProgrammeValue) (options : OptionsValue) (unread : Option 
               omega arith,
               (late_end_has_right_cells n f end low high late row column named).kept_eq,
             )
-        go n end false run_is_within_delay_and_unmissed = early_end_has_expected_codes n f end low
-            high run_is_within_delay_and_unmissed row column named
+        go n end false not_late =
+            early_end_has_expected_codes n f end low high not_late row column named
 
     pub same_at_once : options.within ≡ 0 → (f : ℕ) → a ≤ f → f ≤ b
         → IsCorrectPage options.keeps programme options.page t f
@@ -265,12 +264,12 @@ module _ (programme : ProgrammeValue) (options : OptionsValue) (unread : Option 
           let not_missed = (run_is_within_delay_and_unmissed n (s.tco - 1) r end (omega arith)
           (omega arith)
           first_unfinished).1 in
-          start_is_not_late r s.tci l (rw found at not_missed))
+          run_begun_by_tci_misses_subtitle r s.tci l (rw found at not_missed))
         where
-          start_is_not_late : (r tci : ℕ) → r ≤ tci
+          run_begun_by_tci_misses_subtitle : (r tci : ℕ) → r ≤ tci
               → (nat_le r tci || ((r == start) && nat_lt tci start)) ≡ false
               → ⊥
-          start_is_not_late r tci l e = grind (arith, nat_tests)
+          run_begun_by_tci_misses_subtitle r tci l e = grind (arith, nat_tests)
 
       begun : (k : ℕ) (d : SubtitleValue) → k < length programme.records
           → (s : SubtitleValue)
@@ -287,12 +286,13 @@ module _ (programme : ProgrammeValue) (options : OptionsValue) (unread : Option 
           let not_missed = (run_is_within_delay_and_unmissed n (s.tco - 1) r end (omega arith)
           (omega arith)
           first_unfinished).1 in
-          start_is_not_late r s.tci (omega arith) (omega arith) (rw found at not_missed))
+          run_from_start_misses_begun_subtitle r s.tci (omega arith) (omega arith)
+          (rw found at not_missed))
         where
-          start_is_not_late : (r tci : ℕ) → r ≡ start → tci < start
+          run_from_start_misses_begun_subtitle : (r tci : ℕ) → r ≡ start → tci < start
               → (nat_le r tci || ((r == start) && nat_lt tci start)) ≡ false
               → ⊥
-          start_is_not_late r tci same l e = grind (arith, nat_tests)
+          run_from_start_misses_begun_subtitle r tci same l e = grind (arith, nat_tests)
 
       pub stretch_finishes_in_time : FinishesInTime options.keeps programme t options a b
       stretch_finishes_in_time = record {

@@ -101,8 +101,7 @@ module _ (un : ℕ → Bool) (first : ℕ) where
       go (Some r) is =
           let first_unfinished = run_start_is_first_unfinished k r is in
           elim (cases_lt a r) [
-            | inr run_is_within_delay_and_unmissed ↦ absurd
-                (late r is run_is_within_delay_and_unmissed)
+            | inr not_after ↦ absurd (late r is not_after)
             | inl after ↦ elim first_unfinished.begins [
               | inl start ↦ absurd (omega arith)
               | inr (some, before) ↦
@@ -116,9 +115,9 @@ module _ (un : ℕ → Bool) (first : ℕ) where
       first + k → e < r
   run_starts_after_finished k r e is finished high = elim (cases_lt e r) [
     | inl after ↦ after
-    | inr frame_is_not_after_last ↦
+    | inr not_before ↦
         absurd (true≢false (sym
-        ((run_start_is_first_unfinished k r is).all e frame_is_not_after_last high) ∙ finished))
+        ((run_start_is_first_unfinished k r is).all e not_before high) ∙ finished))
   ]
 
 module _ (g : Criteria) (t : Transmission) (rises : RiseTo t (length t)) where

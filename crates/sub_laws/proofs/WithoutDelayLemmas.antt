@@ -36,7 +36,7 @@ use Rattle.sub_laws.proofs.ActiveFaultsLemmas.{incomplete_test_is_exact_for_page
 use Rattle.sub_laws.proofs.ActiveFaultsLemmas.{due_page_has_no_wrong_cell}
 
 module _ (programme : ProgrammeValue) (options : OptionsValue) (unread : Option UnreadReason)
-    (t : Transmission) (frame_count_is_not_zero : 0 < options.every)
+    (t : Transmission) (repeat_bound_is_not_zero : 0 < options.every)
     (h : MeetsRequirements (criteria_of programme options unread) t) (at_once : options.within ≡ 0)
   where
     rules_hold_at_each_end : (n f : ℕ) → IsEnd t n f → (rule : EndRule)
@@ -47,8 +47,8 @@ module _ (programme : ProgrammeValue) (options : OptionsValue) (unread : Option 
         IsCell row column
         → IsRight options.keeps options.page (on_air_until t f) (due_page_in programme f) row column
     cells_are_right_in_each_frame f row column low high is =
-        let (n, end, on, from) = frame_has_an_end programme options unread t frame_count_is_not_zero
-        h f low high in
+        let (n, end, on, from) = frame_has_an_end programme options unread t
+        repeat_bound_is_not_zero h f low high in
         subst (λ xs. IsRight options.keeps options.page xs (due_page_in programme f) row column)
         (sym on) (rules_hold_at_each_end n f end Content refl row column is)
 
@@ -59,7 +59,7 @@ module _ (programme : ProgrammeValue) (options : OptionsValue) (unread : Option 
       rules =
           rules_of programme t options
           (subst (λ k. KeepsRulesWithRepeats k programme t options) none
-          (Rules-from_holds programme options unread t frame_count_is_not_zero h sizes));
+          (Rules-from_holds programme options unread t repeat_bound_is_not_zero h sizes));
       content = λ f row column low high is.
           (law_of_right_cells options.page (on_air_until t f) (due_page_in programme f) row
           column).0
@@ -70,8 +70,8 @@ module _ (programme : ProgrammeValue) (options : OptionsValue) (unread : Option 
 
     pub Complete-from_holds : IsTrue options.asks_complete → Complete t options
     Complete-from_holds asks f low high holds =
-        let (n, end, on, from) = frame_has_an_end programme options unread t frame_count_is_not_zero
-        h f low high in
+        let (n, end, on, from) = frame_has_an_end programme options unread t
+        repeat_bound_is_not_zero h f low high in
         let ended = rules_hold_at_each_end n f end Incomplete asks in
         grind (arith, nat_tests)
 

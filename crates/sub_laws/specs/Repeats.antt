@@ -117,7 +117,7 @@ ShownIfForgetful keeps anew class programme transmission options a b =
 
 -- ---- guarantees for a range of frames
 
--- The frames from a to b are finished in time, if only packets in these frames count.
+-- The frames from a to b are finished in time. Only finished frames among them count.
 pub record FinishesInTime
     (keeps : Bool) (programme : ProgrammeValue) (transmission : Transmission)
     (options : OptionsValue) (a b : ℕ)
@@ -225,9 +225,10 @@ LawOfFollowedStretch =
     → IsFollowedStretch keeps transmission options a b
     → IsRepeatedStretch keeps transmission options a b
 
--- If each repeat in a range of frames sends the expected text, receivers of both classes recover,
--- and the expected page is on their screens. If the frames of the range are finished in time, all
--- guarantees hold for it.
+-- If a range of frames meets the conditions for recovery, and each cell has an allowed code at each
+-- frame end, receivers of both classes recover, and the expected page is on their screens at each
+-- frame end with a correct page that has ended. If the frames of the range are finished in time,
+-- all guarantees hold for it.
 abbrev pub LawOfRepeatedStretch : Type 0
 LawOfRepeatedStretch =
     (keeps : Bool) (programme : ProgrammeValue) (transmission : Transmission)
@@ -241,7 +242,8 @@ LawOfRepeatedStretch =
     → MayBeTrustedWithRepeats keeps programme transmission options a b)
 
 -- In all frames of a transmission that is good under the options, receivers recover, and the
--- expected page is on their screens. A transmission of valid subtitles meets all guarantees.
+-- expected page is on their screens at each frame end with a correct page that has ended. A
+-- transmission of valid subtitles meets all guarantees.
 abbrev pub LawOfGoodWithRepeats : Type 0
 LawOfGoodWithRepeats =
     (keeps : Bool) (programme : ProgrammeValue) (transmission : Transmission)

@@ -1,5 +1,5 @@
--- Reception by `listen` ends at the end of the file, at a fault, after TIME, or before a page
--- header that is listed as lost.
+-- Reception by `listen` ends at the end of the file, at a fault, after TIME, or before a packet
+-- that is listed as lost but must not be lost.
 use Rattle.std.proofs.lemmas.Bool.Decides.{nat_tests}
 use Rattle.std.proofs.Common.{◌≡◌, ◌∙◌, ap, refl, sym, subst, arith, add-one, ℕ, zero, suc, ◌+◌}
 use Rattle.std.proofs.Common.{◌<◌, ◌≤◌, ◌==◌, ◌&&◌, not, cond, inl, inr, true, List, ◌++◌, length}
@@ -34,7 +34,7 @@ use Rattle.sub_listen.specs.Run.{ReceivesFile, IsReceivedPesPacket}
 use Rattle.sub_listen.specs.Run.{RefusesAfterPesPacket, first_in_frame, least_frame_after}
 use Rattle.sub_listen.specs.Run.{least_frame}
 use Rattle.sub_listen.specs.Run.{sent_in_frame}
-use Rattle.sub_listen.specs.Reception.{ReceivesPackets, packets_used_by, first_lost_header}
+use Rattle.sub_listen.specs.Reception.{ReceivesPackets, packets_used_by, first_forbidden_loss}
 use Rattle.sub_listen.specs.Reception.{reception_of}
 use Rattle.sub_listen.proofs.ReceptionLemmas.{packets_used_by-append}
 use Rattle.sub_request.specs.declared.listening.Listening.{Listening}
@@ -199,14 +199,15 @@ module _
                 reached.sent_count_is_current
                 reached.least_frame_is_current next.sent.frame_eq
 
-            -- If a page header of the next frame is listed as lost, reception ends with the fault
-            -- `LostHeader`.
+            -- If a packet of the next frame is listed as lost but must not be lost, reception ends
+            -- with the fault `LostHeader`.
             pub ends_lost :
                 (before place : ℕ)
                 → before ≡ cond (not (l.options.within == 0) && (frame == least)) sent 0
                 → least ≤ frame
                 → frame ≤ l.at
-                → first_lost_header (reception_of l) number (packets_of_units v.units) ≡ Some place
+                → first_forbidden_loss (reception_of l) number (packets_of_units v.units)
+                ≡ Some place
                 → ReceivesFile leaves l frames unread reported left w old now
                 (Err (fault.LostHeader frame (before + place)))
             ends_lost before place first rises in_time lost =
@@ -222,7 +223,7 @@ module _
                 → before ≡ cond (not (l.options.within == 0) && (frame == least)) sent 0
                 → least ≤ frame
                 → frame ≤ l.at
-                → first_lost_header (reception_of l) number (packets_of_units v.units) ≡ None
+                → first_forbidden_loss (reception_of l) number (packets_of_units v.units) ≡ None
                 → left ≡ Some (rest_after_pes_packet reached.rest)
                 → ReceivesPackets l leaves w now
                 (packets_used_by l number (packets_of_units v.units)) after

@@ -9,7 +9,7 @@ use Rattle.std.proofs.lemmas.List.{drop_more}
 use Rattle.std.proofs.lemmas.List.Elements.{filter-append}
 use Rattle.ttx_packet.specs.PacketAddress.{address}
 use Rattle.sub_listen.specs.Reception.{Reception, packets_used_by, arriving_packets}
-use Rattle.sub_listen.specs.Reception.{first_lost_header, is_lost_packet}
+use Rattle.sub_listen.specs.Reception.{first_forbidden_loss, is_lost_packet}
 use Rattle.sub_listen.specs.Reception.{may_be_lost_at}
 use Rattle.sub_request.specs.declared.listening.Listening.{Listening}
 
@@ -43,11 +43,11 @@ packets_from_index_unfold ps k p l is = drop_more ps k [] l ∙ ap (λ (x : List
 
 -- ---- the first packet that is listed as lost but must not be lost
 
-pub first_lost_header-none : (r : Reception) (number : ℕ) (packets : List (List ℕ))
+pub first_forbidden_loss-none : (r : Reception) (number : ℕ) (packets : List (List ℕ))
     → r.lost ≡ []
-    → first_lost_header r number packets ≡ None
-first_lost_header-none r number [] e = refl
-first_lost_header-none r number (packet ∷ packets) e =
+    → first_forbidden_loss r number packets ≡ None
+first_forbidden_loss-none r number [] e = refl
+first_forbidden_loss-none r number (packet ∷ packets) e =
     grind (
       arith,
       nat_tests,
@@ -56,7 +56,7 @@ first_lost_header-none r number (packet ∷ packets) e =
       not,
       Some,
       option_map,
-      first_lost_header-none r (number + 1) packets e,
+      first_forbidden_loss-none r (number + 1) packets e,
     )
 
 later_place_is_shifted : (k : ℕ) (found : Option ℕ)
@@ -68,22 +68,22 @@ later_place_is_shifted k (Some place) = let e : place + 1 + k ≡ place + (k + 1
 
 module _ (r : Reception) (number : ℕ) (ps : List (List ℕ)) (k : ℕ) (p : List ℕ)
     (l : k < length ps) (is : p ≡ get_or ps k [])
-    (left : first_lost_header r number ps
-    ≡ option_map (λ place. place + k) (first_lost_header r (number + k) (drop k ps))) where
-  pub lost_header_is_first : (is_lost_packet r (number + k) && not (may_be_lost_at (address p))) ≡
-      true
-      → Some k ≡ first_lost_header r number ps
-  lost_header_is_first lost =
+    (left : first_forbidden_loss r number ps
+    ≡ option_map (λ place. place + k) (first_forbidden_loss r (number + k) (drop k ps))) where
+  pub forbidden_loss_is_first :
+      (is_lost_packet r (number + k) && not (may_be_lost_at (address p))) ≡ true
+      → Some k ≡ first_forbidden_loss r number ps
+  forbidden_loss_is_first lost =
       let on : 0 + k ≡ k = omega arith in
       sym (left ∙ rw (packets_from_index_unfold ps k p l is, lost) (ap Some on))
 
-  pub lost_header_is_later : (is_lost_packet r (number + k) && not (may_be_lost_at (address p))) ≡
-      false
-      → first_lost_header r number ps
-      ≡ option_map (λ place. place + (k + 1)) (first_lost_header r (number + (k + 1))
+  pub forbidden_loss_is_later :
+      (is_lost_packet r (number + k) && not (may_be_lost_at (address p))) ≡ false
+      → first_forbidden_loss r number ps
+      ≡ option_map (λ place. place + (k + 1)) (first_forbidden_loss r (number + (k + 1))
       (drop (k + 1) ps))
-  lost_header_is_later kept =
+  forbidden_loss_is_later kept =
       let on : number + (k + 1) ≡ number + k + 1 = omega arith in
       left
       ∙ rw (packets_from_index_unfold ps k p l is, kept, on)
-      (later_place_is_shifted k (first_lost_header r (number + k + 1) (drop (k + 1) ps)))
+      (later_place_is_shifted k (first_forbidden_loss r (number + k + 1) (drop (k + 1) ps)))

@@ -105,12 +105,12 @@ may_be_lost_at None = false
 may_be_lost_at (Some a) = not (a.packet_number == 0)
 
 -- The index, in a list of packets, of the first packet that is listed as lost but must not be lost.
-abbrev pub first_lost_header : Reception → ℕ → List (List ℕ) → Option ℕ
-first_lost_header r number [] = None
-first_lost_header r number (packet ∷ packets) =
+abbrev pub first_forbidden_loss : Reception → ℕ → List (List ℕ) → Option ℕ
+first_forbidden_loss r number [] = None
+first_forbidden_loss r number (packet ∷ packets) =
     if is_lost_packet r number && not (may_be_lost_at (address packet))
     then Some 0
-    else option_map (λ place. place + 1) (first_lost_header r (number + 1) packets)
+    else option_map (λ place. place + 1) (first_forbidden_loss r (number + 1) packets)
 
 -- The receiver that `listen` simulates is a receiver to which the law of repeats applies. If the
 -- user requests it, the receiver starts again at each header of its page; otherwise it follows the

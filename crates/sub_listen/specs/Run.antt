@@ -18,7 +18,7 @@ use Rattle.sub_rules.specs.FrameRules.{UnreadReason, frame_at, packets_before, p
 use Rattle.sub_rules.specs.PesReading.{ReadsAs}
 use Rattle.sub_rules.specs.Transmission.{Transmission}
 use Rattle.sub_rules.specs.declared.fault.CheckFault.TheVariants as check
-use Rattle.sub_listen.specs.Reception.{ReceivesPackets, packets_used_by, first_lost_header}
+use Rattle.sub_listen.specs.Reception.{ReceivesPackets, packets_used_by, first_forbidden_loss}
 use Rattle.sub_listen.specs.Reception.{reception_of}
 use Rattle.sub_listen.specs.declared.listening.ListenFault.{ListenFault}
 use Rattle.sub_listen.specs.declared.listening.ListenFault.TheVariants as fault
@@ -50,9 +50,9 @@ least_frame within frames (suc i) = least_frame_after within (frame_at frames i)
 
 -- PES packet i of the list belongs to the same frame as the PES packet before it, and `within` is
 -- not 0.
-abbrev pub is_in_same_frame : ℕ → Transmission → ℕ → Bool
-is_in_same_frame within frames zero = false
-is_in_same_frame within frames (suc i) =
+abbrev pub joins_previous_frame : ℕ → Transmission → ℕ → Bool
+joins_previous_frame within frames zero = false
+joins_previous_frame within frames (suc i) =
     not (within == 0) && (frame_at frames (suc i) == frame_at frames i)
 
 -- The number of Teletext packets, in the first n PES packets, that belong to the same frame as PES
@@ -60,13 +60,13 @@ is_in_same_frame within frames (suc i) =
 abbrev pub sent_in_frame : ℕ → Transmission → ℕ → ℕ
 sent_in_frame within frames zero = 0
 sent_in_frame within frames (suc i) =
-    (if is_in_same_frame within frames i then sent_in_frame within frames i else 0)
+    (if joins_previous_frame within frames i then sent_in_frame within frames i else 0)
     + length (packets_of_frame frames i)
 
 -- The index, within its frame, of the first Teletext packet of PES packet i.
 abbrev pub first_in_frame : ℕ → Transmission → ℕ → ℕ
 first_in_frame within frames i =
-    if is_in_same_frame within frames i then sent_in_frame within frames i else 0
+    if joins_previous_frame within frames i then sent_in_frame within frames i else 0
 
 -- The index, within the whole file, of the first Teletext packet of PES packet i.
 abbrev pub first_packet_number : Transmission → ℕ → ℕ
@@ -74,27 +74,30 @@ first_packet_number frames i = length (packets_before frames i)
 
 -- The index, within its frame, of the first Teletext packet of PES packet i that is listed as lost
 -- but must not be lost.
-abbrev pub lost_header : Listening → Transmission → ℕ → Option ℕ
-lost_header l frames i =
+abbrev pub forbidden_loss : Listening → Transmission → ℕ → Option ℕ
+forbidden_loss l frames i =
     option_map (λ place. first_in_frame l.options.within frames i + place)
-    (first_lost_header (reception_of l) (first_packet_number frames i) (packets_of_frame frames i))
+    (first_forbidden_loss (reception_of l) (first_packet_number frames i)
+    (packets_of_frame frames i))
 
 -- PES packet i is received: its frame is after the frame of the PES packet before it (or the same
--- frame, if `within` is not 0) and not after TIME, and none of its page headers is listed as lost.
+-- frame, if `within` is not 0) and not after TIME, and none of its packets is listed as lost but
+-- must not be lost.
 pub record IsReceivedPesPacket (l : Listening) (frames : Transmission) (i : ℕ) : Type 0 where
   pub there : i < length frames
   pub rises : least_frame l.options.within frames i ≤ frame_at frames i
   pub in_time : frame_at frames i ≤ l.at
   pub whole :
-      first_lost_header (reception_of l) (first_packet_number frames i) (packets_of_frame frames i)
+      first_forbidden_loss (reception_of l) (first_packet_number frames i)
+      (packets_of_frame frames i)
       ≡ None
 
 -- The first n PES packets of the list are received.
 abbrev pub AreReceivedPesPackets : Listening → Transmission → ℕ → Type 0
 AreReceivedPesPackets l frames n = (i : ℕ) → i < n → IsReceivedPesPacket l frames i
 
--- Reception ends after n PES packets: the file ends, or the frame of the next PES packet is after
--- TIME.
+-- Reception ends after n PES packets: the file ends without a fault, or the frame of the next PES
+-- packet is not too early (`least_frame`) and is after TIME.
 abbrev pub EndsAfterPesPacket : Listening → Transmission → Option UnreadReason → ℕ → Type 0
 EndsAfterPesPacket l frames unread n =
     ((n ≡ length frames) × (unread ≡ None))
@@ -102,8 +105,8 @@ EndsAfterPesPacket l frames unread n =
     × (l.at < frame_at frames n))
 
 -- Reception fails after n PES packets: the next PES packet can't be read, its frame is not after
--- the frame before (or is before it, if `within` is not 0), or one of its page headers is listed as
--- lost.
+-- the frame before (or is before it, if `within` is not 0), or one of its packets is listed as lost
+-- but must not be lost.
 abbrev pub RefusesAfterPesPacket : Listening → Transmission → Option UnreadReason → ℕ → ListenFault
     → Type 0
 RefusesAfterPesPacket l frames unread n (fault.File (check.Order index)) =
@@ -114,7 +117,7 @@ RefusesAfterPesPacket l frames unread n (fault.LostHeader frame packet) =
     × (frame_at frames n ≡ frame)
     × (least_frame l.options.within frames n ≤ frame)
     × (frame ≤ l.at)
-    × (lost_header l frames n ≡ Some packet)
+    × (forbidden_loss l frames n ≡ Some packet)
 RefusesAfterPesPacket l frames unread n f =
     (u : UnreadReason) × (n ≡ length frames) × (unread ≡ Some u)
     × (f ≡ fault.File (unread_fault n (Some u)))

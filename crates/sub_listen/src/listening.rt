@@ -13,7 +13,7 @@ ghost use Rattle.sub_rules.specs.PesReading.{ReadsAs};
 ghost use Rattle.sub_rules.specs.Transmission.{Transmission};
 ghost use Rattle.sub_listen.specs.declared.listening.ListenFault.TheVariants.{File};
 
-use crate::reception::{first_lost_header, hear_units};
+use crate::reception::{first_forbidden_loss, hear_units};
 use sub_io::{FaultCode, Source};
 use sub_request::Listening;
 use sub_rules::{CheckFault, NextPesPacket, next_pes_packet};
@@ -149,7 +149,7 @@ pub fn listen_pes_packets<R: Receiver + Drop, P: PesPackets>(
         let within = listening.options.within();
         let before = first_in_frame(within, frame, least, sent);
         let units = reader.units();
-        if let Some(place) = first_lost_header(listening, number, &units) {
+        if let Some(place) = first_forbidden_loss(listening, number, &units) {
             let packet = before + place;
             return Err(ListenFault::LostHeader { frame, packet });
         }

@@ -10,7 +10,8 @@ ghost use Rattle.ttx_page.specs.Screen.{Display, display};
 ghost use Rattle.ttx_pes.specs.PesGrammar.{max_units};
 ghost use Rattle.sub_rules.specs.PacketRules.{packets_of_units};
 ghost use Rattle.sub_listen.specs.Reception.{ReceivesPackets, packets_used_by, restarts_at_header};
-ghost use Rattle.sub_listen.specs.Reception.{first_lost_header, is_received_packet, is_lost_packet};
+ghost use Rattle.sub_listen.specs.Reception.{first_forbidden_loss, is_lost_packet};
+ghost use Rattle.sub_listen.specs.Reception.{is_received_packet};
 ghost use Rattle.sub_listen.specs.Reception.{is_packet_used};
 ghost use Rattle.sub_listen.specs.Reception.{may_be_lost_at, reception_of};
 ghost use Rattle.sub_request.specs.Flips.{with_flip, with_flips};
@@ -23,10 +24,14 @@ use ttx_pes::SentUnits;
 /// Returns the index of the first packet of a PES packet that is listed as lost but must not be
 /// lost, since it is a page header or its address can't be decoded. `number` is the index of the
 /// PES packet's first packet within the file.
-pub fn first_lost_header(listening: &Listening, number: u64, units: &SentUnits<'_>) -> Option<u32>
+pub fn first_forbidden_loss(
+    listening: &Listening,
+    number: u64,
+    units: &SentUnits<'_>,
+) -> Option<u32>
     requires few { length units.now ≤ max_units }
     requires number { number + max_units < u64.MAX }
-    ensures value { result ≡ first_lost_header (reception_of listening.now) number
+    ensures value { result ≡ first_forbidden_loss (reception_of listening.now) number
         (packets_of_units units.now) }
     ensures place { IfSome result (λ place. place < max_units) }
 {
@@ -34,7 +39,7 @@ pub fn first_lost_header(listening: &Listening, number: u64, units: &SentUnits<'
         return None;
     }
     for k in 0..units.len() {
-        if is_lost_header(listening, number + k as u64, &units.packet(k)) {
+        if is_forbidden_loss(listening, number + k as u64, &units.packet(k)) {
             return Some(k as u32);
         }
     }
@@ -164,7 +169,7 @@ fn restart_at_header<R: Receiver + Drop>(receiver: &mut R, header: &Packet)
 }
 
 // Returns whether a packet is listed as lost but must not be lost.
-fn is_lost_header(listening: &Listening, number: u64, packet: &SentPacket<'_>) -> bool
+fn is_forbidden_loss(listening: &Listening, number: u64, packet: &SentPacket<'_>) -> bool
     ensures { result
         ≡ (is_lost_packet (reception_of listening.now) number
         && not (may_be_lost_at (address packet.now))) }

@@ -89,7 +89,8 @@ next_pes_packet_is_counted (suc k) b size e =
               rw same (omega (arith, one, before, others));
         }
 
--- The PES packets at the start of some bytes, followed by the remaining bytes, are all these bytes.
+-- If bytes begin with at least k PES packets, the first k packets, followed by the remaining bytes,
+-- are all these bytes.
 pub packets_and_rest_make_bytes : (k : ℕ) (b : List ℕ)
     → count_pes_packets k b ≡ k
     → first_pes_packets k b ++ rest_after_pes_packets k b ≡ b

@@ -30,7 +30,7 @@ use Rattle.stl_file.specs.declared.fault.StlFault.{StlFault}
 use Rattle.stl_file.specs.declared.progress.Progress.TheVariants as progress
 use Rattle.sub_listing.specs.Faults.{kind_of_failure, stl_line}
 use Rattle.sub_listing.specs.DeviceCall.{Counts, SinkCall, SourceCall}
-use Rattle.sub_listing.specs.Listing.{YieldsResults, IsEndless, ListingRelation, Listing, Lists}
+use Rattle.sub_listing.specs.Listing.{ListsNext, IsEndless, ListingRelation, Listing, Lists}
 use Rattle.sub_listing.specs.Listing.{PrintsListing}
 use Rattle.sub_listing.specs.Listing.{PrintsOrFails, followed, has_failed}
 use Rattle.sub_listing.specs.Lines.{number_in_file}
@@ -90,7 +90,7 @@ pub prefix-more :
     (Before At PreviousPes : ListingRelation)
     (reported left rest old now new : Option (List ℕ)) (text : List ℕ)
     → IsPrefix Before At reported left old now
-    → YieldsResults At PreviousPes left rest text None
+    → ListsNext At PreviousPes left rest text None
     → Appends now new text
     → IsPrefix Before PreviousPes reported rest old new
 prefix-more Before At PreviousPes reported left rest old now new text i gives p = record {
@@ -106,7 +106,7 @@ pub prefix-end :
     (left now : Option (List ℕ)) (text : List ℕ)
     (status : Status)
     → IsPrefix Before At source.known left out.old now
-    → YieldsResults At PreviousPes left source.left text (Some status)
+    → ListsNext At PreviousPes left source.left text (Some status)
     → Appends now out.new text
     → out.new_count ≡ out.old_count
     → CountRisesIf source.old_count (has_failed (Some status)) source.new_count
@@ -127,7 +127,7 @@ pub prefix-cut :
     (left now : Option (List ℕ)) (text : List ℕ)
     (end : Option Status)
     → IsPrefix Before At source.known left out.old now
-    → YieldsResults At PreviousPes left source.left text end
+    → ListsNext At PreviousPes left source.left text end
     → AppendsPrefix now out.new text
     → out.new_count ≡ out.old_count + 1
     → CountRisesIf source.old_count (has_failed end) source.new_count
@@ -183,8 +183,8 @@ prefix-stopped Before At source out left now i cut kept risen counted = record {
   );
 }
 
--- If the sink failed before the next PES packet or subtitle was read, the listing has some rest,
--- which was not printed.
+-- If the sink failed before the next PES packet or subtitle was read, there is a listing of the
+-- remaining file. If the remaining bytes are known, they determine it.
 pub lists-some :
     (O : Type 0) (listing_of : O → Listing) (given : List ℕ → O)
     (Takes : Bool → Option (List ℕ) → O → Option (List ℕ) → Type 0)
@@ -220,7 +220,7 @@ pub gives-next :
     → IfKnown reported (λ bytes.
     (rest : List ℕ) × (left ≡ Some rest) × (given bytes ≡ pes_packet (given' rest)))
     → O
-    → YieldsResults (Lists before given Takes) (Lists after given' Takes') reported left text None
+    → ListsNext (Lists before given Takes) (Lists after given' Takes') reported left text None
 gives-next O before after given given' Takes Takes' pes_packet reported left text lines reports
     reads o =
     grind (arith, nat_tests, lists-some)
@@ -243,7 +243,7 @@ pub gives-packet :
     → index ≤ max_pes_packets
     → ReportsPacket (Reading index) reported left (Ok (Some v))
     → text ≡ pes_packet_lines (number_in_file first index) v
-    → YieldsResults (Lists (pes_listing first index) (outcome_after index) ReadsPackets)
+    → ListsNext (Lists (pes_listing first index) (outcome_after index) ReadsPackets)
     (Lists (pes_listing first (index + 1)) (outcome_after (index + 1)) ReadsPackets) reported left
     text
     None
@@ -286,7 +286,7 @@ pub gives-opened :
     → Consumes reported left r.gsi
     → IfKnown reported (λ bytes. left ≡ Some (drop gsi_size bytes))
     → IfKnown reported (λ bytes. open_result bytes ≡ Ok r)
-    → YieldsResults (ListsFrom None count) (ListsFrom (Some r) count) reported left [] None
+    → ListsNext (ListsFrom None count) (ListsFrom (Some r) count) reported left [] None
 unfolding findings_within_scope
 gives-opened count r reported left start reading gsi taken rest opened =
     gives-next _ (subtitles_listing count) (subtitles_listing count) outcome_of_file
@@ -311,7 +311,7 @@ pub gives-refused :
     f)
     → (stl_fault.is_file_read_failure f ≡ true
     → (bytes : List ℕ) × (length bytes < gsi_size) × Consumes reported left bytes)
-    → (stl_fault.is_format_fault f ≡ true → RefusesOpening reported left f)
+    → (stl_fault.is_file_format_fault f ≡ true → RefusesOpening reported left f)
     → ListsFrom None count reported left
     (Some (status_of (kind_of_failure (stl_fault.is_file_read_failure f))))
     (record {

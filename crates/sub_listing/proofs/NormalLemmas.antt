@@ -21,7 +21,8 @@ use Rattle.stl_file.proofs.FileLemmas.{outcome_of_file-first}
 use Rattle.sub_listing.specs.Writing.{ReportsRead, read_limit}
 use Rattle.sub_listing.specs.declared.normal.InputFault.TheVariants as input
 
--- If the first 12,800,897 bytes of a file are a complete subtitle file, the file has no more bytes.
+-- If the first 12,800,897 bytes of a file are a complete subtitle file, the entire file is that
+-- subtitle file.
 first-is_file : (s : List ℕ) (ts : List SubtitleValue)
     → IsFile (take read_limit s) (take gsi_size (take read_limit s)) ts
     → IsFile s (take gsi_size s) ts

@@ -118,13 +118,13 @@ pub record PrintsListing
 -- The next PES packet or subtitle was read, and `text` contains its lines. Either any listing of
 -- the bytes after it, and there is at least one, may follow these lines; or the listing ends with
 -- these lines.
-abbrev pub YieldsResults : ListingRelation → ListingRelation
+abbrev pub ListsNext : ListingRelation → ListingRelation
     → Option (List ℕ) → Option (List ℕ) → List ℕ → Option Status → Type 0
-YieldsResults Before After known left text None =
+ListsNext Before After known left text None =
     ((end : Option (List ℕ)) (ending : Option Status) (more : Listing)
     → After left end ending more → Before known end ending (followed text more))
     × ((more : Listing) × After left left None more)
-YieldsResults Before After known left text (Some status) =
+ListsNext Before After known left text (Some status) =
     Before known left (Some status) (record { text = text; status = status })
 
 -- The sink failed before the next PES packet or subtitle was read, so the listing has no end.

@@ -35,8 +35,8 @@ can_fail count = nat_lt count 0xFFFF_FFFF_FFFF_FFFF
 unfoldable pub counted : ℕ → ℕ → ℕ
 counted fault_count more = min (fault_count + more) max_fault_count
 
--- An event was reported to a printer whose sink had not failed. Its line was written, and a fault
--- was counted; or the sink failed once, and received a prefix of the line.
+-- An event was reported to a printer whose sink had not failed. Its line was written, and it was
+-- counted if it is a fault; or the sink failed once, and received a prefix of the line.
 pub record PrintsEvent (old : PrinterValue) (event : Event) (new : PrinterValue) : Type 0 where
   pub continues : old.failed ≡ false
   pub keeps_first_number : new.first ≡ old.first
@@ -48,8 +48,8 @@ pub record PrintsEvent (old : PrinterValue) (event : Event) (new : PrinterValue)
       new.failed ≡ true → AppendsPrefix old.contents new.contents (event_line old.first event)
   pub counts_failure : new.failed ≡ true → new.count ≡ old.count + 1
 
--- Several events were reported to a printer whose sink had not failed: all their lines were
--- written, or the sink failed and received a prefix of them.
+-- Several events were reported to a printer: all their lines were written, and the faults among
+-- them were counted; or the sink failed once, and received a prefix of the lines.
 pub record PrintsEvents (old : PrinterValue) (events : List Event) (new : PrinterValue) : Type 0
   where
     pub keeps_first_number : new.first ≡ old.first

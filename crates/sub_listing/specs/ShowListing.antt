@@ -2,7 +2,7 @@
 use Rattle.std.specs.Io.KnownBytes.{Consumes}
 use Rattle.std.specs.Prelude.{◌≡◌, ◌⊎◌, ℕ, ◌+◌, ◌<◌, List, codes, decimal, ◌++◌, length, Option}
 use Rattle.std.specs.Prelude.{Bool, true, false, None, Some, ◌-◌, ◌≤◌}
-use Rattle.stl_file.specs.Fault.{is_format_fault, is_file_read_failure}
+use Rattle.stl_file.specs.Fault.{is_file_format_fault, is_file_read_failure}
 use Rattle.stl_file.specs.Gsi.{IsGsi, gsi_size}
 use Rattle.stl_file.specs.Reader.{FailsReading, Refuses, RefusesOpening, ConsumesSkippedBlocks}
 use Rattle.stl_file.specs.Reader.{ReaderValue}
@@ -26,7 +26,7 @@ ReadsSubtitles failed from known ends left =
 ReadsSubtitles failed from known (fails f block) left =
     (is_file_read_failure f ≡ failed)
     × (failed ≡ true → FailsReading whole from block None known left)
-    × (is_format_fault f ≡ true → Refuses from block known left f)
+    × (is_file_format_fault f ≡ true → Refuses from block known left f)
 ReadsSubtitles failed from known (gives s block more) left =
     (following : Option (List ℕ)) × ConsumesSubtitle from block known following s
     × ReadsSubtitles failed block following more left
@@ -40,7 +40,7 @@ pub record ReadsWithoutGsi (failed : Bool) (known : Option (List ℕ)) (outcome 
   pub read : is_file_read_failure fault ≡ failed
   pub failure :
       failed ≡ true → (bytes : List ℕ) × (length bytes < gsi_size) × Consumes known left bytes
-  pub refused : is_format_fault fault ≡ true → RefusesOpening known left fault
+  pub refused : is_file_format_fault fault ≡ true → RefusesOpening known left fault
 
 -- The outcome of reading a subtitle file: a GSI block and the subtitles after it, or a fault in the
 -- GSI block.

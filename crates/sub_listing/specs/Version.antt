@@ -3,4 +3,4 @@ use Rattle.std.specs.Prelude.{ℕ, List, codes}
 
 -- The line that `--version` prints.
 unfoldable pub version_text : List ℕ
-version_text = codes "subttx 3.0.0\n"
+version_text = codes "subttx 4.0.0\n"

@@ -6,7 +6,7 @@ ghost use Rattle.std.specs.Borrow.{GName};
 ghost use Rattle.sub_io.specs.Device.{CountsFailureIf};
 ghost use Rattle.sub_listing.specs.DeviceCall.{CanFail, CountsFault, read_call, sink_call};
 ghost use Rattle.sub_listing.specs.LastLine.{BuffersLastLineOnly, IsAlone};
-ghost use Rattle.sub_listing.specs.Listing.{YieldsResults, IsEndless, ListingRelation};
+ghost use Rattle.sub_listing.specs.Listing.{ListsNext, IsEndless, ListingRelation};
 ghost use Rattle.sub_listing.specs.Listing.{PrintsListing};
 ghost use Rattle.sub_listing.specs.Listing.{has_failed};
 ghost use Rattle.sub_listing.specs.Printer.{StaysPrinted, printer_value};
@@ -32,7 +32,7 @@ pub trait Lister<I> {
     ghost ready: { Self → Type 0 };
 
     /// The maximum number of PES packets or subtitles that the lister can still list.
-    ghost pes_packets: { Self → ℕ };
+    ghost items_left: { Self → ℕ };
 
     /// The listings that are possible from the lister's current state.
     ghost lists: { Self → ListingRelation };
@@ -75,13 +75,13 @@ pub trait Lister<I> {
             printer.old.fault_count printer.old.failed printer.old.first)
             (printer_value (K.contents printer.new.out.now) (K.failure_count printer.new.out.now)
             printer.new.fault_count printer.new.failed printer.new.first) }
-        ensures gives { printer.new.failed ≡ false → YieldsResults (lists self.old) (lists self.new)
+        ensures gives { printer.new.failed ≡ false → ListsNext (lists self.old) (lists self.new)
             (known input.old) (left input.new) text.new.items result }
         ensures settled { printer.new.failed ≡ false → result ≡ None
             → left input.new ≡ known input.new }
         ensures ready { printer.new.failed ≡ false → result ≡ None → ready self.new }
         ensures items_decrease { printer.new.failed ≡ false → result ≡ None
-            → pes_packets self.new < pes_packets self.old }
+            → items_left self.new < items_left self.old }
         ensures count { printer.new.failed ≡ false
             → CountsFailureIf failure_count input.old (has_failed result) input.new }
         ensures cut { printer.new.failed ≡ true

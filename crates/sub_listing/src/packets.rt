@@ -100,7 +100,7 @@ impl PacketLister {
 impl<P: PesPackets> Lister<P> for PacketLister {
     ghost ready = { λ l. (l.reader.progress ≡ Reading l.index) × (l.index ≤ max_pes_packets) };
 
-    ghost pes_packets = { λ l. max_pes_packets - l.index };
+    ghost items_left = { λ l. max_pes_packets - l.index };
 
     ghost lists = { λ l. Lists (pes_listing l.first l.index) (outcome_after l.index) ReadsPackets };
 

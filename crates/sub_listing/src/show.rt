@@ -57,7 +57,7 @@ impl SubtitleLister {
 impl<S: Source> Lister<S> for SubtitleLister {
     ghost ready = { λ l. IsReady l.reader l.count };
 
-    ghost pes_packets = { λ l. blocks_left l.reader };
+    ghost items_left = { λ l. blocks_left l.reader };
 
     ghost lists = { λ l. ListsFrom l.reader l.count };
 

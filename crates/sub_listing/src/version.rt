@@ -9,7 +9,7 @@ use crate::status::Status;
 use sub_io::Sink;
 
 // The line that `--version` prints: the contents of the file VERSION.
-const VERSION: &[u8] = b"subttx 3.0.0\n";
+const VERSION: &[u8] = b"subttx 4.0.0\n";
 
 /// Prints the name and the version of the program.
 pub fn print_version<K: Sink>(out: &mut K) -> Status

@@ -57,7 +57,8 @@ module _ (heard : List (List ℕ)) (p : List ℕ) (s : Listener) (read : Option 
       rw (has_row-push s.watched.page heard p row, is)
       (get_or-replicate 24 (row - 1) false false (omega arith))
 
-  -- A header that erases the page opens it and clears the set of received rows.
+  -- A header that erases the page opens it, clears the sets of received rows, and makes the stored
+  -- page blank.
   pub erasing_header_keeps_knowledge : (h : Header) → kind s.watched.page p ≡ ThisPage h
       → (c4 h || not s.watched.keeps) ≡ true
       → Knows (heard ++ p ∷ []) (record s {
@@ -82,7 +83,8 @@ module _ (heard : List (List ℕ)) (p : List ℕ) (s : Listener) (read : Option 
     again_is = header_leaves_no_row_repeated h is;
   }
 
-  -- A header with C4 (erase page) clear opens the page and keeps the received rows.
+  -- If repeats may have C4 (erase page) clear, a header with C4 clear opens the page and keeps the
+  -- received rows, but clears the set of rows received since the last header.
   pub repeating_header_keeps_knowledge : (h : Header) → kind s.watched.page p ≡ ThisPage h
       → (c4 h || not s.watched.keeps) ≡ false
       → Knows (heard ++ p ∷ []) (record s {
@@ -185,7 +187,7 @@ module _ (heard : List (List ℕ)) (p : List ℕ) (s : Listener) (read : Option 
               page = set s.comparison.page (y - 1) (codes_of p);
             };
           })
-      new_row_keeps_knowledge new long double_not_in_row_23 = record {
+      new_row_keeps_knowledge new long page_has_24_rows = record {
         serial_eq = first_serial_mode_is_updated;
         open_eq = row_keeps_page_open;
         subcode_eq = other_packet_keeps_subcode;

@@ -90,8 +90,8 @@ module _ (w : Watched) (heard : List (List ℕ)) (p : List ℕ) where
       let none = no_enhancement w p (λ e. let both = sym k ∙ e in cc) in
       rw (k, none) (grind (arith, nat_tests))
 
-  -- Of the rules from `Control` on, a packet that is neither a header nor a row can break only
-  -- `Enhancement`.
+  -- Of the rules from `Control` on, a packet that neither begins nor ends the page and is no row of
+  -- it can break only `Enhancement`.
   pub other_packet_breaks_enhancement_rule_only : kind w.page p ≡ Other
       → rule_set (λ r. breaks r w heard p) (drop 3 packet_rules)
       ≡ 8 * cond (is_open_after (kind w.page) heard && is_enhancement_address w.page (address p)) 1
@@ -99,7 +99,8 @@ module _ (w : Watched) (heard : List (List ℕ)) (p : List ℕ) where
   unfolding breaks rule_set packet_rules
   other_packet_breaks_enhancement_rule_only k = rw k (grind (arith, nat_tests))
 
-  -- Of the later rules, a row of the open page can break only `Parity` and `RowChanged`.
+  -- Of the rules from `Control` on, a row of the page can break only `Parity` and `RowChanged`, and
+  -- breaks none if the page is not open.
   pub row_breaks_row_rules_only : (y : ℕ) (o : Option (List ℕ)) → kind w.page p ≡ Row y
       → o ≡ first_packet_of_row w.page (text_span w.keeps (kind w.page) heard) y
       → rule_set (λ r. breaks r w heard p) (drop 3 packet_rules)

@@ -96,11 +96,11 @@ module _
         → HaveSameContent w (heard ++ first ∷ more) ((heard ++ first ∷ others) ++ first ∷ more)
     alike others more =
         let h = header_from_numbers w first is in
-        let row_or_blank = or_left _ _ is_header in
+        let has_header = or_left _ _ is_header in
         let begun = or_left _ _ is in
         let after =
-        after-append (kind w.page) heard (first ∷ more) row_or_blank
-        ∙ sym (after-append (kind w.page) (heard ++ first ∷ others) (first ∷ more) row_or_blank) in
+        after-append (kind w.page) heard (first ∷ more) has_header
+        ∙ sym (after-append (kind w.page) (heard ++ first ∷ others) (first ∷ more) has_header) in
         record {
           header_eq =
               first_after heard more h.0 h.1
@@ -176,8 +176,8 @@ leading_header_is_a_beginning w ps begins =
     subst (λ (xs : List (List ℕ)). has_text_beginning w.keeps (kind w.page) xs ≡ true)
     (sym begins.packets_are) (or_left _ _ begins.is_header)
 
--- If the packets of the last PES packet broke no rule and are sent again, the listener's state
--- stays the same.
+-- If the packets of the last PES packet begin with a header that starts a new text, broke no rule,
+-- and are sent again, they break no rule again, and the listener's state stays the same.
 pub received_again :
     (heard last ps : List (List ℕ)) (headers : ℕ) (s : Listener)
     → KnowsLast heard last s
@@ -210,8 +210,9 @@ received_again heard last ps headers s known is same =
           (grind (arith, nat_tests))),
     )
 
--- After packets that begin with a header that erases the page and break no rule, the listener
--- stores their number of headers of the page.
+-- The listener's state agrees with the packets received last if it stores their number of headers
+-- of the page when they begin with a header that starts a new text and break no rule, and `None`
+-- otherwise.
 pub kept_last :
     (w : Watched) (heard ps : List (List ℕ)) (headers from : ℕ) (before begun begins clean : Bool)
     (s : Listener)

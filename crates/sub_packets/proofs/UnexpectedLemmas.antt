@@ -85,8 +85,9 @@ module _ (page : ℕ → Rows) (first f : ℕ) where
       ∙ sym (same (f - j) (omega arith) (omega arith))) in
       rw next (grind (arith, nat_tests))
 
-  -- No code is left that was expected at frame f or at one of the n frames before, because the
-  -- expected page did not change since the earliest of these frames.
+  -- If `left` lacks exactly the codes that were expected from frame `at` to frame f, and the
+  -- expected page did not change from frame f - n to frame `at`, `left` lacks exactly the codes
+  -- that were expected from frame f - n to frame f.
   pub constant_page_leaves_same_codes : (at n : ℕ) (shown left : Rows)
       → at ≤ f
       → f ≤ at + n

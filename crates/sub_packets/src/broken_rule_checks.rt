@@ -40,7 +40,7 @@ impl Listener {
         ensures { (heard : List (List ℕ)) → Knows heard self.now
             → result.0 ≡ rule_set (λ r. breaks r self.now.watched heard packet.now) packet_rules }
     {
-        self.broken_rules_after_header(packet, found)
+        self.broken_rules_from_control(packet, found)
             .with_earlier_rule(has_different_mode(self.serial, page_header))
             .with_earlier_rule(has_wrong_codes(packet, page_header))
             .with_earlier_rule(has_wrong_address(packet))
@@ -49,7 +49,7 @@ impl Listener {
     // Returns which of the rules from `Control` on the packet breaks. Only these depend on the kind
     // of the packet.
     #[inline(always)]
-    fn broken_rules_after_header(&self, packet: &Packet, found: PacketKind) -> RuleSet
+    fn broken_rules_from_control(&self, packet: &Packet, found: PacketKind) -> RuleSet
         requires kind { found ≡ kind self.now.watched.page packet.now }
         requires row { (row : ℕ) → found ≡ PacketKind.Row row → (1 ≤ row) × (row ≤ 24) }
         ensures small { result.0 < 0x10 }
@@ -84,8 +84,8 @@ impl Listener {
         is_erasing(header) || (self.watched.keeps && self.repeats_page(header))
     }
 
-    // Returns whether a header of the page repeats the page: it has the sub-code of the last
-    // header, and the page has ended if complete pages are required.
+    // Returns whether a header of the page counts as a repeat: it has the sub-code of the page's
+    // last header, if there is one; and if complete pages are required, the page is not open.
     fn repeats_page(&self, header: &Header) -> bool
         ensures { (heard : List (List ℕ)) → Knows heard self.now → result
             ≡ repeats_page self.now.watched.complete self.now.watched.page heard header.now }

@@ -249,8 +249,8 @@ impl Listener {
         self.skips_header(magazine, packet)
     }
 
-    // Returns whether a page header belongs to the page or ends it. Only the magazine and the page
-    // number are compared.
+    // Returns whether a page header in the page's magazine belongs to the page or, if the page is
+    // open, ends it. Only the magazine and the page number are compared.
     #[inline(always)]
     fn is_for_page(&self, is_open: bool, magazine: u8, packet: &SentPacket<'_>) -> bool
         ensures { magazine ≢ self.now.watched.page.magazine → result ≡ false }

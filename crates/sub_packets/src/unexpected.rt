@@ -71,8 +71,8 @@ fn earliest(first: u32, frame: u32, within: u32) -> u32
     if from < first { first } else { from }
 }
 
-// Returns the last frame before `at` with another expected page; `None` if that frame is before
-// `least`.
+// Returns the last frame before the last cue at or before `at`; `None` if there is no such cue, or
+// if that frame is before `least`.
 fn last_edge_before(programme: &Programme, at: u32, least: u32) -> Option<u32>
     ensures { MatchOption result
         ((f : ℕ) → least ≤ f → f ≤ at → due_page_in programme.now f ≡ due_page_in programme.now at)

@@ -79,7 +79,8 @@ equal_functions_flat_map_equally f g (x ∷ xs) h =
     )
     refl
 
--- Between a base and the next base, each page transmission has the page expected at the base.
+-- From a base (the first frame, or a frame where the expected page changes) until the page changes
+-- again or the last frame is reached, each page transmission sends the page expected at the base.
 pub stretch-bytes : (due : ℕ → Rows) (o : OptionsValue) (national : National) (serial : Bool)
     (first b end last : ℕ)
     → IsIntervalOfOnePage due first b end last

@@ -69,8 +69,9 @@ base_is_last_base-in : (due : ℕ → Rows) (first b end last f : ℕ) → IsInt
     → f < end → IsLastBase due first f b
 base_is_last_base-in due first b end last f s low high = grind (arith, nat_tests)
 
--- Between a base and the next base, a frame has a page transmission if its distance from the base
--- is a multiple of `every`.
+-- From a base (the first frame, or a frame where the expected page changes) until the page changes
+-- again or the last frame is reached, a frame has a page transmission exactly if its distance from
+-- the base is a multiple of `every`.
 is_sending-in : (due : ℕ → Rows) (every first b end last f : ℕ) → IsIntervalOfOnePage due first b
     end last
     → b ≤ f → f < end → is_sending due every first last f ≡ ((f - b) % every == 0)

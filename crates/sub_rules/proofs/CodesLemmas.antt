@@ -70,8 +70,8 @@ pub code_of_column :
     (p : List ℕ) (k : ℕ) → get_or (codes_of p) k 0 ≡ character_code (get_or p (k + 2) 0)
 code_of_column p k = grind (arith, nat_tests, code_of_commutes_with_get, get_or-drop)
 
--- Rows with correct addresses and odd parity are equal if they have the same codes. So a checker
--- need only store the codes of a row.
+-- Rows with correct addresses and odd parity are equal if they have the same address and the same
+-- codes. So a checker need only store the codes of a row.
 pub same_packet :
     (p q : List ℕ)
     → IsPacket p

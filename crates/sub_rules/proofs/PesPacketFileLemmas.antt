@@ -169,8 +169,9 @@ file_after_answer clock (Ok None) rest = record { frames = []; unread = None }
 file_after_answer clock (Ok (Some v)) rest =
     file_with (clock v.pts) (packets_of_units v.units) rest
 
--- A file that ends at its first skipped packet begins with the reader's result, like the entire
--- file.
+-- The frames before the first skipped PES packet are the frame of the reader's next PES packet,
+-- followed by those of the remaining file; there are none if the reader returns a fault or the end
+-- of the file.
 reading_until_skipped_follows_answer : (clock : Clock) (answer : Result (Option PesValue) PesFault)
     (rest : PesPacketFileValue)
     → file_until_first_skipped (pes_packets_after_answer clock answer rest)
@@ -186,7 +187,8 @@ file_until_skipped_follows_answer clock answer more =
     ap file_until_first_skipped (file_of-then clock answer more)
     ∙ reading_until_skipped_follows_answer clock answer (file_of_pes_packets clock more)
 
--- For a valid PES packet, both definitions of the bytes after it agree.
+-- After any result of the reader, the contents of the file are the same whether the remaining bytes
+-- are determined by the length field or by the parser.
 both_rests_give_the_same_file : (clock : Clock) (given : ℕ) (bytes : List ℕ)
     (answer : Result (Option PesValue) PesFault)
     → answer_at given bytes ≡ answer

@@ -231,9 +231,9 @@ was_undecided undecided first f (suc n) =
 abbrev pub is_undecided_within : Criteria → Transmission → ℕ → Bool
 is_undecided_within g frames f = was_undecided g.undecided (frame_at frames 0) f g.within
 
--- The first cell with a code that was not expected at frame f or at one of the `within` frames
--- before f, after n frames of the transmission. `None` if the expected page is unknown at one of
--- these frames.
+-- The first cell with a code, other than a space, that was not expected at frame f or at one of the
+-- `within` frames before f, after n frames of the transmission. `None` if the expected page is
+-- unknown at one of these frames.
 abbrev pub unexpected_cell : Criteria → Transmission → ℕ → ℕ → Option (ℕ × ℕ)
 unexpected_cell g frames n f =
     if is_undecided_within g frames f

@@ -55,8 +55,8 @@ abbrev pub last_header : PageIdValue → List (List ℕ) → Option Header
 last_header page [] = None
 last_header page (p ∷ ps) = option_or (last_header page ps) (header_of_page (kind page p))
 
--- The header h repeats the page: it has the sub-code of the page's previous header; and if complete
--- pages are required, the page has ended.
+-- The header h counts as a repeat of the page: it has the sub-code of the page's previous header,
+-- if there is one; and if complete pages are required, the page is not open.
 pub record IsRepeat (complete : Bool) (page : PageIdValue) (before : List (List ℕ)) (h : Header)
     : Type 0 where
   pub subcode : (last : Header) → last_header page before ≡ Some last → h.subcode ≡ last.subcode

@@ -25,8 +25,8 @@ use Rattle.sub_rules.specs.Transmission.{last_frame, on_air_until}
 
 -- ---- the page at the end of a frame
 
--- The page is correct at the end of frame f: each cell has the expected code and, if repeats may
--- have C4 (erase page) clear, each row with text was sent since the last header of the page.
+-- The page is correct at the end of frame f: each cell has the expected code and, unless that code
+-- is a space, its row was sent after the last header of the page.
 abbrev pub IsCorrectPage : Bool → ProgrammeValue → PageIdValue → Transmission → ℕ → Type 0
 IsCorrectPage keeps programme page transmission f =
     (row column : ℕ)

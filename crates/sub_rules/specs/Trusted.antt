@@ -11,10 +11,10 @@
 -- page that has C4 (erase page) set, or with any header of the page if C4 must always be set. They
 -- are reported when the run ends.
 --
--- If the page need not be correct at each frame end, a run is trusted only if the page was correct
--- at one of its ends. If the run ends because the page is overdue, the frames with the wrong page
--- are not trusted. If subtitles were rejected, this applies to every end of a run, since the next
--- expected page is unknown.
+-- If the page need not be correct at each frame end, a run is trusted only if the page was finished
+-- at one of its ends. If the run ends because the page is overdue or the file ends, the last frames
+-- with an unfinished page are not trusted. If subtitles were rejected, this applies to every end of
+-- a run, since the next expected page is unknown.
 use Rattle.std.specs.Prelude.{ℕ, suc, ◌-◌, ◌&&◌, ◌||◌, Bool, true, false, not, List, [], ◌∷◌}
 use Rattle.std.specs.Prelude.{◌++◌, Option, Some, None, is_none, is_some, nat_lt, unwrap_or}
 use Rattle.std.specs.Prelude.{if◌then◌else◌}
@@ -134,7 +134,7 @@ run_of (m ∷ past) = run_of past
 abbrev pub frame_if_finished : ℕ → Option ℕ → Option ℕ
 frame_if_finished f first_unfinished = if is_none first_unfinished then Some f else None
 
--- The first frame of the current run, from its first header on, at whose end the page was correct.
+-- The first frame of the current run, from its first header on, at whose end the page was finished.
 -- Has no meaning without a current run.
 unfoldable pub first_correct_of : List CheckStep → Option ℕ
 first_correct_of [] = None
@@ -148,8 +148,8 @@ first_correct_of (m ∷ past) = first_correct_of past
 -- ---- trusted frames, and when they are reported
 
 -- The event for the trusted frames of a run that ends before frame f. `run` is the frame of the
--- run's first header, and `whole` is the first frame at whose end the page was correct. There is no
--- event without such a frame.
+-- run's first header, and `whole` is the first frame at whose end the page was finished. There is
+-- no event without such a frame before f.
 abbrev pub trusted : Option ℕ → Option ℕ → ℕ → List Event
 trusted (Some from) (Some whole) f = if nat_lt whole f then Trusted from (f - 1) ∷ [] else []
 trusted run whole f = []
@@ -162,8 +162,8 @@ trusted_up_to past (Some f) = trusted (run_of past) (first_correct_of past)
     (unwrap_or (back_frame_of past) f)
 
 -- The first frame that is not trusted at the end of the file: the first frame with the unfinished
--- page; otherwise the last frame, if unread bytes may belong to it; otherwise the frame after the
--- last.
+-- page; otherwise, if unread bytes may belong to the last frame, the frame of the last `GoesBack`
+-- step or, without such a frame, the last frame; otherwise the frame after the last.
 abbrev pub first_untrusted_at_close : List CheckStep → Bool → ℕ
 first_untrusted_at_close past left =
     unwrap_or (first_unfinished_of past)
@@ -181,7 +181,8 @@ reports_no_event [] = true
 reports_no_event (e ∷ es) = false
 
 -- The events to report for a step: the trusted frames that end with this step, and then the event
--- of the step. At the end of the file, trusted frames are reported only if any fault was reported.
+-- of the step. At the end of the file, trusted frames are reported only if an event was reported or
+-- `more` is true.
 unfoldable pub events_reported_at_step : List CheckStep → CheckStep → List Event
 events_reported_at_step past (Emits e) = trusted_up_to past (invalidated_by past e) ++
     with_pes_number (current_pes past)

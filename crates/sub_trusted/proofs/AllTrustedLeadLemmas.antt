@@ -21,8 +21,8 @@ use Rattle.sub_rules.specs.Trusted.{events_reported_after, events_reported_at_st
 use Rattle.sub_rules.specs.Trusted.{trusted_up_to}
 use Rattle.sub_rules.specs.Trusted.{first_correct_of}
 
--- If the page was correct at the end of frame w of a run, and w is before frame x, the run's frames
--- before x are reported as trusted.
+-- If frame w of a run is the first at whose end the page was finished, and w is before frame x, the
+-- run's frames before x are reported as trusted.
 pub trusted_frames_contain_run : (run whole : Option ℕ) (x from w : ℕ) → run ≡ Some from → whole ≡
     Some w → w < x
     → Contains (trusted run whole x) (Trusted from (x - 1))

@@ -95,7 +95,8 @@ emits_steps_emit_events t (e ∷ es) = grind (
   (emits_steps_emit_events (Emits e ∷ t) es),
 )
 
--- If a run continues after events, it existed before, and the events invalidate no frame.
+-- If a run of trusted frames continues after some events, it existed before them, and they
+-- invalidate no frame.
 pub kept_run_was_valid : (run d : Option ℕ) (from : ℕ) → kept run d ≡ Some from
     → (run ≡ Some from) × (d ≡ None)
 kept_run_was_valid run d from e = grind (arith, nat_tests)

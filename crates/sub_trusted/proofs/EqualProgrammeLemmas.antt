@@ -16,7 +16,7 @@ use Rattle.sub_trusted.proofs.EqualTrustLemmas.{stretch_is_trusted_in_both}
 
 module _ (undecided : ℕ → Bool) (f : ℕ) (known : undecided f ≡ false) where
   -- A subtitle that is expected only in frames with an unknown expected page is not expected in
-  -- frame f and does not end after it.
+  -- frame f, whose expected page is known.
   undecided_subtitle_is_not_due : (t : SubtitleValue) → IsDueIfUndecided undecided t → is_due f t ≡
       false
   undecided_subtitle_is_not_due t is = grind (arith, nat_tests)

@@ -123,9 +123,9 @@ module _ (g : Criteria) (frames : Transmission) where
   pub calm : (t u : List CheckStep) (es : List Event) → AreEmitted t u es → (from : ℕ) → run_of u
       ≡ Some from
       → first_invalidated_frame t es ≡ None
-  calm t u es emits_steps_emit_events from
+  calm t u es emitted from
       is = (kept_run_was_valid (run_of t) (first_invalidated_frame t es) from
-      (sym emits_steps_emit_events.run_eq ∙ is)).1
+      (sym emitted.run_eq ∙ is)).1
 
   -- If frame numbers increase, each frame end by which at most n frames were sent is before frame n
   -- of the transmission.
@@ -307,43 +307,43 @@ module _ (g : Criteria) (frames : Transmission) (base : ℕ) where
       x t → AreEmitted
       t u es
       → Keeps n x u
-  tracking_continues_after_events n x t u es keeps emits_steps_emit_events = record {
+  tracking_continues_after_events n x t u es keeps emitted = record {
     run = λ from is. keeps.run from (was from is);
     ends = λ from is. keeps.ends from (was from is);
     whole = λ from w is whole. keeps.whole from w (was from is)
-        (sym emits_steps_emit_events.first_correct_eq ∙
+        (sym emitted.first_correct_eq ∙
         whole);
     above = λ from is. keeps.above from (was from is);
     falls = falls;
     at_once = λ e.
         let none = keeps.at_once e in
         record {
-          first_unfinished = emits_steps_emit_events.first_unfinished_eq ∙ none.first_unfinished;
-          late = emits_steps_emit_events.late_eq ∙ none.late;
+          first_unfinished = emitted.first_unfinished_eq ∙ none.first_unfinished;
+          late = emitted.late_eq ∙ none.late;
           whole = λ there. correct_frame_exists_after_events
               (none.whole (run_existed_before_events there));
         };
-    plain = λ e. emits_steps_emit_events.back_frames_agree ∙ keeps.plain e;
+    plain = λ e. emitted.back_frames_agree ∙ keeps.plain e;
   }
     where
       run_existed_before_events : is_some (run_of u) ≡ true → is_some (run_of t) ≡ true
-      run_existed_before_events there = let run_eq = emits_steps_emit_events.run_eq in grind
+      run_existed_before_events there = let run_eq = emitted.run_eq in grind
           (arith, nat_tests)
 
       correct_frame_exists_after_events : is_some (first_correct_of t) ≡ true → is_some
           (first_correct_of u) ≡ true
       correct_frame_exists_after_events
-          whole = let first_correct_eq = emits_steps_emit_events.first_correct_eq in grind
+          whole = let first_correct_eq = emitted.first_correct_eq in grind
           (arith, nat_tests)
 
       was : (from : ℕ) → run_of u ≡ Some from → run_of t ≡ Some from
       was from is = (kept_run_was_valid (run_of t) (first_invalidated_frame t es) from
-          (sym emits_steps_emit_events.run_eq ∙ is)).0
+          (sym emitted.run_eq ∙ is)).0
 
       falls : has_risen u ≡ false → run_of u ≡ None
       falls e =
-          let run_eq = emits_steps_emit_events.run_eq in
-          let rises_is = emits_steps_emit_events.rises_is in
+          let run_eq = emitted.run_eq in
+          let rises_is = emitted.rises_is in
           let before = keeps.falls in
           let orders = valid_events_have_no_order_fault t es in
           grind (arith, nat_tests)
@@ -443,14 +443,14 @@ module _ (g : Criteria) (frames : Transmission) (base : ℕ) where
       has_risen u ≡
       true
       → has_risen t ≡ true
-  rising_is_older_than_events t u es emits_steps_emit_events
-      e = let rises_is = emits_steps_emit_events.rises_is in grind (arith, nat_tests)
+  rising_is_older_than_events t u es emitted
+      e = let rises_is = emitted.rises_is in grind (arith, nat_tests)
 
   pub ended_frames_continue_after_events : (n : ℕ) (t u : List CheckStep) (es : List Event) →
       HasEndedFrames n t → AreEmitted t
       u es
       → HasEndedFrames n u
-  ended_frames_continue_after_events n t u es closed emits_steps_emit_events =
+  ended_frames_continue_after_events n t u es closed emitted =
       grind (
         arith,
         nat_tests,
@@ -487,7 +487,7 @@ module _ (g : Criteria) (frames : Transmission) (base : ℕ) where
       → KeepAllRules g.watched (packets_before frames n) packets
       → KeepAllRules g.watched (packets_before frames n) more)
       → HasBegunNextFrame n more u
-  begun_frame_continues_after_events n packets more t u es opens emits_steps_emit_events still =
+  begun_frame_continues_after_events n packets more t u es opens emitted still =
       grind (
         arith,
         nat_tests,

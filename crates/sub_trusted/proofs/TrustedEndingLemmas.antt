@@ -37,7 +37,8 @@ use Rattle.sub_laws.proofs.RisingEndLemmas.{latest_at}
 use Rattle.sub_trusted.proofs.EmittedStepLemmas.{Goes-append, Goes-cons, Goes-nil, Goes-emits}
 use Rattle.sub_trusted.proofs.TrustedRunLemmas.{IsRun}
 use Rattle.sub_trusted.proofs.FrameEndStateLemmas.{HasEndInRun}
-use Rattle.sub_trusted.proofs.TrustedStepLemmas.{Passes, Reports, end_steps_report_good_stretches}
+use Rattle.sub_trusted.proofs.TrustedStepLemmas.{IsTrustedBeforeEnd, ReportsGoodStretches}
+use Rattle.sub_trusted.proofs.TrustedStepLemmas.{end_steps_report_good_stretches}
 use Rattle.sub_trusted.proofs.TrustedStepLemmas.{tracking_continues_after_end}
 use Rattle.sub_trusted.proofs.EmittedStepLemmas.{has_risen}
 use Rattle.sub_rules.specs.Trusted.{CheckStep, back_frame_of, last_packet_frame, late_run_start}
@@ -196,39 +197,43 @@ module _ (g : Criteria) (frames : Transmission) (base : ℕ) where
 
   pub ending : (n : ℕ) (t : List CheckStep) → n < length frames
       → HasBegunNextFrame g frames base n (packets_of_frame frames n) t
-      → Reports g frames base (HasEndedFrames g frames base (suc n)) t (steps_of_ending g frames n)
+      → ReportsGoodStretches g frames base (HasEndedFrames g frames base (suc n)) t
+      (steps_of_ending g frames n)
   unfolding events_reported_at_step
   ending n t there opens =
       let f : ℕ = frame_at frames n in
       let packets : List (List ℕ) = packets_of_frame frames n in
       let last : CheckStep = step n in
-      Goes-append (Passes g frames base) (IsAfterEndStep n) (HasEndedFrames g frames base (suc n)) t
+      Goes-append (IsTrustedBeforeEnd g frames base) (IsAfterEndStep n)
+      (HasEndedFrames g frames base (suc n)) t
       (map Emits (first_header_events g frames n) ++ steps_at_end g frames n (suc n) f) (last ∷ [])
-      (Goes-append (Passes g frames base) (HasBegunNextFrame g frames base n packets)
+      (Goes-append (IsTrustedBeforeEnd g frames base) (HasBegunNextFrame g frames base n packets)
       (IsAfterEndStep n) t
       (map Emits (first_header_events g frames n)) (steps_at_end g frames n (suc n) f)
       (header opens)
       (λ u so. end_steps_reach_end_state u so))
       (λ v so.
-      Goes-cons (Passes g frames base) (HasEndedFrames g frames base (suc n)) v last [] refl
-      (Goes-nil (Passes g frames base) (HasEndedFrames g frames base (suc n)) (last ∷ v)
+      Goes-cons (IsTrustedBeforeEnd g frames base) (HasEndedFrames g frames base (suc n)) v last []
+      refl
+      (Goes-nil (IsTrustedBeforeEnd g frames base) (HasEndedFrames g frames base (suc n)) (last ∷ v)
       (ended n v there so)))
     where
       header : HasBegunNextFrame g frames base n (packets_of_frame frames n) t
-          → Reports g frames base (HasBegunNextFrame g frames base n (packets_of_frame frames n)) t
+          → ReportsGoodStretches g frames base
+          (HasBegunNextFrame g frames base n (packets_of_frame frames n)) t
           (map Emits (first_header_events g frames n))
       header opens =
           let es : List Event = first_header_events g frames n in
           let none = header_fault_invalidates_nothing t g frames n in
-          Goes-emits (Passes g frames base)
+          Goes-emits (IsTrustedBeforeEnd g frames base)
           (HasBegunNextFrame g frames base n (packets_of_frame frames n)) t es
-          (no_trusted_frames_in_header_events (Passes g frames base) g frames n)
+          (no_trusted_frames_in_header_events (IsTrustedBeforeEnd g frames base) g frames n)
           (λ x from w invalidation run whole l. absurd (none-some x (sym none ∙ invalidation)))
-          (λ u emits_steps_emit_events.
+          (λ u emitted.
           begun_frame_continues_after_events g frames base n (packets_of_frame frames n)
           (packets_of_frame frames n) t u
           es
-          opens emits_steps_emit_events (λ fault_free kept. kept))
+          opens emitted (λ fault_free kept. kept))
 
       top : (u : List CheckStep) → HasBegunNextFrame g frames base n (packets_of_frame frames n) u →
           has_risen u
@@ -252,7 +257,7 @@ module _ (g : Criteria) (frames : Transmission) (base : ℕ) where
 
       end_steps_reach_end_state : (u : List CheckStep) → HasBegunNextFrame g frames base n
           (packets_of_frame frames n) u
-          → Reports g frames base (IsAfterEndStep n) u (steps_at_end g frames n (suc n)
+          → ReportsGoodStretches g frames base (IsAfterEndStep n) u (steps_at_end g frames n (suc n)
           (frame_at frames n))
       end_steps_reach_end_state u so =
           let f : ℕ = frame_at frames n in
@@ -275,7 +280,7 @@ module _ (g : Criteria) (frames : Transmission) (base : ℕ) where
           (λ from is some. below u so (run_needs_rising_frames (has_risen u) (run_of u) from
           so.keeps.falls is)
           some)
-          (λ now v looks backs emits_steps_emit_events.
+          (λ now v looks backs emitted.
           let so_now : HasBegunNextFrame g frames base n (packets_of_frame frames n) now =
           record {
             keeps = tracking_continues_after_end g frames base n f (suc n) f u now looks so.keeps
@@ -296,15 +301,15 @@ module _ (g : Criteria) (frames : Transmission) (base : ℕ) where
                 begun_frame_continues_after_events g frames base n (packets_of_frame frames n)
                 (packets_of_frame frames
                 n)
-                now v es so_now emits_steps_emit_events (λ fault_free kept. kept);
-            first_unfinished_eq = emits_steps_emit_events.first_unfinished_eq ∙
+                now v es so_now emitted (λ fault_free kept. kept);
+            first_unfinished_eq = emitted.first_unfinished_eq ∙
                 looks.first_unfinished_eq;
             first_unfinished = λ rises r is.
-                let rises_is = emits_steps_emit_events.rises_is in
+                let rises_is = emitted.rises_is in
                 let looked = looks.rises_is in
                 let was : has_risen u ≡ true = grind (arith, nat_tests) in
                 seen_run_start_is_bounded g frames (suc n) f r
-                (sym looks.first_unfinished_eq ∙ sym emits_steps_emit_events.first_unfinished_eq ∙
+                (sym looks.first_unfinished_eq ∙ sym emitted.first_unfinished_eq ∙
                 is)
                 (top u so was);
           })

@@ -27,7 +27,7 @@ use Rattle.sub_trusted.proofs.TrackerStateLemmas.{begun_frame_ignores_packet_num
 use Rattle.sub_trusted.proofs.TrackerStateLemmas.{tracked_run_passes_before_frame}
 use Rattle.sub_trusted.proofs.TrackerStateLemmas.{run_needs_rising_frames}
 use Rattle.sub_trusted.proofs.TrustedEndingLemmas.{ending}
-use Rattle.sub_trusted.proofs.TrustedStepLemmas.{Passes, arrival}
+use Rattle.sub_trusted.proofs.TrustedStepLemmas.{IsTrustedBeforeEnd, arrival}
 use Rattle.sub_trusted.proofs.TrustedStepLemmas.{more_packets_report_good_stretches, skipped}
 use Rattle.sub_trusted.proofs.TrustedStepLemmas.{skipped_packet_reports_good_stretches}
 use Rattle.sub_trusted.proofs.InvalidationLemmas.{HoldsForEachTrusted, HoldsIfTrusted}
@@ -62,7 +62,7 @@ late_low_bound left last = grind (arith, nat_tests)
 
 module _ (g : Criteria) (frames : Transmission) (base : ℕ) where
   abbrev P : ℕ → ℕ → Type 0
-  P = Passes g frames base
+  P = IsTrustedBeforeEnd g frames base
 
   steps :
       Steps (List CheckStep) steps_with_packet_number g frames (Goes P)
@@ -156,7 +156,7 @@ module _ (g : Criteria) (frames : Transmission) (base : ℕ) where
       (Goes-emits IsTrustedAtClose (λ u. List CheckStep) t1 es (no_trusted_frames_in_closing_events
       pes n refl)
       (λ x from w invalidation run whole l. absurd (none-some from run))
-      (λ u emits_steps_emit_events. u)).each
+      (λ u emitted. u)).each
     where
       low : (from : ℕ) → run_of t ≡ Some from
           → first_untrusted_at_close t (is_some g.unread) ≤ last_late g frames

@@ -30,7 +30,7 @@ use Rattle.sub_trusted.proofs.TrustedPesPacketLemmas.{IsTrustedAtClose, HasSentF
 use Rattle.sub_trusted.proofs.TrustedPesPacketLemmas.{all_steps_trust_good_stretches, each_passes}
 use Rattle.sub_trusted.proofs.TrustedPesPacketLemmas.{start}
 use Rattle.sub_trusted.proofs.TrackerStateLemmas.{Keeps, SeesNoLateness, run_needs_rising_frames}
-use Rattle.sub_trusted.proofs.TrustedStepLemmas.{Passes}
+use Rattle.sub_trusted.proofs.TrustedStepLemmas.{IsTrustedBeforeEnd}
 use Rattle.sub_trusted.proofs.InvalidationLemmas.{HoldsForEachTrusted, HoldsIfTrusted}
 use Rattle.sub_trusted.proofs.InvalidationLemmas.{each-announced}
 use Rattle.sub_trusted.proofs.InvalidationLemmas.{each-ended}
@@ -88,7 +88,7 @@ module _ (g : Criteria) (earlier : List PesPacket) (u : UnreadReason) (later : L
     abbrev t : List CheckStep
     t = history_after [] first
 
-    before : Goes (Passes g sent 0) (HasSentFrames g sent 0 sent) [] first
+    before : Goes (IsTrustedBeforeEnd g sent 0) (HasSentFrames g sent 0 sent) [] first
     before = each_passes g sent 0 [] 0 [] earlier refl (inl (inr refl, start g sent))
 
     last_is : last_packet_frame t ≡ end_frame sent
@@ -264,7 +264,7 @@ module _ (g : Criteria) (earlier : List PesPacket) (u : UnreadReason) (later : L
         ∙ ap (λ (l : List Event). events_reported_after [] first ++ l)
         (events_reported_after-append now (map Emits es) rest)))
         (All-append (HoldsIfTrusted IsOutsideStretch) (events_reported_after [] first) _
-        (each-weaker (Passes g sent 0) IsOutsideStretch (events_reported_after [] first)
+        (each-weaker (IsTrustedBeforeEnd g sent 0) IsOutsideStretch (events_reported_after [] first)
         (λ from to passes. inr (passes.early rises)) before.each)
         (All-append (HoldsIfTrusted IsOutsideStretch) (events_reported_after now (map Emits es))
         (events_reported_after v rest)

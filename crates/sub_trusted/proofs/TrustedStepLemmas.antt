@@ -74,20 +74,23 @@ use Rattle.sub_rules.specs.Trusted.{events_reported_at_step, first_correct_of}
 module _ (g : Criteria) (frames : Transmission) (base : ℕ) where
   -- The guarantees hold for trusted frames after the first `base` frames of the transmission and,
   -- if all frame numbers increase, before the last frame.
-  abbrev pub Passes : ℕ → ℕ → Type 0
-  Passes = IsTrustedBetween g frames base (end_frame frames)
+  abbrev pub IsTrustedBeforeEnd : ℕ → ℕ → Type 0
+  IsTrustedBeforeEnd = IsTrustedBetween g frames base (end_frame frames)
 
-  abbrev pub Reports : (List CheckStep → Type 0) → List CheckStep → List CheckStep → Type 0
-  Reports S t ms = Goes Passes S t ms
+  -- The guarantees hold for the trusted frames that the steps report, and the history after the
+  -- steps has the property S.
+  abbrev pub ReportsGoodStretches : (List CheckStep → Type 0)
+      → List CheckStep → List CheckStep → Type 0
+  ReportsGoodStretches S t ms = Goes IsTrustedBeforeEnd S t ms
 
-  passes : (n x y : ℕ) (t : List CheckStep) → Keeps g frames base n x t
+  tracked_run_is_trusted : (n x y : ℕ) (t : List CheckStep) → Keeps g frames base n x t
       → MayEndBefore g frames (end_frame frames) n x y
       → (from w : ℕ)
       → run_of t ≡ Some from
       → first_correct_of t ≡ Some w
       → w < y
-      → Passes from (y - 1)
-  passes n x y t keeps may =
+      → IsTrustedBeforeEnd from (y - 1)
+  tracked_run_is_trusted n x y t keeps may =
       tracked_run_passes_before_frame g frames base (end_frame frames) n x y t keeps may
       (le_refl (end_frame frames))
       (omega arith)
@@ -147,13 +150,13 @@ module _ (g : Criteria) (frames : Transmission) (base : ℕ) where
       → IsWrongSince g frames n f u
       → AreEmitted u v (events_at_end g frames n m f)
       → S v)
-      → Reports S t (steps_at_end g frames n m f)
+      → ReportsGoodStretches S t (steps_at_end g frames n m f)
   end_steps_report_good_stretches n m f t S high keeps low may past after =
-      end_steps_are_followed g frames (Reports S) n m f t keeps.at_once keeps.plain
-      (Goes-cons Passes S)
+      end_steps_are_followed g frames (ReportsGoodStretches S) n m f t keeps.at_once keeps.plain
+      (Goes-cons IsTrustedBeforeEnd S)
       (λ u looks backs.
-      Goes-emits Passes S u (events_at_end g frames n m f)
-      (no_trusted_frames_in_end_events Passes (active_faults_before g frames n f)
+      Goes-emits IsTrustedBeforeEnd S u (events_at_end g frames n m f)
+      (no_trusted_frames_in_end_events IsTrustedBeforeEnd (active_faults_before g frames n f)
       (previous_end_frame frames n f)
       (active_faults_at g frames m f) f)
       (λ x from w invalidation run whole l.
@@ -172,15 +175,15 @@ module _ (g : Criteria) (frames : Transmission) (base : ℕ) where
       let back : frame_after_going_back u x ≤ f =
       frame_going_back_is_bounded u x f (omega arith)
       (λ r is. (first_unfinished_before_at_most g frames n f r (backs r is) (past from was)).1) in
-      passes n f (frame_after_going_back u x) u (tracking_continues_after_end n f m f t u looks
-      keeps low)
+      tracked_run_is_trusted n f (frame_after_going_back u x) u
+      (tracking_continues_after_end n f m f t u looks keeps low)
       (may from was (frame_after_going_back u x) back) from w run whole l)
-      (λ v emits_steps_emit_events. after u v looks backs emits_steps_emit_events))
+      (λ v emitted. after u v looks backs emitted))
 
   pub gap_frame_reports_good_stretches : (n k : ℕ) (t : List CheckStep) → n < length frames → k <
       gap_length frames n
       → HasEndedGapFrames g frames base n k t
-      → Reports (HasEndedGapFrames g frames base n (suc k)) t
+      → ReportsGoodStretches (HasEndedGapFrames g frames base n (suc k)) t
       (steps_at_end g frames n n (latest_frame frames n + suc k))
   gap_frame_reports_good_stretches n k t there l arrives =
       let f : ℕ = latest_frame frames n + suc k in
@@ -190,25 +193,25 @@ module _ (g : Criteria) (frames : Transmission) (base : ℕ) where
       (λ from is. omega arith) keeps
       low may
       (λ from is some. omega arith)
-      (λ u v looks backs emits_steps_emit_events. record {
+      (λ u v looks backs emitted. record {
         keeps =
             let kept =
             tracking_continues_after_events g frames base n f u v es (tracking_continues_after_end n
-            f n f t u looks keeps low) emits_steps_emit_events
+            f n f t u looks keeps low) emitted
             in
             tracking_holds_to_later_frame g frames base n f (latest_frame frames n + suc (suc k)) v
             kept
-            (λ from is. fault_free u v looks emits_steps_emit_events from is (kept.ends from is));
+            (λ from is. fault_free u v looks emitted from is (kept.ends from is));
         base_at_most = arrives.base_at_most;
         rises = λ e.
             let was : has_risen t ≡ true =
-            let rises_is = emits_steps_emit_events.rises_is in
+            let rises_is = emitted.rises_is in
             let looked = looks.rises_is in
             grind (arith, nat_tests) in
             arrives.rises was;
         back = λ e r is.
             first_unfinished_before_at_most g frames n f r
-            (backs r (sym emits_steps_emit_events.back_frames_agree ∙ is))
+            (backs r (sym emitted.back_frames_agree ∙ is))
             (λ some. omega arith);
       })
     where
@@ -245,15 +248,15 @@ module _ (g : Criteria) (frames : Transmission) (base : ℕ) where
           → (from : ℕ) → run_of v ≡ Some from
           → EndsFaultFree g frames n from (latest_frame frames n + suc k)
           → EndsFaultFree g frames n from (latest_frame frames n + suc (suc k))
-      fault_free u v looks emits_steps_emit_events from is ends m e end few after high =
+      fault_free u v looks emitted from is ends m e end few after high =
           let f : ℕ = latest_frame frames n + suc k in
-          let none = calm g frames u v (events_at_end g frames n n f) emits_steps_emit_events from
+          let none = calm g frames u v (events_at_end g frames n n f) emitted from
           is in
           let was : run_of t ≡ Some from =
           sym looks.run_eq
           ∙ (kept_run_was_valid (run_of u)
           (first_invalidated_frame u (events_at_end g frames n n f)) from
-          (sym emits_steps_emit_events.run_eq ∙ is)).0 in
+          (sym emitted.run_eq ∙ is)).0 in
           let h = up from was in
           elim (cases_lt e f) [
             | inl before ↦ ends m e end few after before
@@ -283,14 +286,13 @@ module _ (g : Criteria) (frames : Transmission) (base : ℕ) where
   gap_frames_report_good_stretches : (n k : ℕ) (t : List CheckStep) → n < length frames → k ≤
       gap_length frames n
       → HasEndedGapFrames g frames base n 0 t
-      → Reports (HasEndedGapFrames g frames base n k) t (steps_of_gap g frames n k)
+      → ReportsGoodStretches (HasEndedGapFrames g frames base n k) t (steps_of_gap g frames n k)
   unfolding steps_of_gap
-  gap_frames_report_good_stretches n zero t there l arrives = Goes-nil Passes
+  gap_frames_report_good_stretches n zero t there l arrives = Goes-nil IsTrustedBeforeEnd
       (HasEndedGapFrames g frames base n 0) t arrives
   gap_frames_report_good_stretches n (suc k) t there l arrives =
-      Goes-append Passes (HasEndedGapFrames g frames base n k) (HasEndedGapFrames g frames base n
-      (suc k))
-      t
+      Goes-append IsTrustedBeforeEnd (HasEndedGapFrames g frames base n k)
+      (HasEndedGapFrames g frames base n (suc k)) t
       (steps_of_gap g frames n k) (steps_at_end g frames n n (latest_frame frames n + suc k))
       (gap_frames_report_good_stretches n k t there (omega arith) arrives)
       (λ u so. gap_frame_reports_good_stretches n k u there (omega arith) so)
@@ -327,23 +329,26 @@ module _ (g : Criteria) (frames : Transmission) (base : ℕ) where
 
   pub order_events_report_good_stretches : (n : ℕ) (t : List CheckStep) → n < length frames →
       HasEndedFrames g frames base n t
-      → Reports (HasEndedGapFrames g frames base n 0) t (map Emits (order_events g frames n))
+      → ReportsGoodStretches (HasEndedGapFrames g frames base n 0) t
+      (map Emits (order_events g frames n))
   order_events_report_good_stretches n t there closed =
-      Goes-emits Passes (HasEndedGapFrames g frames base n 0) t (order_events g frames n)
-      (no_trusted_frames_in_order_events Passes g frames n)
+      Goes-emits IsTrustedBeforeEnd (HasEndedGapFrames g frames base n 0) t
+      (order_events g frames n)
+      (no_trusted_frames_in_order_events IsTrustedBeforeEnd g frames n)
       (λ x from w invalidation run whole l.
       let at : x ≡ last_packet_frame t = order_fault_invalidates_last_packet t g frames n x
       invalidation in
       let below = (closed.keeps.run from run).below in
       let last = closed.last (omega arith) in
-      passes n (frame_at frames (n - 1) + 1) (frame_after_going_back t x) t closed.keeps
+      tracked_run_is_trusted n (frame_at frames (n - 1) + 1) (frame_after_going_back t x) t
+      closed.keeps
       (run_may_end_after_frame n (frame_after_going_back t x) (omega arith)
       (going_back_from_ended_frame n x from t closed run (omega arith))) from w run whole l)
-      (λ u emits_steps_emit_events.
+      (λ u emitted.
       let kept =
       tracking_continues_after_events g frames base n (frame_at frames (n - 1) + 1) t u
       (order_events g frames n)
-      closed.keeps emits_steps_emit_events in
+      closed.keeps emitted in
       record {
         keeps =
             tracking_holds_to_later_frame g frames base n (frame_at frames (n - 1) + 1)
@@ -354,25 +359,25 @@ module _ (g : Criteria) (frames : Transmission) (base : ℕ) where
             let last = latest_at frames n run.rises (omega arith) in
             kept.ends from is m e end few after (omega arith));
         base_at_most = closed.base_at_most;
-        rises = λ e. up u emits_steps_emit_events e;
-        back = λ e r is. back u emits_steps_emit_events e r is;
+        rises = λ e. up u emitted e;
+        back = λ e r is. back u emitted e r is;
       })
     where
       back : (u : List CheckStep) → AreEmitted t u (order_events g frames n) → has_risen u ≡ true
           → (r : ℕ) → back_frame_of u ≡ Some r
           → (0 < n) × (r ≤ latest_frame frames n + 0)
-      back u emits_steps_emit_events e r is =
+      back u emitted e r is =
           let rose_then = rising_is_older_than_events g frames base t u (order_events g frames n)
-          emits_steps_emit_events e in
-          let (some, low) = closed.back rose_then r (sym emits_steps_emit_events.back_frames_agree ∙
+          emitted e in
+          let (some, low) = closed.back rose_then r (sym emitted.back_frames_agree ∙
           is) in
           let last = latest_at frames n (closed.rises rose_then) some in
           (some, omega arith)
 
       up : (u : List CheckStep) → AreEmitted t u (order_events g frames n) → has_risen u ≡ true
           → RiseTo frames (suc n)
-      up u emits_steps_emit_events e i a b =
-          let rises_is = emits_steps_emit_events.rises_is in
+      up u emitted e i a b =
+          let rises_is = emitted.rises_is in
           let was : has_risen t ≡ true = grind (arith, nat_tests) in
           let none : list_any is_order_fault (order_events g frames n) ≡ false =
           grind (arith, nat_tests) in
@@ -444,27 +449,27 @@ module _ (g : Criteria) (frames : Transmission) (base : ℕ) where
   back_step_reports_good_stretches : (n : ℕ) (t : List CheckStep) (b : Bool) → needs_back_steps g ≡
       b
       → HasBegunNextFrame g frames base n [] t
-      → Reports (HasBegunNextFrame g frames base n []) t
+      → ReportsGoodStretches (HasBegunNextFrame g frames base n []) t
       (if b then GoesBack (first_unfinished_before g frames n (frame_at frames n)) ∷ [] else [])
   unfolding events_reported_at_step
   back_step_reports_good_stretches n t false is opens =
-      Goes-nil Passes (HasBegunNextFrame g frames base n []) t opens
+      Goes-nil IsTrustedBeforeEnd (HasBegunNextFrame g frames base n []) t opens
   back_step_reports_good_stretches n t true is opens =
       let step : CheckStep = GoesBack (first_unfinished_before g frames n (frame_at frames n)) in
-      Goes-cons Passes (HasBegunNextFrame g frames base n []) t step [] refl
-      (Goes-nil Passes (HasBegunNextFrame g frames base n []) (step ∷ t)
+      Goes-cons IsTrustedBeforeEnd (HasBegunNextFrame g frames base n []) t step [] refl
+      (Goes-nil IsTrustedBeforeEnd (HasBegunNextFrame g frames base n []) (step ∷ t)
       (going_back_keeps_begun_frame n t opens is))
 
   pub arrival : (n : ℕ) (t : List CheckStep) → n < length frames → HasEndedFrames g frames base n t
-      → Reports (HasBegunNextFrame g frames base n []) t (steps_of_arrival g frames n)
+      → ReportsGoodStretches (HasBegunNextFrame g frames base n []) t (steps_of_arrival g frames n)
   unfolding events_reported_at_step
   arrival n t there closed =
-      Goes-append Passes (HasEndedGapFrames g frames base n (gap_length frames n))
+      Goes-append IsTrustedBeforeEnd (HasEndedGapFrames g frames base n (gap_length frames n))
       (HasBegunNextFrame g frames base n []) t
       (map Emits (order_events g frames n) ++ steps_of_gap g frames n (gap_length frames n))
       (Begins (frame_at frames n)
       ∷ steps_before g (first_unfinished_before g frames n (frame_at frames n)))
-      (Goes-append Passes (HasEndedGapFrames g frames base n 0)
+      (Goes-append IsTrustedBeforeEnd (HasEndedGapFrames g frames base n 0)
       (HasEndedGapFrames g frames base n (gap_length frames n)) t
       (map Emits (order_events g frames n))
       (steps_of_gap g frames n (gap_length frames n)) (order_events_report_good_stretches n t there
@@ -472,7 +477,8 @@ module _ (g : Criteria) (frames : Transmission) (base : ℕ) where
       (λ u so. gap_frames_report_good_stretches n (gap_length frames n) u there
       (le_refl (gap_length frames n)) so))
       (λ v here.
-      Goes-cons Passes (HasBegunNextFrame g frames base n []) v (Begins (frame_at frames n))
+      Goes-cons IsTrustedBeforeEnd (HasBegunNextFrame g frames base n []) v
+      (Begins (frame_at frames n))
       (steps_before g (first_unfinished_before g frames n (frame_at frames n))) refl
       (back_step_reports_good_stretches n (Begins (frame_at frames n) ∷ v) (needs_back_steps g) refl
       (begins n v there here)))
@@ -480,7 +486,7 @@ module _ (g : Criteria) (frames : Transmission) (base : ℕ) where
   pub more_packets_report_good_stretches : (n : ℕ) (packets more : List (List ℕ))
       (t : List CheckStep) → n < length frames
       → HasBegunNextFrame g frames base n packets t
-      → Reports (HasBegunNextFrame g frames base n (packets ++ more)) t
+      → ReportsGoodStretches (HasBegunNextFrame g frames base n (packets ++ more)) t
       (map Emits
       (numbered_packet_events g.watched (frame_at frames n) (length packets)
       (packets_before frames n ++ packets) more (length more)))
@@ -492,19 +498,18 @@ module _ (g : Criteria) (frames : Transmission) (base : ℕ) where
       let finds =
       packets_invalidation t g.watched (frame_at frames n) (length packets) so_far
       more in
-      Goes-emits Passes (HasBegunNextFrame g frames base n (packets ++ more)) t es
-      (no_trusted_frames_in_packet_events Passes g.watched (frame_at frames n) (length packets)
-      so_far more
-      (length more))
+      Goes-emits IsTrustedBeforeEnd (HasBegunNextFrame g frames base n (packets ++ more)) t es
+      (no_trusted_frames_in_packet_events IsTrustedBeforeEnd g.watched (frame_at frames n)
+      (length packets) so_far more (length more))
       (λ x from w invalidation run whole l.
       let at : x ≡ frame_at frames n = finds.at x invalidation in
-      passes n (frame_at frames n) (frame_after_going_back t x) t opens.keeps
+      tracked_run_is_trusted n (frame_at frames n) (frame_after_going_back t x) t opens.keeps
       (run_may_end_in_frame g frames base n packets t there opens from run (end_frame frames)
       (frame_after_going_back t x)
       (going_back_from_begun_frame n x from packets t opens run (omega arith))) from w run whole l)
-      (λ u emits_steps_emit_events.
+      (λ u emitted.
       begun_frame_continues_after_events g frames base n packets (packets ++ more) t u es opens
-      emits_steps_emit_events
+      emitted
       (λ none kept.
       keeps_rules_append g.watched (packets_before frames n) packets more kept
       (finds.fault_free none)))
@@ -512,45 +517,45 @@ module _ (g : Criteria) (frames : Transmission) (base : ℕ) where
   pub skipped_packet_reports_good_stretches : (n pes : ℕ) (u : UnreadReason) (t : List CheckStep) →
       n ≤ length frames
       → HasEndedFrames g frames base n t
-      → Reports (HasEndedFrames g frames base n) t
+      → ReportsGoodStretches (HasEndedFrames g frames base n) t
       (map Emits (Reported (unread_fault pes (Some u)) ∷ []))
   skipped_packet_reports_good_stretches n pes u t within closed =
       let es : List Event = Reported (unread_fault pes (Some u)) ∷ [] in
-      Goes-emits Passes (HasEndedFrames g frames base n) t es
-      (All-cons (HoldsIfTrusted Passes) (Reported (unread_fault pes (Some u))) [] tt
-      (All-nil (HoldsIfTrusted Passes)))
+      Goes-emits IsTrustedBeforeEnd (HasEndedFrames g frames base n) t es
+      (All-cons (HoldsIfTrusted IsTrustedBeforeEnd) (Reported (unread_fault pes (Some u))) [] tt
+      (All-nil (HoldsIfTrusted IsTrustedBeforeEnd)))
       (λ x from w invalidation run whole l.
       let is : Some (last_packet_frame t) ≡ Some x = sym (skipped_packet_invalidates_last_packet t
       pes u) ∙ invalidation in
       let same : last_packet_frame t ≡ x = same_Some (last_packet_frame t) x is in
       let below = (closed.keeps.run from run).below in
       let last = closed.last (omega arith) in
-      passes n (frame_at frames (n - 1) + 1) (frame_after_going_back t x) t closed.keeps
+      tracked_run_is_trusted n (frame_at frames (n - 1) + 1) (frame_after_going_back t x) t
+      closed.keeps
       (run_may_end_after_frame n (frame_after_going_back t x) within (going_back_from_ended_frame n
       x from t closed run (omega arith))) from w
       run whole l)
-      (λ v emits_steps_emit_events. ended_frames_continue_after_events g frames base n t v es closed
-      emits_steps_emit_events)
+      (λ v emitted. ended_frames_continue_after_events g frames base n t v es closed emitted)
 
   pub skipped : (n pes : ℕ) (packets : List (List ℕ)) (u : UnreadReason) (t : List CheckStep)
       → n < length frames
       → HasBegunNextFrame g frames base n packets t
-      → Reports (HasBegunNextFrame g frames base n packets) t
+      → ReportsGoodStretches (HasBegunNextFrame g frames base n packets) t
       (map Emits (Reported (unread_fault pes (Some u)) ∷ []))
   skipped n pes packets u t there opens =
       let es : List Event = Reported (unread_fault pes (Some u)) ∷ [] in
-      Goes-emits Passes (HasBegunNextFrame g frames base n packets) t es
-      (All-cons (HoldsIfTrusted Passes) (Reported (unread_fault pes (Some u))) [] tt
-      (All-nil (HoldsIfTrusted Passes)))
+      Goes-emits IsTrustedBeforeEnd (HasBegunNextFrame g frames base n packets) t es
+      (All-cons (HoldsIfTrusted IsTrustedBeforeEnd) (Reported (unread_fault pes (Some u))) [] tt
+      (All-nil (HoldsIfTrusted IsTrustedBeforeEnd)))
       (λ x from w invalidation run whole l.
       let is : Some (last_packet_frame t) ≡ Some x = sym (skipped_packet_invalidates_last_packet t
       pes u) ∙ invalidation in
       let same : last_packet_frame t ≡ x = same_Some (last_packet_frame t) x is in
       let last = opens.last in
-      passes n (frame_at frames n) (frame_after_going_back t x) t opens.keeps
+      tracked_run_is_trusted n (frame_at frames n) (frame_after_going_back t x) t opens.keeps
       (run_may_end_in_frame g frames base n packets t there opens from run (end_frame frames)
       (frame_after_going_back t x)
       (going_back_from_begun_frame n x from packets t opens run (omega arith))) from w run whole l)
-      (λ v emits_steps_emit_events. begun_frame_continues_after_events g frames base n packets
-      packets t v es opens emits_steps_emit_events
+      (λ v emitted. begun_frame_continues_after_events g frames base n packets
+      packets t v es opens emitted
       (λ none kept. kept))

@@ -39,7 +39,7 @@ rising_count frames (suc n) =
 abbrev pub rising_part : Transmission → Transmission
 rising_part frames = take (rising_count frames (length frames)) frames
 
--- The frames of the PES packets, up to the first frame that is not after the one before it.
+-- The frames of the PES packets before the first frame that is not after the one before it.
 abbrev pub rising_frames_of : Criteria → List PesPacket → Transmission
 rising_frames_of g pes_packets = rising_part (sent_by_pes_packets g pes_packets)
 

@@ -174,11 +174,11 @@ error_kind_is_listed : (kinds : Kinds) (e : Error)
     → kinds ≢ []
 error_kind_is_listed kinds e has other none = elim has [
   | inl memory ↦ other memory
-  | inr row_is_in_text_span ↦ subst (IsAmong (kind_of e)) none row_is_in_text_span
+  | inr among ↦ subst (IsAmong (kind_of e)) none among
 ]
 
--- If clap refuses the arguments for another reason than memory, the fault of the command line is
--- `Words`.
+-- If clap refuses the arguments for a reason other than lack of memory, `Words` is a fault of the
+-- command line.
 pub IsFaultOfCommand-refused : (app : App) (arguments : List Text) (e : Error)
     → app ≡ subttx_app
     → (is_simple_and_free app ≡ true → FailsBy {T = ArgMatches} (fault_of app arguments) (Err e))

@@ -10,7 +10,7 @@ mod in_memory;
 ghost use Rattle.std.specs.Prelude.{◌≡◌, IfErr, IfOk};
 ghost use Rattle.sub_io.specs.Buffered.{failures_with_refused_writes};
 ghost use Rattle.sub_answer.specs.Ending.{BufferHoldsOneLineOnly, file_observations};
-ghost use Rattle.sub_answer.specs.Ending.{lines_of_buffer};
+ghost use Rattle.sub_answer.specs.Ending.{state_of_buffer};
 ghost use Rattle.sub_files.specs.FileCalls.{CallsInOrder};
 ghost use Rattle.sub_headline.specs.Run.{RunAnswers, RunEnds, IsUsageFaultReason, RunsProgram};
 ghost use Rattle.subttx.specs.Words.{arguments_given};
@@ -98,8 +98,8 @@ fn run_with_system(rt: &HostRuntime, closed_stream: LookupResult) -> u8 {
 }
 
 // Prints on standard error why the arguments are wrong, or which input has another format than the
-// command reads or times in the wrong order. Prints nothing if memory runs out after an answer. Not inlined, since the stack of
-// a run would then hold the names that only an explanation needs.
+// command reads or times in the wrong order. Prints nothing if memory runs out after an answer. Not
+// inlined, since the stack of a run would then hold the names that only an explanation needs.
 #[inline(never)]
 fn explain(rt: &HostRuntime, code: u8, kinds: &InputKinds) {
     let arguments = match env::args(rt) {
@@ -207,8 +207,8 @@ fn answer_or_print_fault<D: FileSystem, K: Sink>(
         D.Output.contents D.Output.failure_count D.Output.is_stored)
         D.Output.is_close (arguments_given given)
         (BufferHoldsOneLineOnly K.contents K.failure_count K.is_push)
-        (lines_of_buffer K.contents K.failure_count out.old)
-        (lines_of_buffer K.contents K.failure_count out.new) result }
+        (state_of_buffer K.contents K.failure_count out.old)
+        (state_of_buffer K.contents K.failure_count out.new) result }
 {
     match answer_parsed_arguments(alloc, given, files, out) {
         Ok(status) => status,
@@ -233,8 +233,8 @@ fn answer_parsed_arguments<D: FileSystem, K: Sink>(
         D.Output.contents D.Output.failure_count D.Output.is_stored)
         D.Output.is_close (arguments_given given)
         (BufferHoldsOneLineOnly K.contents K.failure_count K.is_push)
-        (lines_of_buffer K.contents K.failure_count out.old)
-        (lines_of_buffer K.contents K.failure_count out.new)) }
+        (state_of_buffer K.contents K.failure_count out.old)
+        (state_of_buffer K.contents K.failure_count out.new)) }
     ensures leaves_output_unchanged { IfErr result (λ _. out.new ≡ out.old) }
     ensures cause { IfErr result (IsUsageFaultReason (CallsInOrder D.is_call files.old files.new)
         (arguments_given given)) }

@@ -7,7 +7,7 @@ use Rattle.std.proofs.lemmas.List.Folds.{concat-append}
 use Rattle.std.specs.List.{concat}
 use Rattle.std.specs.Prelude.{length}
 use Rattle.mpeg_ts.specs.PacketSize.{bytes_of}
-use Rattle.ts_survey.specs.FirstLines.{FindsKind, requested_texts, begins_with_pes_packet}
+use Rattle.ts_survey.specs.FirstLines.{FindsKind, requested_pid_texts, begins_with_pes_packet}
 use Rattle.ts_survey.specs.FirstLines.{head_size}
 use Rattle.ts_survey.specs.FirstLines.{head_texts_if_received}
 use Rattle.ts_survey.specs.FirstLines.{newly_reported_head, head_texts, is_pes, kind_texts}
@@ -42,8 +42,8 @@ kinds-on (Pes f) Nothing on = absurd on
 kinds-on (Stream p m) Unknown on = absurd on
 kinds-on (Stream p m) (Pes g) on = absurd on
 kinds-on (Stream p m) (Stream q n) on = (
-  ap (λ size. size_line (bytes_of size) ++ requested_texts n.requested) on.size
-      ∙ ap (λ requested. size_line (bytes_of p.size) ++ requested_texts requested) on.keeps.0,
+  ap (λ size. size_line (bytes_of size) ++ requested_pid_texts n.requested) on.size
+      ∙ ap (λ requested. size_line (bytes_of p.size) ++ requested_pid_texts requested) on.keeps.0,
   refl,
   refl,
 )

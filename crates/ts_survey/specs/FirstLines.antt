@@ -37,9 +37,9 @@ teletext_line pid = codes "teletext" ∷ space_and_number pid ∷ line_end ∷ [
 
 -- The line of the requested PID, which is followed from the first packet; no line if no PID is
 -- requested.
-abbrev pub requested_texts : Option ℕ → List (List ℕ)
-requested_texts None = []
-requested_texts (Some pid) = teletext_line pid
+abbrev pub requested_pid_texts : Option ℕ → List (List ℕ)
+requested_pid_texts None = []
+requested_pid_texts (Some pid) = teletext_line pid
 
 -- The lines that report the kind of a recording: a file of PES packets, a transport stream, or
 -- neither.
@@ -47,7 +47,7 @@ abbrev pub kind_texts : Kind → List (List ℕ)
 kind_texts Unknown = []
 kind_texts (Pes file) = codes "size 0\n" ∷ []
 kind_texts (Stream packets multiplex) =
-    size_line (bytes_of packets.size) ++ requested_texts multiplex.requested
+    size_line (bytes_of packets.size) ++ requested_pid_texts multiplex.requested
 kind_texts Nothing = codes "nothing\n" ∷ []
 
 -- ---- when the first lines are printed

@@ -70,7 +70,7 @@ section_name_of s =
     })
 
 -- The bit current_next_indicator of a section: the section applies now, and is not only the next
--- one to apply.
+-- one to apply. False if the section is shorter than six bytes.
 abbrev pub is_current : List ℕ → Bool
 is_current s = nat_le 6 (length s) && (slice_index s 5 % 2 == 1)
 

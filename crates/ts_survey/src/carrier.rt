@@ -141,8 +141,8 @@ impl Carrier {
         Some(pts)
     }
 
-    // Counts packets that are lost before a good packet, by its counter. Returns whether the packet
-    // follows the last good packet.
+    // Adds the number of packets lost before a good packet, by its counter. Returns false if
+    // packets were lost or a jump of the counter was announced.
     fn count_lost_packets(&mut self, packet: &[u8; PACKET]) -> bool
         ensures { self.new.pid ≡ self.old.pid }
     {
@@ -223,7 +223,7 @@ impl Carrier {
 
     /// Prints the irregular PCRs that need no more data at packet number `number`; all of them if
     /// `number` is `None`.
-    pub fn settle(&mut self, number: Option<u64>, pids: &Pids, text: &mut Text)
+    pub fn report_settled_pcrs(&mut self, number: Option<u64>, pids: &Pids, text: &mut Text)
         ensures { self.new.pid ≡ self.old.pid }
     {
         for _ in 0..MAX_PENDING_PCRS {

@@ -118,7 +118,7 @@ impl Clock {
         self.pid
     }
 
-    /// Records a packet of the PID, which may announce a jump of the clock.
+    /// Records whether a packet of the PID announces a jump of the clock.
     pub fn note(&mut self, packet: &[u8; PACKET]) {
         self.is_announced = self.is_announced || announces_jump(packet);
     }

@@ -3,7 +3,7 @@ ghost use Rattle.std.specs.Prelude.{◌≡◌, ◌<◌, [], IfSome};
 ghost use Rattle.std.specs.Prelude.{length, true};
 ghost use Rattle.ts_survey.specs.Requested.{KeepsRequested, is_requested, packet_keeps_requested};
 ghost use Rattle.ts_survey.specs.Requested.{unrequested_followed_pids};
-ghost use Rattle.ts_survey.specs.FirstLines.{requested_texts, teletext_line};
+ghost use Rattle.ts_survey.specs.FirstLines.{requested_pid_texts, teletext_line};
 ghost use Rattle.ts_survey.specs.Lines.{AddsTexts};
 ghost use Rattle.ts_survey.specs.Payload as specs;
 
@@ -60,7 +60,7 @@ impl Multiplex {
             × (multiplex.page ≡ page) × (unrequested_followed_pids multiplex ≡ [])) }
         // If a PID is requested, the line `teletext` of that PID is printed.
         ensures reported { IfSome result (λ multiplex. AddsTexts text.old
-            (requested_texts multiplex.requested) text.new) }
+            (requested_pid_texts multiplex.requested) text.new) }
     {
         let pids = Pids::new(alloc)?;
         let mut all = Multiplex {
@@ -296,12 +296,12 @@ impl Multiplex {
     }
 
     // Prints the irregular PCRs that need no more data at packet number `number`.
-    fn settle(&mut self, number: u64, text: &mut Text)
+    fn report_settled_pcrs(&mut self, number: u64, text: &mut Text)
         ensures requested { KeepsRequested self.old self.new }
     {
         let mut is_waiting = false;
         for carrier in self.carriers.iter_mut() {
-            carrier.settle(Some(number), &self.pids, text);
+            carrier.report_settled_pcrs(Some(number), &self.pids, text);
             is_waiting = is_waiting || carrier.is_waiting();
         }
         self.next_settle_packet = if is_waiting {
@@ -316,7 +316,7 @@ impl Multiplex {
         ensures requested { KeepsRequested self.old self.new }
     {
         for carrier in self.carriers.iter_mut() {
-            carrier.settle(None, &self.pids, text);
+            carrier.report_settled_pcrs(None, &self.pids, text);
         }
         self.next_settle_packet = u64::MAX;
     }
@@ -393,26 +393,26 @@ impl Multiplex {
     {
         let (before, following) = split_at_pointer_field(packet, payload_if_usable(packet));
         self.tables.take(table, before, false);
-        self.read_tables(table, text);
+        self.read_complete_sections(table, text);
         if let Some(following) = following {
             self.tables.take(table, following, true);
-            self.read_tables(table, text);
+            self.read_complete_sections(table, text);
         }
     }
 
     // Reads all complete sections of a PID.
-    fn read_tables(&mut self, table: u8, text: &mut Text)
+    fn read_complete_sections(&mut self, table: u8, text: &mut Text)
         ensures requested { KeepsRequested self.old self.new }
     {
         for _ in 0..SECTION_CAPACITY {
-            if !self.read_table(table, text) {
+            if !self.read_next_section(table, text) {
                 return;
             }
         }
     }
 
     // Reads the next complete section of a PID, and returns whether one was found.
-    fn read_table(&mut self, table: u8, text: &mut Text) -> bool
+    fn read_next_section(&mut self, table: u8, text: &mut Text) -> bool
         ensures requested { KeepsRequested self.old self.new }
     {
         let mut section = Section::new();
@@ -501,32 +501,32 @@ impl Multiplex {
         ensures requested { KeepsRequested self.old self.new }
     {
         self.report_all_pending_pcrs(text);
-        self.report_final_pictures(text);
-        self.report_final_pids(text);
-        self.report_final_clocks(text);
+        self.report_end_of_pictures(text);
+        self.report_end_of_pids(text);
+        self.report_end_of_clocks(text);
     }
 
-    fn report_final_pictures(&self, text: &mut Text) {
+    fn report_end_of_pictures(&self, text: &mut Text) {
         for video in self.videos.iter() {
             video.end(text);
         }
     }
 
     // Prints the final lines of the followed PIDs, one PID after another.
-    fn report_final_pids(&self, text: &mut Text) {
+    fn report_end_of_pids(&self, text: &mut Text) {
         for pid in 0..NULL_PID {
-            self.report_final_pid(pid, text);
+            self.report_end_of_pid(pid, text);
         }
     }
 
-    fn report_final_pid(&self, pid: u16, text: &mut Text) {
+    fn report_end_of_pid(&self, pid: u16, text: &mut Text) {
         let place = self.pids.get(pid).carrier;
         if let Some(carrier) = self.carriers.get(place as usize) {
             carrier.end(text);
         }
     }
 
-    fn report_final_clocks(&self, text: &mut Text) {
+    fn report_end_of_clocks(&self, text: &mut Text) {
         for clock in self.clocks.iter() {
             clock.end(text);
         }
@@ -554,7 +554,7 @@ impl TakesPackets for Multiplex {
             self.read_ahead(pid, &state, packet, text);
         }
         if number >= self.next_settle_packet {
-            self.settle(number, text);
+            self.report_settled_pcrs(number, text);
         }
     }
 

@@ -121,7 +121,8 @@ impl PesLines {
         }
     }
 
-    // Adds a PES packet to the run, or prints the packet if rows are printed after it.
+    // Prints a PES packet on its own line if rows are printed after it. Otherwise adds the packet
+    // to the run or, if it does not continue the run, prints the run and begins a new one.
     fn put(&mut self, pts: Option<u64>, is_changed: bool, has_strays: bool, text: &mut Text)
         ensures { self.new.count ≡ saturating_count self.old.count 1 }
     {

@@ -57,8 +57,8 @@ pub fn survey<S: Source, K: Flush>(
     // tested, not proved.
     ensures ended { OnOk result (IsAtEnd (S.remaining source.new)) }
     // If no fault is returned, the first lines of the output have the recording's first bytes and
-    // its kind, with the requested packet size and PID, and the last line is `over`. Which lines are
-    // between them is tested, not proved.
+    // its kind, with the requested packet size and PID, and the last line is `over`. Which lines
+    // are between them is tested, not proved.
     ensures listed { OnOk result (ReportsSurvey options (S.remaining source.old)
         (K.contents out.old) (K.contents out.new)) }
 {

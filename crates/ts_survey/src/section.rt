@@ -113,7 +113,7 @@ pub fn section_name_of(section: &[u8]) -> Option<SectionName>
 }
 
 /// Returns current_next_indicator of a section: whether the section applies now, and is not only
-/// the next one to apply.
+/// the next one to apply. Returns false if the section is shorter than six bytes.
 pub fn is_current(section: &[u8]) -> bool
     ensures { result ≡ is_current section.now }
 {

@@ -99,7 +99,7 @@ dropped_row_has_byte_error w sent got row column odd drop = grind
     (arith, nat_tests, even_parity_byte_exists)
 
 -- A cell takes the sent code; or it keeps its code or becomes a space, if the packet is lost or its
--- byte for the cell is wrong.
+-- byte for the cell is wrong (in receivers that drop rows: any of its bytes).
 abbrev StoresCode :
     ReceiverClass → ℕ → ℕ → List ℕ → Option (List ℕ) → State → State → Type 0
 StoresCode class row column sent arrival old new =
@@ -130,7 +130,9 @@ record CellAfterItem
   stays : is_this_page (kind w sent) ≡ false
       → (old.is_open && is_row row (kind w sent)) ≡ false
       → cell new.page row column ≡ cell old.page row column
-  -- A packet of the cell's row, received while the page is open, stores the sent code.
+  -- After a packet of the cell's row, sent with odd parity while the page is open, the cell has the
+  -- sent code. If the packet is lost or its byte for the cell is wrong (in receivers that drop
+  -- rows: any of its bytes), the cell may also keep its code or become a space.
   row_stores_code : kind w sent ≡ Row row
       → old.is_open ≡ true
       → HasOddText sent
@@ -224,7 +226,7 @@ module _ (keeps anew : Bool) (class : ReceiverClass) (w : PageIdValue) (row colu
       → HasOddText item.0 × (character_code (text_byte item.0 column) ≡ code)
 
   -- The cell may be a space if a packet of its row, in the last transmission of the page, is lost
-  -- or has a wrong byte for the cell.
+  -- or has a wrong byte for the cell (in receivers that drop rows: any wrong byte).
   abbrev pub ExplainLostCells : List Item → Type 0
   ExplainLostCells items =
       (item : Item)

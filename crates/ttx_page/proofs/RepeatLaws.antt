@@ -107,8 +107,9 @@ module _ (class : ReceiverClass) (w : PageIdValue) (sent : List (List ℕ)) (arr
         (recursion_from_All _ sent (λ k d l none. sends.erases none k d l)) may near hears
         (starts keeps anew class w row column (text row column) (IsSpaceAllowed row column) old)
 
-    -- After a header of the page, each cell has the code of the text, or is a space because of
-    -- noise or loss, if the page does not depend on its earlier contents.
+    -- After a header of the page, if the page does not depend on its earlier contents, each cell
+    -- has the code of the text, or is a space because of noise or loss, or because its row was not
+    -- sent since the last header of the page.
     cell_kept :
         has_page_header (kind w) sent ≡ true
         → IsFresh keeps anew w sent old

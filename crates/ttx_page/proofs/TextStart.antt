@@ -200,12 +200,12 @@ sends-joined keeps w before heard (p ∷ more) sends each =
     let first =
     subst (λ (ps : List (List ℕ)). MayFollow keeps w ps p) (append-nil (before ++ heard))
     (each 0 (omega arith)) in
-    let text_span_after_packet =
+    let sends_first =
     subst (λ (ps : List (List ℕ)). SendsText keeps w (heard ++ p ∷ []) (kept keeps w ps))
     (append_assoc before heard (p ∷ []))
     (sends-push keeps w before heard p sends first) in
     let rest =
-    sends-joined keeps w before (heard ++ p ∷ []) more text_span_after_packet
+    sends-joined keeps w before (heard ++ p ∷ []) more sends_first
     (λ k l.
     subst (λ (ps : List (List ℕ)). MayFollow keeps w ps (slice_index_or more k []))
     (sym (append_assoc (before ++ heard) (p ∷ []) (take k more))

@@ -46,7 +46,7 @@ pub complete_packet_settles : (old new : Option (List ℕ)) (taken : List ℕ)
     → size_at (take 6 taken) ≡ Ok (length taken)
     → SettlesPacket old new taken (value_at (drop 6 taken))
 complete_packet_settles old new taken h le header_states_size =
-    let has_six_bytes = length-take 6 taken in let others = length-drop 6 taken in
+    let first = length-take 6 taken in let others = length-drop 6 taken in
     grind (arith, nat_tests, take-append-drop 6 taken, append_assoc, header_and_body_decode)
 
 pub settled_result_is_value : (old new : Option (List ℕ)) (taken body : List ℕ)
@@ -104,14 +104,14 @@ settled_value_gives_data_field old new taken body field v h fit same is = record
   field_is_after_header = is ∙ ap (drop 39) same ∙ drop-drop 39 6 taken;
 }
 
-pub kept_header_keeps_size : (got n : ℕ) (old new has_six_bytes : List ℕ) (r : Result ℕ PesFault)
+pub kept_header_keeps_size : (got n : ℕ) (old new head : List ℕ) (r : Result ℕ PesFault)
     → 6 ≤ got
     → got ≤ n
     → take got new ≡ take got old
-    → has_six_bytes ≡ take 6 old
-    → size_at has_six_bytes ≡ r
+    → head ≡ take 6 old
+    → size_at head ≡ r
     → size_at (take 6 (take n new)) ≡ r
-kept_header_keeps_size got n old new has_six_bytes r le more kept is reported =
+kept_header_keeps_size got n old new head r le more kept is reported =
     ap size_at (take-take 6 n new (omega arith) ∙ sym (take-take 6 got new le) ∙ ap (take 6) kept
     ∙ take-take 6 got old le ∙ sym is)
     ∙ reported

@@ -16,13 +16,13 @@ use Rattle.ttx_pes.specs.LineOrder.{last_place, line_order_place, may_follow}
 use Rattle.ttx_pes.specs.PesGrammar.{PesValue}
 use Rattle.ttx_pes.specs.Reading.{flags_fault, is_start, packet_at, pts_at, size_at, stated_size}
 use Rattle.ttx_pes.specs.Reading.{teletext_at, unit_at, units_at, value_at}
-use Rattle.ttx_pes.specs.Refusal.{reported_fault, unit_faults}
+use Rattle.ttx_pes.specs.Refusal.{fault_of_check, unit_faults}
 use Rattle.ttx_pes.proofs.LineOrderLemmas.{last_place-push}
 
 -- The result is the fault of the first failed test of the list; its first test has number i.
 abbrev pub first_failed_test : List ℕ → ℕ → List Bool → Option PesFault
 first_failed_test b i [] = None
-first_failed_test b i (t ∷ ts) = cond (not t) (Some (reported_fault b i))
+first_failed_test b i (t ∷ ts) = cond (not t) (Some (fault_of_check b i))
     (first_failed_test b (i + 1) ts)
 
 -- All tests of the list before test number i pass.
@@ -34,7 +34,7 @@ pub record FirstFailedTest (b : List ℕ) (i : ℕ) (ts : List Bool) : Type 0 wh
   pub at : ℕ
   pub buffered : PassBelow ts at
   pub wrong : get_or ts at true ≡ false
-  pub reported : first_failed_test b i ts ≡ Some (reported_fault b (i + at))
+  pub reported : first_failed_test b i ts ≡ Some (fault_of_check b (i + at))
 
 passing_test_extends_prefix : (ts : List Bool) (n : ℕ) → PassBelow ts n → PassBelow (true ∷ ts)
     (suc n)
@@ -50,7 +50,7 @@ all_pass_or_first_fails b i (false ∷ ts) = inr (record {
   wrong = refl;
   reported =
       let number : i ≡ i + 0 = omega arith in
-      ap (λ (n : ℕ). Some (reported_fault b n)) number;
+      ap (λ (n : ℕ). Some (fault_of_check b n)) number;
 })
 all_pass_or_first_fails b i (true ∷ ts) = elim (all_pass_or_first_fails b (i + 1) ts) [
   | inl all ↦ inl (λ j. passing_test_extends_prefix ts j (λ k lt. all.0 k) j (omega arith), all.1)
@@ -121,7 +121,7 @@ refusal (Ok x) = None
 refusal (Err f) = Some f
 
 unit_fault_is_content_fault : (b : List ℕ) (i k r : ℕ) → r < 3 → i ≡ 9 + 3 * k + r
-    → reported_fault b i ≡ get_or unit_faults r fault.Truncated
+    → fault_of_check b i ≡ get_or unit_faults r fault.Truncated
 unit_fault_is_content_fault b i k r lt e = grind (arith, nat_tests, get_or_past)
 
 -- The data units from number k on can be parsed exactly if all tests pass; otherwise the fault is
@@ -169,7 +169,7 @@ not-not c = grind (arith, nat_tests)
 body_tests_find_fault : (n : ℕ) (b y rest : List ℕ)
     → length y ≡ 40 + 46 * n
     → ((i : ℕ) → i < 40 + 46 * n → get_or y i 0 ≡ get_or b (6 + i) 0)
-    → reported_fault b 4 ≡ flags_fault y
+    → fault_of_check b 4 ≡ flags_fault y
     → refusal {A = PesValue × List ℕ} (value_at y >>= λ v. Ok (v, rest))
     ≡ first_failed_test b 4 (body_tests b n)
 unfolding value_at pts_at

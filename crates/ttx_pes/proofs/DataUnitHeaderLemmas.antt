@@ -86,7 +86,8 @@ block_keeps_byte a at r l = get_or-take 46 (drop at a) r 0 l ∙ get_or-drop at 
 abbrev decoded_unit_list : List ℕ → List UnitValue
 decoded_unit_list b = cond (is_teletext (get_or b 0 0)) (unit_of b ∷ []) []
 
--- If a data unit can be parsed, so can a data unit with the same header.
+-- The data unit b can be parsed after the units `us`, and leads to the line order position of the
+-- units `more`.
 record ReadsSameHead (us more : List UnitValue) (b : List ℕ) : Type 0 where
   pub read : unit_at us b ≡ Ok (us ++ decoded_unit_list b)
   pub last : last_place 0 more ≡ last_place 0 (us ++ decoded_unit_list b)
@@ -169,7 +170,8 @@ equal_headers_have_same_places (suc n) at a b same =
     let rest = equal_headers_have_same_places n (at + 46) a b next in
     rw (head.id, rest) refl
 
--- Two data fields with the same data unit headers have their Teletext units at the same offsets.
+-- If a data field can be parsed, a data field with the same data unit headers can be parsed too,
+-- and has its Teletext units at the same offsets.
 pub equal_headers_share_places : (a b places : List ℕ)
     → length a ≡ length b
     → 0 < length a

@@ -19,7 +19,8 @@ use Rattle.ttx_pes.proofs.PesHeaderLemmas.{decoded_body_is_valid, pts_and_units_
 use Rattle.ttx_pes.proofs.PesHeaderLemmas.{first_six_bytes}
 use Rattle.ttx_pes.proofs.PesGrammarLemmas.{packet_value_is_valid}
 
--- A fault of the units of the data field is the fault of the PES packet.
+-- If the header and data_identifier of a PES packet are valid, the fault of its data units is the
+-- fault of the packet.
 pub unit_fault_refuses_value : (b field : List ℕ) (t : ℕ) (f : PesFault)
     → pts_at b ≡ Ok t
     → field ≡ drop 39 b

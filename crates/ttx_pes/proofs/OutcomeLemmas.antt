@@ -24,7 +24,8 @@ prepending_answer_gives_outcome : (answer : Result (Option PesValue) PesFault)
     ≡ prepend_answer answer (outcome_until_refusal more.pes_packets more.left)
 prepending_answer_gives_outcome answer more = grind (arith, nat_tests)
 
--- After a valid PES packet, its length field and the parser give the same remaining bytes.
+-- After any result of the reader, the outcome is the same whether the remaining bytes are
+-- determined by the length field or by the parser.
 rest_continues_outcome : (given : ℕ) (bytes : List ℕ) (answer : Result (Option PesValue) PesFault)
     → answer_at given bytes ≡ answer
     → prepend_answer answer (outcome_after (given + 1) (rest_after_pes_packet bytes))

@@ -105,7 +105,7 @@ decoded_body_is_valid n b v lo hi len fit e =
     let count : length (drop 40 b) / 46 ≡ 4 * n - 1 = omega arith in
     let u = decoded_units_are_valid (4 * n - 1) [] q.0 (drop 40 b) left (AreBytes-drop 40 b fit)
     (ap (λ (k : ℕ). units_at k [] (drop 40 b)) (sym count) ∙ q.1) in
-    let canonical_packet_loop_step = decoded_pts_encodes_back b p.0 fit h in
+    let encoded_pts = decoded_pts_encodes_back b p.0 fit h in
     let first = suffix_lists_its_bytes 8 0 b (omega arith) in
     let others = body_splits_at_byte_40 b (omega arith) in
     let body : b ≡ (get_or b 0 0 ∷ get_or b 1 0 ∷ 36 ∷ [])
@@ -123,7 +123,7 @@ decoded_body_is_valid n b v lo hi len fit e =
       size = (lo, hi);
       scrambling_is_off = h.scrambling_bits_are_clear;
       only_pts_is_present = h.only_pts_is_present;
-      pts_fits = canonical_packet_loop_step.1;
+      pts_fits = encoded_pts.1;
       header_length_is_31 = length-take 31 (drop 8 b) ∙ omega (arith, length-drop 8 b);
       is_ebu_data = h.is_ebu_teletext;
       are_valid_units = rw u.1 u.2;

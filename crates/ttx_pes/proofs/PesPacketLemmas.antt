@@ -11,7 +11,8 @@ use Rattle.ttx_pes.proofs.DataUnitLemmas.{AreBytes-take}
 use Rattle.ttx_pes.proofs.PesHeaderLemmas.{decoded_header_has_size}
 use Rattle.ttx_pes.proofs.AcceptingLemmas.{settled_result_is_value}
 
--- If the number of bytes is the size that their length field states, they are a PES packet.
+-- If bytes begin with the start code, and their number is the size that their length field states,
+-- they are a PES packet.
 pub stated_size_gives_pes_packet : (b : List ℕ)
     → AreBytes b
     → 6 ≤ length b

@@ -19,7 +19,7 @@ use Rattle.ttx_pes.specs.PesGrammar.{pts_bytes}
 use Rattle.ttx_pes.specs.Reading.{packet_at, stated_size}
 use Rattle.ttx_pes.specs.Refusal.{AgreeBeforeCheck, FailsFirstAtCheck, check_of_byte}
 use Rattle.ttx_pes.specs.Refusal.{header_byte_checks}
-use Rattle.ttx_pes.specs.Refusal.{reported_fault}
+use Rattle.ttx_pes.specs.Refusal.{fault_of_check}
 use Rattle.ttx_pes.specs.Refusal.{unit_byte_checks}
 use Rattle.ttx_pes.proofs.CheckOrderLemmas.{PassBelow, first_failed_test, packet_tests_find_fault}
 use Rattle.ttx_pes.proofs.CheckOrderLemmas.{refusal}
@@ -291,7 +291,7 @@ payloads b q buffered = elim (cases_lt 2 q) [
       in (t.0, t.1, t.2, λ _. t.3)
 ]
 
--- If test q fails, no packet of the grammar agrees with the bytes in check q too.
+-- If the bytes fail test q, no packet of the grammar agrees with them in all checks up to number q.
 no_packet_agrees_further : (b : List ℕ) (q : ℕ) (v : PesValue) (p : List ℕ)
     → get_or (tests b (stated_units b)) q true ≡ false
     → IsValidPesPacket v p
@@ -312,7 +312,7 @@ no_packet_agrees_further b q v p wrong h agree =
 refusal_names_first_failure : (b : List ℕ) (f : PesFault)
     → AreBytes b
     → packet_at b ≡ Err f
-    → (q : ℕ) × (reported_fault b q ≡ f) × FailsFirstAtCheck q b
+    → (q : ℕ) × (fault_of_check b q ≡ f) × FailsFirstAtCheck q b
 refusal_names_first_failure b f fit e =
     let requested : first_failed_test b 0 (tests b (stated_units b)) ≡ Some f =
     sym (packet_tests_find_fault b) ∙ ap refusal e in
@@ -323,7 +323,7 @@ refusal_names_first_failure b f fit e =
           let number : found.at ≡ 0 + found.at = omega arith in
           let a = agreeing_packet_exists b fit found.at n.0 n.1 n.2 n.3 found.buffered in (
             found.at,
-            ap (reported_fault b) number ∙ same_Some _ _ (sym found.reported ∙ requested),
+            ap (fault_of_check b) number ∙ same_Some _ _ (sym found.reported ∙ requested),
             record {
               value = a.0;
               packet = a.1;

@@ -26,12 +26,12 @@ repeated_packet_keeps_units pes_packet before body field h t fit known e field_s
     let long : 184 ≤ length pes_packet = omega (arith, e, field_size.long) in
     let short : length pes_packet ≤ 1656 = rw e known.short in
     let whole : length pes_packet % 184 ≡ 0 = rw e field_size.whole in
-    let has_six_bytes : length body + 6 ≡ length pes_packet =
+    let length_eq : length body + 6 ≡ length pes_packet =
     omega (arith, ap length is, length-drop 6 pes_packet, long) in
     let there : IsPesBody body = record {
-      short = rw has_six_bytes short;
-      whole = rw has_six_bytes whole;
-      long = rw has_six_bytes long;
+      short = rw length_eq short;
+      whole = rw length_eq whole;
+      long = rw length_eq long;
       fit = rw is (AreBytes-drop 6 pes_packet fit);
     } in
     let new : BufferedPacketValue = record h { pts = t } in

@@ -15,7 +15,7 @@ use Rattle.ttx_pes.specs.PesPackets.{SplitInto, IsPesPacket, pes_packets_after}
 use Rattle.ttx_pes.specs.Reader.{StartsWithoutValidPacket}
 use Rattle.ttx_pes.specs.Reading.{packet_at, answer_at, rest_after, is_format_fault}
 use Rattle.ttx_pes.specs.Reading.{max_pes_packets}
-use Rattle.ttx_pes.specs.Refusal.{reported_fault, FailsFirstAtCheck}
+use Rattle.ttx_pes.specs.Refusal.{fault_of_check, FailsFirstAtCheck}
 use Rattle.ttx_pes.specs.declared.fault.PesFault.{PesFault}
 use Rattle.ttx_pes.specs.declared.fault.PesFault.TheVariants.{TooMany}
 
@@ -63,7 +63,7 @@ LawOfRefusal =
     → AreBytes bytes
     → ((f : PesFault)
     → packet_at bytes ≡ Err f
-    → (question : ℕ) × (reported_fault bytes question ≡ f) × FailsFirstAtCheck question bytes)
+    → (question : ℕ) × (fault_of_check bytes question ≡ f) × FailsFirstAtCheck question bytes)
     × ((question : ℕ) → FailsFirstAtCheck question bytes → (f : PesFault) ×
     (packet_at bytes ≡ Err f))
 

@@ -24,7 +24,8 @@ unit_of b = record {
   packet = map mirror (drop 4 b);
 }
 
--- The Teletext unit of a data unit, or `None` if the data unit carries no Teletext packet.
+-- The Teletext unit of a data unit; `None` if its data_unit_id is not one of Teletext; or the fault
+-- of its data_unit_length, which is checked first, or of its framing_code.
 unfoldable pub teletext_at : List ℕ → Result (Option UnitValue) PesFault
 teletext_at b =
     if not (slice_index b 1 == data_unit_length) then Err fault.UnitLength

@@ -42,8 +42,8 @@ abbrev pub unit_faults : List PesFault
 unit_faults = fault.UnitLength ∷ fault.Framing ∷ fault.LineOrder ∷ []
 
 -- The fault of check number i for the bytes b.
-abbrev pub reported_fault : List ℕ → ℕ → PesFault
-reported_fault b i =
+abbrev pub fault_of_check : List ℕ → ℕ → PesFault
+fault_of_check b i =
     slice_index_or (packet_faults b) i (slice_index_or unit_faults (i % 3) fault.Truncated)
 
 -- The check number of bytes that may have any value: greater than the number of any check.

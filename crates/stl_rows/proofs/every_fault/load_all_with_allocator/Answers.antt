@@ -56,19 +56,19 @@ subtitles-init g c = rw c.new-kept.ensures (record {
 pub subtitles-preserved-in-Ok-Refused : goal.subtitles-preserved-in-Ok-Refused
 subtitles-preserved-in-Ok-Refused g c =
     let i = c.subtitles.invariant in
-    let drop_splits_at_element = c.next_into.new.self.block in
+    let block = c.next_into.new.self.block in
     let fault = c.in-Ok-Refused.fault in
     let l = rw (c.in-Ok-Refused.field-0-is, i.scope) at (c.in-Ok-Refused.ensures.leads refl) in
     let first = rw c.in-Ok-Refused.field-0-is at c.in-Ok-Refused.ensures.first in
     let reported = rw c.block-in-Ok-Refused.ensures.value at c.in-Ok-report_fault.ensures.reported
     in
     rw c.note_rejected.ensures (record {
-      early = i.early ++ load_fault drop_splits_at_element (File fault) ∷ [];
+      early = i.early ++ load_fault block (File fault) ∷ [];
       reported = Reports-trans _ _ _ i.early _ i.reported reported;
-      early_reported = reported-refused fault c.subtitles.reader.block drop_splits_at_element
+      early_reported = reported-refused fault c.subtitles.reader.block block
           i.early
           (let b = l.block in omega arith) first i.early_reported;
-      records_match_faults = kept-refused (load_fault drop_splits_at_element (File fault))
+      records_match_faults = kept-refused (load_fault block (File fault))
           i.records_match_faults;
       audience_listens = search rules;
       reading = rw c.in-Ok-Refused.field-0-is at c.in-Ok-Refused.ensures.progress;
@@ -78,7 +78,7 @@ subtitles-preserved-in-Ok-Refused g c =
       continues = λ bytes e.
           let was = i.continues bytes e in
           let now = left-then _ _ was.0 l was.1 in
-          (now.0, now.1, continues-refused fault drop_splits_at_element (rw now.2 at was.2));
+          (now.0, now.1, continues-refused fault block (rw now.2 at was.2));
     })
 
 pub returns-in-Ok-report_end-clause-exact : goal.returns-in-Ok-report_end-clause-exact
@@ -96,12 +96,12 @@ returns-in-Err-report_end-clause-read g c = grind (arith, nat_tests, lt-ltb, rea
 pub returns-in-Ok-report_end-2-clause-exact : goal.returns-in-Ok-report_end-2-clause-exact
 returns-in-Ok-report_end-2-clause-exact g c = λ bytes e.
     let i = c.subtitles.invariant in
-    let drop_splits_at_element = i.continues bytes e in
+    let was = i.continues bytes e in
     let l = rw i.scope at (c.in-Err-next_into.ensures.leads c.in-Ok-report_end-2.ensures.file) in
-    let end = left-then _ _ drop_splits_at_element.0 l drop_splits_at_element.1 in (
-      reports-end drop_splits_at_element.2 i.reported end.2
+    let end = left-then _ _ was.0 l was.1 in (
+      reports-end was.2 i.reported end.2
           (rw c.block.ensures.value at c.in-Ok-report_end-2.ensures.reported),
-      inr (can_judge-broken drop_splits_at_element.2 end.2),
+      inr (can_judge-broken was.2 end.2),
     )
 
 pub returns-in-Ok-report_end-2-clause-reported : goal.returns-in-Ok-report_end-2-clause-reported
@@ -124,10 +124,10 @@ returns-in-Err-report_end-2-clause-read g c = λ is.
 pub returns-in_default-clause-exact : goal.returns-in_default-clause-exact
 returns-in_default-clause-exact g c = λ bytes e.
     let i = c.subtitles.invariant in
-    let drop_splits_at_element = i.continues bytes e in
+    let was = i.continues bytes e in
     let l = rw (c.in-Ok-Refused.field-0-is, i.scope) at (c.in-Ok-Refused.ensures.leads refl) in
-    let now = left-then _ _ drop_splits_at_element.0 l drop_splits_at_element.1 in (
-      reports-refused drop_splits_at_element.2 i.reported _ now.2 c.in_default.ensures.stopped
+    let now = left-then _ _ was.0 l was.1 in (
+      reports-refused was.2 i.reported _ now.2 c.in_default.ensures.stopped
           (rw c.block-in-Ok-Refused.ensures.value at c.in_default.ensures.reported),
       inl c.in_default.ensures.stopped,
     )
@@ -144,10 +144,10 @@ pub returns-in_default-report_faults-clause-exact :
     goal.returns-in_default-report_faults-clause-exact
 returns-in_default-report_faults-clause-exact g c = λ bytes e.
     let i = c.subtitles.invariant in
-    let drop_splits_at_element = i.continues bytes e in
+    let was = i.continues bytes e in
     let l = rw (c.in-Ok-Subtitle.field-0-is, i.scope) at (c.in-Ok-Subtitle.ensures.leads refl) in
-    let now = left-then _ _ drop_splits_at_element.0 l drop_splits_at_element.1 in (
-      reports-stop drop_splits_at_element.2 i.reported _ now.2
+    let now = left-then _ _ was.0 l was.1 in (
+      reports-stop was.2 i.reported _ now.2
           c.in_default-report_faults.ensures.stopped
           (rw c.block-block.ensures.value at c.in_default-report_faults.ensures.stops),
       inl c.in_default-report_faults.ensures.stopped,
@@ -167,20 +167,20 @@ returns-in_default-report_faults-clause-reported g c =
 pub returns-in-Ok-End-clause-exact : goal.returns-in-Ok-End-clause-exact
 returns-in-Ok-End-clause-exact g c = λ bytes e.
     let i = c.subtitles.invariant in
-    let drop_splits_at_element = i.continues bytes e in
+    let was = i.continues bytes e in
     let l = rw (c.in-Ok-End.field-0-is, i.scope) at (c.in-Ok-End.ensures.leads refl) in
-    let end = left-then _ _ drop_splits_at_element.0 l drop_splits_at_element.1 in
+    let end = left-then _ _ was.0 l was.1 in
     elim (cases_Bool (is_checkable c.subtitles.kept)) [
       | inl enough ↦
           rw (c.into_checkable.ensures, enough) (
-            can_judge-enough drop_splits_at_element.2 end.2 i.records_match_faults enough,
-            rw (reported-all drop_splits_at_element.2 end.2) i.reported,
+            can_judge-enough was.2 end.2 i.records_match_faults enough,
+            rw (reported-all was.2 end.2) i.reported,
           )
       | inr few ↦
           rw (c.into_checkable.ensures, few) (
-            reports-none drop_splits_at_element.2 i.reported end.2 (some-few i.records_match_faults
+            reports-none was.2 i.reported end.2 (some-few i.records_match_faults
                 few),
-            inr (can_judge-not drop_splits_at_element.2 end.2 few),
+            inr (can_judge-not was.2 end.2 few),
           )
     ]
 
@@ -214,7 +214,7 @@ pub subtitles-preserved : goal.subtitles-preserved
 subtitles-preserved g c =
     let i = c.subtitles.invariant in
     let t = c.next_into.new.subtitle in
-    let drop_splits_at_element = c.next_into.new.self.block in
+    let block = c.next_into.new.self.block in
     let l = rw (c.in-Ok-Subtitle.field-0-is, i.scope) at (c.in-Ok-Subtitle.ensures.leads refl) in
     let is_clean = c.in-Ok-report_faults.ensures.clean in
     let is_order =
@@ -222,13 +222,13 @@ subtitles-preserved g c =
     (rw (c.order_fault_after.ensures, c.of-times.ensures.value) at c.is_none-in_order.ensures) in
     let reported = rw c.block-block.ensures.value at c.in-Ok-report_faults.ensures.reported in
     rw (c.in_default-put.ensures.kept, c.of-times.ensures.value) (record {
-      early = i.early ++ map (load_fault drop_splits_at_element)
+      early = i.early ++ map (load_fault block)
           (faults_of_next_subtitle c.args.drawing c.subtitles.before t);
       reported = Reports-trans _ _ _ i.early _ i.reported reported;
       early_reported = reported-next c.args.drawing c.subtitles.before t c.subtitles.reader.block
-          drop_splits_at_element
+          block
           i.early (let b = l.block in omega arith) i.early_reported;
-      records_match_faults = kept-next t drop_splits_at_element i.records_match_faults
+      records_match_faults = kept-next t block i.records_match_faults
           c.is_none-in_order.result
           c.in-Ok-report_faults.clean is_clean c.of-times.ensures.subtitle;
       audience_listens = search rules;
@@ -241,7 +241,7 @@ subtitles-preserved g c =
           let now = left-then _ _ was.0 l was.1 in (
             now.0,
             now.1,
-            continues-next t drop_splits_at_element c.is_none-in_order.result
+            continues-next t block c.is_none-in_order.result
                 c.in-Ok-report_faults.clean i.records_match_faults
                 is_order is_clean (rw now.2 at was.2),
           );
@@ -251,20 +251,20 @@ pub returns-in-Err-put-clause-exact : goal.returns-in-Err-put-clause-exact
 returns-in-Err-put-clause-exact g c = λ bytes e is.
     let i = c.subtitles.invariant in
     let t = c.next_into.new.subtitle in
-    let drop_splits_at_element = c.next_into.new.self.block in
+    let block = c.next_into.new.self.block in
     let was = i.continues bytes e in
     let l = rw (c.in-Ok-Subtitle.field-0-is, i.scope) at (c.in-Ok-Subtitle.ensures.leads refl) in
     let now = left-then _ _ was.0 l was.1 in
     let reading = rw c.in-Ok-Subtitle.field-0-is at c.in-Ok-Subtitle.ensures.progress in
     let place = rw reading at c.in-Ok-Subtitle.ensures.place in
-    let named = found-from c.args.drawing.scope drop_splits_at_element c.next_into.new.self.refused
+    let named = found-from c.args.drawing.scope block c.next_into.new.self.refused
     now.0 place in
-    let later : c.subtitles.reader.block < drop_splits_at_element =
+    let later : c.subtitles.reader.block < block =
     let whole = l.whole refl in
     let some = l.some refl in
     omega (arith, whole, some) in
     let reported = rw c.block-block.ensures.value at c.in-Ok-report_faults.ensures.reported in
     rw c.block-block.ensures.value
-    (wants-memory c.subtitles.reader.block drop_splits_at_element t _ later i.early_reported named
+    (wants-memory c.subtitles.reader.block block t _ later i.early_reported named
     (sym c.in-Ok-report_faults.ensures.clean ∙ c.in-Err-put.ensures.memory.1) (rw now.2 at was.2)
     (Reports-trans _ _ _ i.early _ i.reported reported))

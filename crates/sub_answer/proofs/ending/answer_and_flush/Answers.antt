@@ -1,5 +1,5 @@
 use Rattle.std.proofs.Common.{refl}
-use Rattle.sub_answer.specs.Ending.{lines_of_sink}
+use Rattle.sub_answer.specs.Ending.{state_of_sink}
 use Rattle.sub_answer.proofs.EndingLemmas.{followed_before, written_before}
 use Rattle.sub_answer.proofs.ending.answer_and_flush.Goals as goal
 
@@ -21,7 +21,7 @@ returns-clause-ends g c = record {
         c.requires.file.1 c.answer_from_inputs-status.ensures.answers.written;
   };
   status = c.answer_from_inputs-status.result;
-  printed = lines_of_sink g.O.Sink.contents g.O.FlushPending.buffer_state g.O.Sink.failure_count
+  printed = state_of_sink g.O.Sink.contents g.O.FlushPending.buffer_state g.O.Sink.failure_count
       c.answer_from_inputs-status.new.out;
   answers = c.answer_from_inputs-status.ensures.answers.answers;
   followed =

@@ -173,7 +173,8 @@ returns-then-reporter-clause-exact g c = λ bytes reported pes_packets unread re
     so_far received.cut in
     search rules
 
--- The events reported for a PES packet form a list, even if the bytes of the file are unknown.
+-- If the device stops the check at a PES packet, it has received some list of events, even if the
+-- bytes of the file are unknown.
 pub returns-then-reporter-clause-some : goal.returns-then-reporter-clause-some
 returns-then-reporter-clause-some g c =
     let inv = c.pes_packets.invariant in

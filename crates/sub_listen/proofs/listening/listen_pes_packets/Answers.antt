@@ -12,7 +12,7 @@ use Rattle.sub_rules.specs.declared.fault.CheckFault.{CheckFault}
 use Rattle.sub_rules.specs.declared.pes_packet.NextPesPacket.{NextPesPacket}
 use Rattle.sub_rules.specs.declared.pes_packet.NextPesPacket.TheVariants.{Skipped}
 use Rattle.sub_listen.specs.Run.{least_frame_after}
-use Rattle.sub_listen.specs.Reception.{ReceivesPackets, packets_used_by, first_lost_header}
+use Rattle.sub_listen.specs.Reception.{ReceivesPackets, packets_used_by, first_forbidden_loss}
 use Rattle.sub_listen.specs.Reception.{reception_of}
 use Rattle.sub_listen.proofs.ListenResultLemmas.{ReachesPesPacket, ends_at_end, ends_late}
 use Rattle.sub_listen.proofs.ListenResultLemmas.{ends_lost, ends_order}
@@ -83,13 +83,13 @@ returns-then-frame-listening-clause-exact g c = λ frames unread bytes reported 
     (c.in_ok-next.ensures.sent c.in-Sent.sending (cc))))
     (omega (arith, rises)) (omega (arith, late))
 
-pub returns-in-Some-first_lost_header-clause-exact :
-    goal.returns-in-Some-first_lost_header-clause-exact
-returns-in-Some-first_lost_header-clause-exact g c = λ frames unread bytes reported reads fine.
+pub returns-in-Some-first_forbidden_loss-clause-exact :
+    goal.returns-in-Some-first_forbidden_loss-clause-exact
+returns-in-Some-first_forbidden_loss-clause-exact g c = λ frames unread bytes reported reads fine.
     let i = c.packets.invariant.reported frames unread bytes reported reads in
     let rises = c.if-frame-least.false in
     let in_time = c.if-frame-listening.false in
-    let place = c.in-Some-first_lost_header.place in
+    let place = c.in-Some-first_forbidden_loss.place in
     let l = c.args.listening.now in
     ends_lost _ l frames unread _ _ _ c.packets.index _ _ _ _ _ i _
     c.next_pes_packet.new.reader.frame c.in-Sent.sending
@@ -100,11 +100,11 @@ returns-in-Some-first_lost_header-clause-exact g c = λ frames unread bytes repo
     (c.in_ok-next.ensures.sent c.in-Sent.sending (cc)))) c.first_in_frame-before.result place
     (rw (← c.within-within.ensures.value) c.first_in_frame-before.ensures.value)
     (omega (arith, rises)) (omega (arith, in_time))
-    (ap (λ (us : List UnitValue). first_lost_header (reception_of l) c.packets.number
+    (ap (λ (us : List UnitValue). first_forbidden_loss (reception_of l) c.packets.number
     (packets_of_units us))
     (sym c.units-units.ensures.value)
-    ∙ sym c.first_lost_header.ensures.value
-    ∙ c.in-Some-first_lost_header.is)
+    ∙ sym c.first_forbidden_loss.ensures.value
+    ∙ c.in-Some-first_forbidden_loss.is)
 
 pub packets-preserved : goal.packets-preserved
 packets-preserved g c =
@@ -127,10 +127,10 @@ packets-preserved g c =
     let taken =
     takes-more c.packets.index _ _ _ _ c.packets.invariant.taken
     (c.in_ok-next.ensures.sent c.in-Sent.sending given) in
-    let whole = ap (λ (us : List UnitValue). first_lost_header (reception_of l)
+    let whole = ap (λ (us : List UnitValue). first_forbidden_loss (reception_of l)
     c.packets.number (packets_of_units us)) (sym value)
-    ∙ sym c.first_lost_header.ensures.value
-    ∙ c.in_default-first_lost_header.is in
+    ∙ sym c.first_forbidden_loss.ensures.value
+    ∙ c.in_default-first_forbidden_loss.is in
     let run =
     subst (λ (us : List UnitValue). ReceivesPackets l g.R.Receiver.leaves
     (g.R.Receiver.tuned_to c.packets.receiver)

@@ -23,4 +23,4 @@ invariant-items g l = record {
 }
 
 abbrev pub decreases-items : goal.decreases-items
-decreases-items g l = g.L.Lister.pes_packets l.lister
+decreases-items g l = g.L.Lister.items_left l.lister

@@ -2,7 +2,7 @@ use Rattle.std.proofs.Common.{[], ◌∷◌, ◌++◌, ◌∙◌, subst, sym}
 use Rattle.sub_io.proofs.ReportingLemmas.{Reports-trans}
 use Rattle.sub_io.specs.Reporting.{Reports, first_as_list}
 use Rattle.sub_rules.specs.Trusted.CheckStep.{Emits}
-use Rattle.sub_checker.specs.FusedAudience.{IsFused}
+use Rattle.sub_checker.specs.FusedAudience.{ReportsUnlessStopped}
 use Rattle.sub_checker.specs.SkippedPesPackets.{skipped_run_of}
 use Rattle.sub_checker.proofs.RelayLemmas.{announcing_appends_one_event}
 use Rattle.sub_checker.proofs.RelayLemmas.{skipped_run_is_kept_after_event}
@@ -21,7 +21,7 @@ returns g c =
     c.say-first.ensures.kept
     c.with_pes_number-event.ensures)
     c.say-first.ensures.kept
-    (subst (Reports (IsFused g.A.ReportSink.is_reported) c.args.self.now.fused _)
+    (subst (Reports (ReportsUnlessStopped g.A.ReportSink.is_reported) c.args.self.now.fused _)
     (sym (announcing_appends_one_event run c.announce_if_present.new.run
     (first_as_list c.say-first.result)
     c.with_pes_number-event.result c.announce_if_present.ensures.kept))

@@ -6,5 +6,5 @@ pub returns : goal.returns
 returns c heard known =
     let is = rules_are c.args.self.now.watched heard c.args.packet.now c.args.self.now.serial
     known.serial_eq in
-    let later = c.broken_rules_after_header.ensures.rules heard known in
+    let later = c.broken_rules_from_control.ensures.rules heard known in
     rw is (grind arith)

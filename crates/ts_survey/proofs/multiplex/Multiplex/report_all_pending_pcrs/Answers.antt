@@ -9,5 +9,6 @@ loop-carrier-preserved c =
     let items = c.loop-carrier.carrier-items in
     let at = c.loop-carrier.carrier-index in
     let below : at < length items = search rules in
-    map-same followed_pid items at c.settle.new.self c.carrier-item.result below c.settle.ensures
+    map-same followed_pid items at c.report_settled_pcrs.new.self c.carrier-item.result below
+    c.report_settled_pcrs.ensures
     ∙ c.loop-carrier.invariant

@@ -4,7 +4,7 @@ use Rattle.sub_packets.proofs.PacketRuleLemmas.{closing_header_breaks_no_later_r
 use Rattle.sub_packets.proofs.PacketRuleLemmas.{other_packet_breaks_enhancement_rule_only}
 use Rattle.sub_packets.proofs.PacketRuleLemmas.{row_breaks_row_rules_only}
 use Rattle.sub_packets.proofs.PacketRuleLemmas.{page_header_breaks_control_rule_only}
-use Rattle.sub_packets.proofs.listener.Listener.broken_rules_after_header.Goals as goal
+use Rattle.sub_packets.proofs.listener.Listener.broken_rules_from_control.Goals as goal
 
 pub returns-in-ThisPage-clause-rules : goal.returns-in-ThisPage-clause-rules
 returns-in-ThisPage-clause-rules c heard known =

@@ -2,7 +2,7 @@
 use Rattle.std.proofs.Common.{◌≡◌, ◌<◌, ◌∙◌, length, map, rules, slice_set}
 use Rattle.ts_survey.specs.Requested.{followed_pid}
 use Rattle.ts_survey.proofs.RequestedLemmas.{map-same}
-use Rattle.ts_survey.proofs.multiplex.Multiplex.settle.Goals as goal
+use Rattle.ts_survey.proofs.multiplex.Multiplex.report_settled_pcrs.Goals as goal
 
 pub loop-carrier-preserved : goal.loop-carrier-preserved
 loop-carrier-preserved c =
@@ -10,9 +10,9 @@ loop-carrier-preserved c =
     let at = c.loop-carrier.carrier-index in
     let below : at < length items = search rules in
     let next :
-    map followed_pid (slice_set items at c.settle.new.self)
+    map followed_pid (slice_set items at c.report_settled_pcrs.new.self)
     ≡ map followed_pid c.args.self.now.carriers.items =
-    map-same followed_pid items at c.settle.new.self c.carrier-item.result below
-    c.settle.ensures
+    map-same followed_pid items at c.report_settled_pcrs.new.self c.carrier-item.result below
+    c.report_settled_pcrs.ensures
     ∙ c.loop-carrier.invariant in
     search rules

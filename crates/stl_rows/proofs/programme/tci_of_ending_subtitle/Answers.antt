@@ -2,7 +2,7 @@
 use Rattle.std.proofs.Common.{arith, rules, ◌-◌, ◌∙◌, ap, Some}
 use Rattle.stl_rows.proofs.DuePageLemmas.{ends-next, no_tco_means_none_ending}
 use Rattle.stl_rows.proofs.DuePageLemmas.{no_tco_means_none_ending-next}
-use Rattle.stl_rows.proofs.programme.tci_ending_at.Goals as goal
+use Rattle.stl_rows.proofs.programme.tci_of_ending_subtitle.Goals as goal
 
 pub returns-then-frame-eq0 : goal.returns-then-frame-eq0
 returns-then-frame-eq0 c = no_tco_means_none_ending c.args.subtitles.now c.args.frame (λ k d b.

@@ -1,6 +1,0 @@
--- No iteration of `settle` changes the PID of the carrier.
-use Rattle.std.proofs.Common.{◌≡◌}
-use Rattle.ts_survey.proofs.carrier.Carrier.settle.Given as goal
-
-abbrev pub invariant-loop : goal.invariant-loop
-invariant-loop l = l.self.pid ≡ l.fn.self.pid

@@ -1,0 +1,6 @@
+-- In each iteration of `read_complete_sections`, the requested PID and page stay the same.
+use Rattle.ts_survey.specs.Requested.{KeepsRequested}
+use Rattle.ts_survey.proofs.multiplex.Multiplex.read_complete_sections.Given as goal
+
+abbrev pub invariant-loop : goal.invariant-loop
+invariant-loop l = KeepsRequested l.fn.self l.self
