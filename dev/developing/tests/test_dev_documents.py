@@ -21,12 +21,12 @@ from subtitles.cli.main import make_parser
 from subtitles.cli.state import MIN_FREE_BYTES
 from subtitles.clock.stretches import MIN_BREAK_FRAMES, MIN_MATCHING_CUES
 from subtitles.common.command_line import (
-    BUG_STATUS, MAX_EVERY, MAX_WITHIN, Stop, USAGE_STATUS)
+    BUG_STATUS, MAX_EVERY, MAX_WITHIN, PACKET_SIZE, Stop, USAGE_STATUS)
 from subtitles.common.program import TOP, read
 from subtitles.common.times import FRAMES_A_SECOND, FRAMES_OF_A_DAY
 from subtitles.formats.layout import LAST_ROW
 from subtitles.formats.listing import (
-    ENDS_FILE, ENDS_READING, LOST_PACKETS, SKIPPED_PACKETS, STL_FAULTS)
+    ENDS_FILE, ENDS_READING, FAULTS_WITH_CAUSE, LOST_PACKETS, SILENT, SKIPPED_PACKETS, STL_FAULTS)
 from subtitles.formats.midnight import MIN_STEP_BACK
 from subtitles.formats.stl import MAX_STL, TEXT
 from subtitles.formats.stl_writer import MAX_BLOCKS
@@ -295,6 +295,8 @@ def read_constant(module: str, name: str) -> int:
 RECORDER, JUDGE, STATUS = make_record_parser(), make_judge_parser(), make_status_parser()
 NUMBER_WORDS = {2: "two", 3: "three", 4: "four", 5: "five", 10: "ten"}
 BREAK_SECONDS = NUMBER_WORDS[MIN_BREAK_FRAMES // FRAMES_A_SECOND]
+PAGE_COLUMNS, PAGE_ROWS = map(int, re.findall(r"rows: \[\[u8; (\d+)\]; (\d+)\]", read(
+    os.path.join(TOP, "crates", "ttx_page", "src", "page.rt")) or "")[0])
 DEFAULTS = {option.name: option.default for option in OPTIONS}
 FINAL = {*STATUSES.values()} - {STATUSES[NOT_JUDGED]}
 STATED: list[tuple[str, str, object]] = [
@@ -347,6 +349,14 @@ STATED: list[tuple[str, str, object]] = [
     ("manual/qc.md", "for more than {} s, subtitles were sent", MAX_HOLE // 90_000),
     ("manual/refusals.md", "The list ends early at faults {}.",
      join_numbers(ENDS_FILE | ENDS_READING)),
+    ("manual/refusals.md", "For faults {}, first read", join_numbers(FAULTS_WITH_CAUSE)),
+    ("manual/refusals.md", "cause for fault 72, and for faults {} if",
+     join_numbers(FAULTS_WITH_CAUSE - {72})),
+    ("manual/qc.md", "`{} warning` waives only lost packets", LOST_PACKETS),
+    ("manual/qc.md", "`{} warning` only intervals without PES packets", SILENT),
+    ("MANUAL.md", "each cell of rows 1 to {}", PAGE_ROWS),
+    ("HEADLINE.md", "in one of rows 1 to {} and", PAGE_ROWS),
+    ("HEADLINE.md", "and columns 0 to {}.", PAGE_COLUMNS - 1),
     ("manual/refusals.md", "continues after faults {}.", join_numbers(SKIPPED_PACKETS - {61})),
     ("manual/refusals.md", "is refused (faults {})", join_numbers(STL_FAULTS - ENDS_FILE)),
     ("manual/refusals.md", "Correct the subtitle file (faults {}).", join_numbers(STL_FAULTS)),
@@ -369,6 +379,7 @@ STATED: list[tuple[str, str, object]] = [
     ("manual/reference.md", "bytes of text, in rows 1 to {}.", LAST_ROW),
     ("manual/reference.md", "has at most 2^{} bytes",
      read_constant("mpeg_ts/stream", "MAX_STREAM_BYTES").bit_length() - 1),
+    ("manual/survey.md", "without the S - {} extra bytes", PACKET_SIZE),
     *(("manual/survey.md", words, read_constant(f"ts_survey/{module}", name) // unit)
       for words, module, name, unit in (
           ("the first {} bytes of the recording", "recording", "HEAD", 1),
@@ -430,8 +441,19 @@ class StatedFacts(Case):
                           read_document("docs/manual/refusals.md"), re.M)
         for number, anchor in rows:
             self.check(f"fault {number}", anchor, number)
-        self.check("numbers", sorted(int(number) for number, _ in rows),
-                   sorted(FAULT_NUMBERS - {3, 4}))
+        numbers = {int(number) for number, _ in rows}
+        self.check("numbers", sorted(numbers), sorted(FAULT_NUMBERS - {3, 4}))
+        text = read_document("docs/manual/refusals.md")
+        for anchor, number in re.findall(r'<a id="n(\d+)"></a>(\d+)', text):
+            self.check(f"fault {number}", anchor, number)
+        arguments = {int(number) for number in re.findall(
+            r'<a id="n(\d+)">', text.partition("## Arguments")[2].partition("\n## ")[0])}
+        page = read_document("docs/subttx.1").partition("what to do about it:")[2]
+        groups = re.findall(r"^(\d[\d, to]*) [A-Z]", page.partition('.SH "EXIT')[0], re.M)
+        listed = [item for group in groups for item in group.split(", ")]
+        self.check("the man page", sorted(number for item in listed for number in range(
+            int(item.split(" to ")[0]), int(item.split(" to ")[-1]) + 1)), sorted(
+                {*numbers, *arguments, 3, 4, 26, 29, 41, 42, 58, 90, 91}))
 
     def test_the_table_of_national_options_is_right(self) -> None:
         rows = re.findall(r"^\| `(\w+)` \| (\d{4}) \| (\d{3}) \| [^|]+ \| ([^|]+) \|$",
