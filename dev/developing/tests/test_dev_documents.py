@@ -26,7 +26,8 @@ from subtitles.common.program import TOP, read
 from subtitles.common.times import FRAMES_A_SECOND, FRAMES_OF_A_DAY
 from subtitles.formats.layout import LAST_ROW
 from subtitles.formats.listing import (
-    ENDS_FILE, ENDS_READING, FAULTS_WITH_CAUSE, LOST_PACKETS, SILENT, SKIPPED_PACKETS, STL_FAULTS)
+    ENDS_FILE, ENDS_READING, FAULTS_WITH_CAUSE, LOST_PACKETS, SILENT, SKIPPED_PACKETS,
+    STL_FAULTS)
 from subtitles.formats.midnight import MIN_STEP_BACK
 from subtitles.formats.stl import MAX_STL, TEXT
 from subtitles.formats.stl_writer import MAX_BLOCKS
@@ -297,6 +298,8 @@ NUMBER_WORDS = {2: "two", 3: "three", 4: "four", 5: "five", 10: "ten"}
 BREAK_SECONDS = NUMBER_WORDS[MIN_BREAK_FRAMES // FRAMES_A_SECOND]
 PAGE_COLUMNS, PAGE_ROWS = map(int, re.findall(r"rows: \[\[u8; (\d+)\]; (\d+)\]", read(
     os.path.join(TOP, "crates", "ttx_page", "src", "page.rt")) or "")[0])
+PES_BYTES = read_constant("sub_listing/copying", "PES_PACKET_CAPACITY")
+LOST_UNSEEN = read_constant("ts_survey/packets_in_step", "LOSS_SIZE_IN_PACKETS")
 DEFAULTS = {option.name: option.default for option in OPTIONS}
 FINAL = {*STATUSES.values()} - {STATUSES[NOT_JUDGED]}
 STATED: list[tuple[str, str, object]] = [
@@ -373,13 +376,27 @@ STATED: list[tuple[str, str, object]] = [
     ("manual/reference.md", "between PES packets in frames, 1 to {:,} |", MAX_EVERY),
     ("manual/reference.md", "from the expected page, 0 to {} |", MAX_WITHIN),
     ("manual/reference.md", "change up to {} bits", read_constant("sub_words/lists", "MAX_ITEMS")),
-    ("manual/reference.md", "lose up to {} packets", read_constant("sub_words/lists", "MAX_ITEMS")),
+    ("manual/reference.md", "lose up to {} packets",
+     read_constant("sub_words/lists", "MAX_ITEMS")),
     ("manual/reference.md", "A subtitle has at most {} TTI blocks", MAX_BLOCKS),
     ("manual/reference.md", "TTI blocks with {} bytes of text", MAX_BLOCKS * TEXT),
     ("manual/reference.md", "bytes of text, in rows 1 to {}.", LAST_ROW),
     ("manual/reference.md", "has at most 2^{} bytes",
      read_constant("mpeg_ts/stream", "MAX_STREAM_BYTES").bit_length() - 1),
+    ("manual/reference.md", "decodes the {} bytes of one packet",
+     read_constant("ts_survey/units", "UNIT_SIZE") - 4),
+    ("manual/refusals.md", "is not {} N - 6, with", read_constant("mpeg_ts/gap_marker",
+                                                                  "GAP_MARKER_SIZE")),
+    ("manual/refusals.md", "send at most {} bytes in each PES packet", PES_BYTES),
+    ("manual/refusals.md", "N - 6, with N from 1 to {} |", PES_BYTES // 184),
+    ("manual/refusals.md", "no subtitle draws this page: text in row {},", PAGE_ROWS),
+    ("manual/streams.md", "does not show a loss of {} consecutive TS packets", LOST_UNSEEN + 1),
+    ("manual/streams.md", "After a loss of {}, the next TS packet", LOST_UNSEEN),
+    ("manual/streams.md", "no {} consecutive TS packets of the PID are missing", LOST_UNSEEN),
+    ("manual/streams.md", "apart if at least {} TS packets of the PID", LOST_UNSEEN + 1),
     ("manual/survey.md", "without the S - {} extra bytes", PACKET_SIZE),
+    ("manual/survey.md", "33-bit counts of a {} kHz clock",
+     read_constant("ts_survey/clock", "CLOCK_TICKS_PER_SECOND") // 1000),
     *(("manual/survey.md", words, read_constant(f"ts_survey/{module}", name) // unit)
       for words, module, name, unit in (
           ("the first {} bytes of the recording", "recording", "HEAD", 1),
@@ -393,12 +410,12 @@ STATED: list[tuple[str, str, object]] = [
           ("at most {} Teletext PIDs", "multiplex", "CAPACITY", 1),
           ("video PIDs and {} PIDs with tables", "tables", "MAX_TABLE_PIDS", 1),
           ("remembers the last {} discontinuities", "pid_state", "MAX_STORED_BREAKS", 1)))]
-# For each fault that documents mention, words of which its sentence or table row must contain one.
+# For each fault that documents mention, words of which its sentence or table row contains one.
 FAULT_WORDS = {
     10: "block", 11: "DFC", 13: "DSC|open", 14: "code table", 16: "cumulative", 45: "gap|miss|Lost",
     50: "character|byte", 52: "line length", 53: "VP", 57: "overlap", 60: "missing recording",
-    61: "jitter", 67: "C4|header|repeats|national options|Everything", 69: "same text|earlier packets",
-    70: "X/28", 72: "refuses every|lost subtitle|all rows|Everything|reports? of",
+    61: "jitter", 67: "C4|header|repeats|national options|Everything",
+    69: "same text|earlier packets", 70: "X/28", 72: "refuses every|lost subtitle|all rows|Everything|reports? of",
     73: "repeat|Gap", 74: "break|during a subtitle|alone|ends so", 77: "close|header", 78: "unknown",
     79: "pace|PES packets are more|waived?", 90: "standard output|OUT"}
 FAULT_MENTION = re.compile(r"\bfault (\d+)\b")
@@ -454,6 +471,13 @@ class StatedFacts(Case):
         self.check("the man page", sorted(number for item in listed for number in range(
             int(item.split(" to ")[0]), int(item.split(" to ")[-1]) + 1)), sorted(
                 {*numbers, *arguments, 3, 4, 26, 29, 41, 42, 58, 90, 91}))
+
+    def test_the_alarm_file_waives_the_faults_that_can_wait(self) -> None:
+        listed = re.findall(r"`(\d+) warning`", read_document("docs/MANUAL.md").partition(
+            "into the file `alarm`")[2].partition("\n\n")[0])
+        waiting = re.findall(r'^\| (\d+) \| <a id="n\d+"></a>next:',
+                             read_document("docs/manual/refusals.md"), re.M)
+        self.check("faults", listed, waiting)
 
     def test_the_table_of_national_options_is_right(self) -> None:
         rows = re.findall(r"^\| `(\w+)` \| (\d{4}) \| (\d{3}) \| [^|]+ \| ([^|]+) \|$",
