@@ -17,6 +17,7 @@ from subtitles.air.main import make_judge_parser, make_record_parser, make_statu
 from subtitles.air.recorder import MAX_DELETED_SEGMENTS
 from subtitles.air.segments import MAX_SEGMENT_SECONDS
 from subtitles.air.state import PAGE_SILENCE, SILENCE, Monitor
+from subtitles.air.status import CRITICAL, OK
 from subtitles.cli.main import make_parser
 from subtitles.cli.state import MIN_FREE_BYTES
 from subtitles.clock.stretches import MIN_BREAK_FRAMES, MIN_MATCHING_CUES
@@ -360,6 +361,12 @@ STATED: list[tuple[str, str, object]] = [
     ("MANUAL.md", "each cell of rows 1 to {}", PAGE_ROWS),
     ("HEADLINE.md", "in one of rows 1 to {} and", PAGE_ROWS),
     ("HEADLINE.md", "and columns 0 to {}.", PAGE_COLUMNS - 1),
+    ("HEADLINE.md", "Packets have {} bytes.", PAGE_COLUMNS + 2),
+    ("ASSURANCE.md", "Some losses of {} or more TS packets", LOST_UNSEEN),
+    ("manual/qc.md", "| `not judged` | `qc` could not decide | {} |",
+     f"{STATUSES[NOT_JUDGED]}, {USAGE_STATUS} or {BUG_STATUS}"),
+    ("manual/air.md", "of Nagios and Icinga: {} OK, 1 WARNING", OK),
+    ("manual/air.md", "1 WARNING (`warnings`), {} CRITICAL", CRITICAL),
     ("manual/refusals.md", "continues after faults {}.", join_numbers(SKIPPED_PACKETS - {61})),
     ("manual/refusals.md", "is refused (faults {})", join_numbers(STL_FAULTS - ENDS_FILE)),
     ("manual/refusals.md", "Correct the subtitle file (faults {}).", join_numbers(STL_FAULTS)),
@@ -415,9 +422,10 @@ FAULT_WORDS = {
     10: "block", 11: "DFC", 13: "DSC|open", 14: "code table", 16: "cumulative", 45: "gap|miss|Lost",
     50: "character|byte", 52: "line length", 53: "VP", 57: "overlap", 60: "missing recording",
     61: "jitter", 67: "C4|header|repeats|national options|Everything",
-    69: "same text|earlier packets", 70: "X/28", 72: "refuses every|lost subtitle|all rows|Everything|reports? of",
-    73: "repeat|Gap", 74: "break|during a subtitle|alone|ends so", 77: "close|header", 78: "unknown",
-    79: "pace|PES packets are more|waived?", 90: "standard output|OUT"}
+    69: "same text|earlier packets", 70: "X/28", 73: "repeat|Gap", 77: "close|header",
+    72: "refuses every|lost subtitle|all rows|Everything|reports? of", 78: "unknown|cause",
+    74: "break|during a subtitle|alone|ends so", 79: "pace|PES packets are more|waived?",
+    90: "standard output|OUT"}
 FAULT_MENTION = re.compile(r"\bfault (\d+)\b")
 SENTENCE_END = re.compile(r"(?<=[.?:])\s|\|\n|\n- |\n\n")
 OPTION_NAME = re.compile(r"(?<![\w-])--[a-z][a-z-]*")
