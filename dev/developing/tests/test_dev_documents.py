@@ -9,7 +9,7 @@ import struct
 import subprocess
 import sys
 import unittest
-from typing import Iterator
+from typing import Iterable, Iterator
 
 from subtitles.air.decision import HOUR, MAX_WAIT
 from subtitles.air.judge import HOOK_SECONDS
@@ -17,18 +17,31 @@ from subtitles.air.main import make_judge_parser, make_record_parser, make_statu
 from subtitles.air.recorder import MAX_DELETED_SEGMENTS
 from subtitles.air.segments import MAX_SEGMENT_SECONDS
 from subtitles.air.state import PAGE_SILENCE, SILENCE, Monitor
+from subtitles.air.status import CRITICAL, OK
 from subtitles.cli.main import make_parser
 from subtitles.cli.state import MIN_FREE_BYTES
-from subtitles.clock.stretches import MIN_BREAK_FRAMES
-from subtitles.common.command_line import BUG_STATUS, MAX_WITHIN, Stop, USAGE_STATUS
+from subtitles.clock.stretches import MIN_BREAK_FRAMES, MIN_MATCHING_CUES
+from subtitles.common.command_line import (
+    BUG_STATUS, MAX_EVERY, MAX_WITHIN, PACKET_SIZE, Stop, USAGE_STATUS)
 from subtitles.common.program import TOP, read
 from subtitles.common.times import FRAMES_A_SECOND, FRAMES_OF_A_DAY
-from subtitles.formats.listing import LOST_PACKETS
+from subtitles.formats.layout import LAST_ROW
+from subtitles.formats.listing import (
+    ENDS_FILE, ENDS_READING, FAULTS_WITH_CAUSE, LOST_PACKETS, SILENT, SKIPPED_PACKETS,
+    STL_FAULTS)
 from subtitles.formats.midnight import MIN_STEP_BACK
-from subtitles.formats.stl import MAX_STL
-from subtitles.judging.status import NOT_JUDGED, STATUSES, Severity
+from subtitles.formats.stl import MAX_STL, TEXT
+from subtitles.formats.stl_writer import MAX_BLOCKS
+from subtitles.formats.teletext import OPTION_WORDS, OPTIONS as NATIONAL_OPTIONS
+from subtitles.judging.status import (
+    ACCEPTED, FAULT_NUMBERS, NOT_JUDGED, READING_STATUSES, RELATIVE, STATUSES, STATUS_ORDER,
+    Severity)
+from subtitles.judging.unchecked import MAX_HOLE
+from subtitles.judging.waivers import WAIVABLE
 from subtitles.recording.recording import MAX_PIPED_BYTES
-from subtitles.results.schema import FORMAT
+from subtitles.request.request import OPTIONS
+from subtitles.results.schema import FORMAT, MAX_LISTED_ITEMS, MAX_SUBTITLES
+from subtitles.stream.layout import MIN_SUBTITLES
 from subtitles.stream.proved import MAX_CALLS
 from .. import pages
 from ..definitions import Library
@@ -257,10 +270,39 @@ DROP = re.compile(r"\bimpl\b[^{};]*\bDrop\s+for\b|\bDrop\s+as\b")
 COMMENT = re.compile(r"//[^\n]*|/\*.*?\*/", re.DOTALL)
 
 
-# Values of the tools that documents state: the document, its words, and the value at {}.
+def join_numbers(numbers: Iterable[int]) -> str:
+    """Return numbers as documents state them: `10 to 15, 17 and 22 to 25`."""
+    spans: list[list[int]] = []
+    for number in sorted(numbers):
+        if spans and number == spans[-1][-1] + 1:
+            spans[-1].append(number)
+        else:
+            spans.append([number])
+    parts = [part for span in spans for part in (
+        [f"{span[0]} to {span[-1]}"] if len(span) > 2 else map(str, span))]
+    return " and ".join(filter(None, [", ".join(parts[:-1]), parts[-1]]))
+
+
+def read_constant(module: str, name: str) -> int:
+    """Return the value of a constant of a crate."""
+    text = read(os.path.join(TOP, "crates", *module.split("/", 1)[:1], "src",
+                             module.split("/", 1)[1] + ".rt")) or ""
+    found = re.search(rf"const {name}: \w+ = ([^;]+);", text)
+    base, _, shift = (found[1] if found else "-1").replace("_", "").partition(" << ")
+    return int(base, 0) << int(shift or 0)
+
+
+# Values of the tools and the program that documents state: the document, its words, and the value
+# at {}.
 RECORDER, JUDGE, STATUS = make_record_parser(), make_judge_parser(), make_status_parser()
-NUMBER_WORDS = {2: "two", 5: "five"}
+NUMBER_WORDS = {2: "two", 3: "three", 4: "four", 5: "five", 10: "ten"}
 BREAK_SECONDS = NUMBER_WORDS[MIN_BREAK_FRAMES // FRAMES_A_SECOND]
+PAGE_COLUMNS, PAGE_ROWS = map(int, re.findall(r"rows: \[\[u8; (\d+)\]; (\d+)\]", read(
+    os.path.join(TOP, "crates", "ttx_page", "src", "page.rt")) or "")[0])
+PES_BYTES = read_constant("sub_listing/copying", "PES_PACKET_CAPACITY")
+LOST_UNSEEN = read_constant("ts_survey/packets_in_step", "LOSS_SIZE_IN_PACKETS")
+DEFAULTS = {option.name: option.default for option in OPTIONS}
+FINAL = {*STATUSES.values()} - {STATUSES[NOT_JUDGED]}
 STATED: list[tuple[str, str, object]] = [
     ("MANUAL.md", "back once, by {} hours or more", MIN_STEP_BACK // (FRAMES_OF_A_DAY // 24)),
     ("manual/results.md", "The format number is {}.", FORMAT),
@@ -295,7 +337,97 @@ STATED: list[tuple[str, str, object]] = [
     ("manual/air.md", "`OUT/state.json` every {} seconds", JUDGE.get_default("every_seconds")),
     ("manual/air.md", "`silence`: no byte for {:.0f} seconds", SILENCE),
     ("manual/air.md", "`page 888`: no header of a page in the schedule for {:.0f} minutes",
-     PAGE_SILENCE / 60)]
+     PAGE_SILENCE / 60),
+    ("../README.md", "are `--page 888`, `--option {}`", DEFAULTS["--option"]),
+    ("../README.md", "and `--every {}` (frames)", DEFAULTS["--every"]),
+    ("../README.md", "| {} | status 0, but you gave no clock", STATUSES[RELATIVE]),
+    ("../README.md", "| {}, 70 | wrong arguments (64)", USAGE_STATUS),
+    ("../README.md", "wrong arguments (64), or a bug of a tool ({})", BUG_STATUS),
+    ("HEADLINE.md", "theorem holds with R = {}, page 888", DEFAULTS["--every"]),
+    ("manual/qc.md", "no clock (`--origin`, `--start`), so `qc` could not detect a delay that all "
+     "subtitles share | 3, with `--relative` {} |", STATUSES[ACCEPTED]),
+    ("manual/qc.md", "keeps the rules of faults {} | 0 |", join_numbers(STL_FAULTS)),
+    ("manual/qc.md", "It covers faults {}, but neither", join_numbers(WAIVABLE)),
+    ("manual/qc.md", "and {} consecutive cues", NUMBER_WORDS[MIN_MATCHING_CUES]),
+    ("manual/qc.md", "A layout needs {} subtitles", NUMBER_WORDS[MIN_SUBTITLES]),
+    ("manual/qc.md", "for more than {} s, subtitles were sent", MAX_HOLE // 90_000),
+    ("manual/refusals.md", "The list ends early at faults {}.",
+     join_numbers(ENDS_FILE | ENDS_READING)),
+    ("manual/refusals.md", "For faults {}, first read", join_numbers(FAULTS_WITH_CAUSE)),
+    ("manual/refusals.md", "cause for fault 72, and for faults {} if",
+     join_numbers(FAULTS_WITH_CAUSE - {72})),
+    ("manual/qc.md", "`{} warning` waives only lost packets", LOST_PACKETS),
+    ("manual/qc.md", "`{} warning` only intervals without PES packets", SILENT),
+    ("MANUAL.md", "each cell of rows 1 to {}", PAGE_ROWS),
+    ("HEADLINE.md", "in one of rows 1 to {} and", PAGE_ROWS),
+    ("HEADLINE.md", "and columns 0 to {}.", PAGE_COLUMNS - 1),
+    ("HEADLINE.md", "Packets have {} bytes.", PAGE_COLUMNS + 2),
+    ("ASSURANCE.md", "Some losses of {} or more TS packets", LOST_UNSEEN),
+    ("manual/qc.md", "| `not judged` | `qc` could not decide | {} |",
+     f"{STATUSES[NOT_JUDGED]}, {USAGE_STATUS} or {BUG_STATUS}"),
+    ("manual/air.md", "of Nagios and Icinga: {} OK, 1 WARNING", OK),
+    ("manual/air.md", "1 WARNING (`warnings`), {} CRITICAL", CRITICAL),
+    ("manual/refusals.md", "continues after faults {}.", join_numbers(SKIPPED_PACKETS - {61})),
+    ("manual/refusals.md", "is refused (faults {})", join_numbers(STL_FAULTS - ENDS_FILE)),
+    ("manual/refusals.md", "Correct the subtitle file (faults {}).", join_numbers(STL_FAULTS)),
+    ("manual/refusals.md", "has over {:,} TTI blocks", (MAX_STL - 1024) // 128),
+    ("manual/refusals.md", "has over {:,} PES packets", FRAMES_OF_A_DAY),
+    ("manual/many-pairs.md", "The exit status is the first of {}", ", ".join(
+        map(str, STATUS_ORDER[:-1])) + f" and {STATUS_ORDER[-1]}"),
+    ("manual/many-pairs.md", "The exit statuses {} are final.",
+     ", ".join(map(str, sorted(FINAL)[:-1])) + f" and {max(FINAL)}"),
+    ("manual/many-pairs.md", "After status 64, 70 or {}, remove", STATUSES[NOT_JUDGED]),
+    ("manual/results.md", "contains at most {:,} items", MAX_SUBTITLES),
+    ("manual/results.md", "each other list at most {:,}.", MAX_LISTED_ITEMS),
+    ("manual/reference.md", "repeat interval in frames, 1 to {:,} |", MAX_EVERY),
+    ("manual/reference.md", "between PES packets in frames, 1 to {:,} |", MAX_EVERY),
+    ("manual/reference.md", "from the expected page, 0 to {} |", MAX_WITHIN),
+    ("manual/reference.md", "change up to {} bits", read_constant("sub_words/lists", "MAX_ITEMS")),
+    ("manual/reference.md", "lose up to {} packets",
+     read_constant("sub_words/lists", "MAX_ITEMS")),
+    ("manual/reference.md", "A subtitle has at most {} TTI blocks", MAX_BLOCKS),
+    ("manual/reference.md", "TTI blocks with {} bytes of text", MAX_BLOCKS * TEXT),
+    ("manual/reference.md", "bytes of text, in rows 1 to {}.", LAST_ROW),
+    ("manual/reference.md", "has at most 2^{} bytes",
+     read_constant("mpeg_ts/stream", "MAX_STREAM_BYTES").bit_length() - 1),
+    ("manual/reference.md", "decodes the {} bytes of one packet",
+     read_constant("ts_survey/units", "UNIT_SIZE") - 4),
+    ("manual/refusals.md", "is not {} N - 6, with", read_constant("mpeg_ts/gap_marker",
+                                                                  "GAP_MARKER_SIZE")),
+    ("manual/refusals.md", "send at most {} bytes in each PES packet", PES_BYTES),
+    ("manual/refusals.md", "N - 6, with N from 1 to {} |", PES_BYTES // 184),
+    ("manual/refusals.md", "no subtitle draws this page: text in row {},", PAGE_ROWS),
+    ("manual/streams.md", "does not show a loss of {} consecutive TS packets", LOST_UNSEEN + 1),
+    ("manual/streams.md", "After a loss of {}, the next TS packet", LOST_UNSEEN),
+    ("manual/streams.md", "no {} consecutive TS packets of the PID are missing", LOST_UNSEEN),
+    ("manual/streams.md", "apart if at least {} TS packets of the PID", LOST_UNSEEN + 1),
+    ("manual/survey.md", "without the S - {} extra bytes", PACKET_SIZE),
+    ("manual/survey.md", "33-bit counts of a {} kHz clock",
+     read_constant("ts_survey/clock", "CLOCK_TICKS_PER_SECOND") // 1000),
+    *(("manual/survey.md", words, read_constant(f"ts_survey/{module}", name) // unit)
+      for words, module, name, unit in (
+          ("the first {} bytes of the recording", "recording", "HEAD", 1),
+          ("`survey` searches {:,} bytes", "recording", "MAX_INSPECTED_BYTES", 1),
+          ("length is a multiple of {:,} bytes", "recording", "INSPECTED_BYTES", 1),
+          ("A row has 40 codes. {:X} (a space)", "rows", "CORRUPT_CELL", 1),
+          ("LEAST and MOST differ by less than {}", "steps", "DIFFERENT_TICKS", 1),
+          ("after {} bytes if it is 3", "pes_header", "CAPACITY", 1),
+          ("of the last {} distances", "clock", "MEDIAN_INTERVALS", 1),
+          ("line is printed {:,} TS packets later", "carrier", "INSPECTED_PACKETS", 1),
+          ("at most {} Teletext PIDs", "multiplex", "CAPACITY", 1),
+          ("video PIDs and {} PIDs with tables", "tables", "MAX_TABLE_PIDS", 1),
+          ("remembers the last {} discontinuities", "pid_state", "MAX_STORED_BREAKS", 1)))]
+# For each fault that documents mention, words of which its sentence or table row contains one.
+FAULT_WORDS = {
+    10: "block", 11: "DFC", 13: "DSC|open", 14: "code table", 16: "cumulative", 45: "gap|miss|Lost",
+    50: "character|byte", 52: "line length", 53: "VP", 57: "overlap", 60: "missing recording",
+    61: "jitter", 67: "C4|header|repeats|national options|Everything",
+    69: "same text|earlier packets", 70: "X/28", 73: "repeat|Gap", 77: "close|header",
+    72: "refuses every|lost subtitle|all rows|Everything|reports? of", 78: "unknown|cause",
+    74: "break|during a subtitle|alone|ends so", 79: "pace|PES packets are more|waived?",
+    90: "standard output|OUT"}
+FAULT_MENTION = re.compile(r"\bfault (\d+)\b")
+SENTENCE_END = re.compile(r"(?<=[.?:])\s|\|\n|\n- |\n\n")
 OPTION_NAME = re.compile(r"(?<![\w-])--[a-z][a-z-]*")
 # Options of other programs that the documents mention.
 OTHER_OPTIONS = {"--forked", "--now", "--sshloginfile", "--workdir", "--joblog", "--resume-failed",
@@ -305,14 +437,66 @@ OTHER_OPTIONS = {"--forked", "--now", "--sshloginfile", "--workdir", "--joblog",
 class StatedFacts(Case):
     def test_documents_state_the_values_of_the_tools(self) -> None:
         for name, words, value in STATED:
-            text = " ".join(read_document(f"docs/{name}").split())
+            text = " ".join(read_document(os.path.normpath(f"docs/{name}")).split())
             stated = words.format(value)
             self.check(f"docs/{name} states: {stated}", stated in text, True)
+
+    def test_mentioned_fault_numbers_are_right(self) -> None:
+        for path, text in list_document_texts():
+            if os.path.basename(path) == "refusals.md":
+                continue
+            for part in SENTENCE_END.split(BLOCK.sub("", text)):
+                sentence = " ".join(part.split())
+                for number in FAULT_MENTION.findall(sentence):
+                    self.must(f"{os.path.relpath(path, TOP)}: fault {number}", re.search(
+                        FAULT_WORDS.get(int(number), "(?!)"), sentence) is not None, sentence)
 
     def test_the_verdict_table_has_each_status(self) -> None:
         rows = re.findall(r"^\| `([a-z ]+)` \|.*\| (\d)[^|]*\|$",
                           read_document("docs/manual/qc.md"), re.M)
         self.check("rows", {word: int(status) for word, status in rows}, STATUSES)
+
+    def test_the_table_of_readings_has_each_status(self) -> None:
+        rows = re.findall(r"^\| `([a-z ]+)` \|.*\| (\d) \|$",
+                          read_document("docs/manual/read.md"), re.M)
+        self.check("rows", {word: int(status) for word, status in rows}, READING_STATUSES)
+
+    def test_each_fault_has_a_row_with_its_anchor(self) -> None:
+        rows = re.findall(r'^\| (\d+) \| <a id="n(\d+)"></a>',
+                          read_document("docs/manual/refusals.md"), re.M)
+        for number, anchor in rows:
+            self.check(f"fault {number}", anchor, number)
+        numbers = {int(number) for number, _ in rows}
+        self.check("numbers", sorted(numbers), sorted(FAULT_NUMBERS - {3, 4}))
+        text = read_document("docs/manual/refusals.md")
+        for anchor, number in re.findall(r'<a id="n(\d+)"></a>(\d+)', text):
+            self.check(f"fault {number}", anchor, number)
+        arguments = {int(number) for number in re.findall(
+            r'<a id="n(\d+)">', text.partition("## Arguments")[2].partition("\n## ")[0])}
+        page = read_document("docs/subttx.1").partition("what to do about it:")[2]
+        groups = re.findall(r"^(\d[\d, to]*) [A-Z]", page.partition('.SH "EXIT')[0], re.M)
+        listed = [item for group in groups for item in group.split(", ")]
+        self.check("the man page", sorted(number for item in listed for number in range(
+            int(item.split(" to ")[0]), int(item.split(" to ")[-1]) + 1)), sorted(
+                {*numbers, *arguments, 3, 4, 26, 29, 41, 42, 58, 90, 91}))
+
+    def test_the_alarm_file_waives_the_faults_that_can_wait(self) -> None:
+        listed = re.findall(r"`(\d+) warning`", read_document("docs/MANUAL.md").partition(
+            "into the file `alarm`")[2].partition("\n\n")[0])
+        waiting = re.findall(r'^\| (\d+) \| <a id="n\d+"></a>next:',
+                             read_document("docs/manual/refusals.md"), re.M)
+        self.check("faults", listed, waiting)
+
+    def test_the_table_of_national_options_is_right(self) -> None:
+        rows = re.findall(r"^\| `(\w+)` \| (\d{4}) \| (\d{3}) \| [^|]+ \| ([^|]+) \|$",
+                          read_document("docs/manual/subtitle-files.md"), re.M)
+        self.check("options", [row[0] for row in rows], [*OPTION_WORDS])
+        for (word, region, bits, shown), option in zip(rows, NATIONAL_OPTIONS):
+            sent = "".join(item for item, cell in zip(option.characters, option.cells.split())
+                           if cell != "-")
+            self.check(word, (int(region, 2), sum(int(bit) << place for place, bit
+                                                  in enumerate(bits)), shown.replace(" ", "")),
+                       (option.region, option.bits, sent))
 
     def test_the_chapter_names_each_alarm(self) -> None:
         monitor = Monitor()
