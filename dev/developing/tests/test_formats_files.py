@@ -2,20 +2,17 @@
 from __future__ import annotations
 
 import itertools
-import random
 import shutil
 import subprocess
 import unittest
-from typing import Callable, NamedTuple, Sequence
+from typing import Callable, Sequence
 from unittest import mock
 
 from developing.stl import make_gsi_block, make_tti_block
 from subtitles.common.command_line import Stop
 from subtitles.common.files import DamagedFile
-from subtitles.common.times import ALL_DAY, FrameRange
 from subtitles.formats import listing, stl
-from subtitles.formats.stl import (
-    LAST_BLOCK, Subtitle, SubtitleFile, SubtitleList, USER_DATA, read_titles)
+from subtitles.formats.stl import Subtitle, SubtitleFile, SubtitleList, read_titles
 from subtitles.formats.teletext import decode_text
 from .bench import Case
 
@@ -72,6 +69,13 @@ class Blocks(unittest.TestCase):
         group = make_gsi_block(b"", 0, 0) + self.block(1, 0) + self.block(1, last, group=1)
         self.assertTrue(refusal(lambda: list(stl.read_stored_subtitles(group)), DamagedFile))
 
+    def test_decodes_only_subtitles_with_a_duration(self) -> None:
+        data = make_gsi_block(b"", 0, 0) + b"".join(
+            make_tti_block(at, 10 * at, 10 * at + lasts, 20, 2, b"x")
+            for at, lasts in enumerate((5, 0, 1)))
+        self.assertEqual([(item.index, item.begin, item.end) for item in stl.decode_subtitles(
+            data)], [(1, 0, 5), (3, 20, 21)])
+
     def test_refuses_an_invalid_gsi_block(self) -> None:
         good = make_gsi_block(b"", 0, 0)
         for data, words in ((good, ""), (good[:-1], "not an EBU STL "
@@ -100,83 +104,7 @@ class Blocks(unittest.TestCase):
         self.assertEqual(stl.encode_page_characters(b" \x20!", "german"), b"!")
 
 
-class PlainSubtitle(NamedTuple):
-    """A subtitle in a simple model of the format."""
-
-    blocks: list[int]
-    begin: int | None
-    end: int | None
-    is_ended: bool
-    text: bytes
-
-
 class Files(Case):
-    TEXTS = (b"one", b"two \x8f not", b"\x8f\x8f", b"\xc8a", b"x" * 112)
-
-    def file(self, chance: random.Random) -> tuple[bytes, list[PlainSubtitle]]:
-        """Return a random subtitle file with comments and user data, and its subtitles."""
-        blocks, groups, frame = list[bytes](), list[PlainSubtitle](), chance.randrange(50)
-        for number in range(1, chance.randrange(2, 7)):
-            begin, end = frame, frame + chance.choice((0, *range(1, 40)))
-            frame, own, text = end + chance.choice((0, 0, 30)), list[int](), b""
-            is_none = chance.randrange(6) == 0
-            last = chance.choice((LAST_BLOCK, LAST_BLOCK, LAST_BLOCK,
-                                  3)) if number == 5 else LAST_BLOCK
-            for ebn in [*range(chance.choice((0, 0, 1, 2))), last]:
-                for _ in range(chance.choice((0, 0, 1))):
-                    blocks.append(make_tti_block(number, begin, end, 20, 2, b"no", *chance.choice((
-                        (USER_DATA, 0), (LAST_BLOCK, 1), (0, 1), (USER_DATA, 1)))))
-                some, later = chance.choice(self.TEXTS), chance.randrange(99) * bool(own)
-                block = bytearray(make_tti_block(number + (number > 3), begin + later, end + later,
-                                                 20 + bool(own), 2, some, ebn))
-                block[5] = 24 if is_none else block[5]
-                blocks.append(bytes(block))
-                own.append(len(blocks))
-                text += some.split(b"\x8f")[0]
-            groups.append(PlainSubtitle(own, None if is_none else begin, end, last == LAST_BLOCK,
-                                        text))
-        return make_gsi_block(b"", 0, 0) + b"".join(blocks), groups
-
-    def test_agrees_with_a_simple_parser_on_random_files(self) -> None:
-        chance = random.Random(11)
-        for _ in range(150):
-            data, groups = self.file(chance)
-            between = chance.choice((ALL_DAY, FrameRange(chance.randrange(40), 90)))
-            left = {at for at in range(1, 7) if chance.randrange(5) == 0}
-            file = SubtitleFile(self.write("one.stl", data), between, left)
-            outside = [item.begin is not None and not between.includes(item.begin)
-                       for item in groups]
-            own = [(at, item) for at, item in enumerate(groups, 1) if at not in left
-                   and item.begin is not None and between.includes(item.begin)]
-            lasts = [item.blocks[-1] for item, is_out in zip(groups, outside)
-                     if item.is_ended and not is_out]
-            self.assertEqual([result.position for result in file.list_subtitles()],
-                             [at for at, _ in own])
-            self.assertEqual((list(file.list_last_blocks()), file.count_ended()[0],
-                              list(file.start_blocks)), (
-                lasts, len(lasts), [item.blocks[0] for item in groups]))
-            self.assertEqual(file.count_ended()[1], sum(data[at + 3] == LAST_BLOCK for at in range(
-                GSI, len(data), 128)))
-            for at, item in enumerate(groups, 1):
-                for block in item.blocks:
-                    result = file.find_by_block(block)
-                    self.assertEqual((result and (result.position, result.number),
-                                      file.is_outside(block)), (
-                            (at, at + (at > 3)), outside[at - 1]), block)
-                self.assertEqual(file.text(item.blocks[-1]), item.text, (at, item))
-            for frame in range(0, 300, 3):
-                due = [at for at, item in own if (item.begin or 0) <= frame < (item.end or 0)]
-                result = file.find_by_frame(frame)
-                self.assertEqual([result.position] if result else [], due, frame)
-            if groups[-1].is_ended:
-                self.assertEqual([item.text for item in stl.read_stored_subtitles(data)],
-                                 [item.text for item in groups])
-                self.assertEqual([(item.index, item.begin, item.end, item.text) for item in
-                                  stl.decode_subtitles(data)],
-                                 [(at, item.begin, item.end, item.text) for at, item in enumerate(
-                                     groups, 1) if item.begin is not None
-                                  and item.end != item.begin])
-
     def test_names_the_byte_and_character_at_a_place(self) -> None:
         for byte in {*range(256)} - {0x8F}:
             file = SubtitleFile(self.write("one.stl", make_gsi_block(b"", 1, 1) + make_tti_block(

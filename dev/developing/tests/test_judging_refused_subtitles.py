@@ -4,7 +4,6 @@ from __future__ import annotations
 import csv
 import itertools
 import json
-import random
 import re
 import subprocess
 import unittest
@@ -12,14 +11,10 @@ import xml.etree.ElementTree as tree
 from typing import Sequence
 from unittest import mock
 
-from developing.every_place import due as defined
-from developing.every_place.arguments import parse_options
 from developing.multiplex import PACKET, PAYLOAD, PAYLOAD_START, make_packet_header
 from developing.stl import make_gsi_block, make_tti_block
 from subtitles.cli.collection import make_pair_row, format_summary
 from subtitles.common.command_line import counted
-from subtitles.common.times import ALL_DAY, FrameRange
-from subtitles.formats.listing import parse_fault_line
 from subtitles.formats.stl import NamedSubtitle, Subtitle, SubtitleFile
 from subtitles.formats.teletext import OPTIONS, OPTION_BY_WORD, has_characters
 from subtitles.judging import subtitles
@@ -335,67 +330,6 @@ class ExpectedPages(unittest.TestCase):
             self.assertEqual(re.findall(r" and (\d+) more$", printed),
                              [f"{count - 3}"] * (count > 3),
                              count)
-
-
-class RandomFiles(Case):
-    def make_random_stl_file(self, chance: random.Random) -> bytes:
-        blocks: list[ShownSubtitle] = []
-        frame = chance.randrange(1, 1000)
-        for number in range(chance.randrange(1, 9)):
-            begin = frame + chance.choice([0, 0, 5, 40, -60 if number else 0])
-            end = begin + chance.choice([20, 50, 50, 0, -3 if begin > 3 else 1])
-            text = chance.choice([b"Number %d" % number, b"Number %d" % number, BAD, b"x" * 45])
-            blocks.append((max(begin, 0), max(end, 0), text))
-            frame = max(begin, end, 1)
-        changes = {number: chance.choice([{4: 1}, {14: 4}, {13: 0}, {12: 25}, {15: 1}, {8: 99},
-                                          {14: 1}, {14: 3, 13: 20}])
-                   for number in range(1, len(blocks) + 1) if chance.random() < 0.25}
-        return make_stl_of_blocks(blocks, changes)
-
-    def test_agrees_with_the_second_implementation(self) -> None:
-        chance, beside = random.Random(5), 0
-        for _ in range(400):
-            data, between = self.make_random_stl_file(chance), ALL_DAY
-            if chance.random() < 0.3:
-                between = FrameRange(chance.randrange(200), chance.randrange(200, 900))
-            options = parse_options(between.words())
-            expected = defined.judge_subtitles(data, options)
-            if expected.records is None or not expected.lines:
-                continue
-            beside += 1
-            file = SubtitleFile(self.write("one.stl", data), between)
-            valid_subtitles = find_valid_subtitles(file, filter(None, map(parse_fault_line,
-                                                                          expected.lines)),
-                                                   "english")
-            self.must(f"{expected.lines}",
-                      [(item.begin, item.end) for item in valid_subtitles.judged] == [
-                (item.tci, item.tco) for item in expected.records], valid_subtitles)
-            first, places = dict[int, str](), {item.index for item in valid_subtitles.judged}
-            for line in expected.lines:
-                reported = parse_fault_line(line)
-                own = file.find_by_block(
-                    reported.block) if reported and reported.block is not None else None
-                if own:
-                    first.setdefault(own.position, line)
-            self.must(f"{expected.lines}: refused", [
-                (each.subtitle.position, each.fault.line) for each in valid_subtitles.refused] ==
-                sorted(first.items()), valid_subtitles.refused)
-            self.must("left out", not places & valid_subtitles.skipped_positions
-                      and (between != ALL_DAY or (
-                places
-                | valid_subtitles.skipped_positions) == {*range(1, len(file.start_blocks) + 1)}),
-                      valid_subtitles)
-            self.must("words", len(first) < 2 or valid_subtitles.describe().startswith(
-                f"{len(first)} of {len(places | valid_subtitles.skipped_positions)} subtitles "),
-                      valid_subtitles.describe())
-            due = draw_valid_pages(valid_subtitles.judged, PAGE, "english")
-            pages = defined.ExpectedPages(expected.records, expected.has_preceding_fault, options)
-            decoded = due.timeline
-            for item, rows in zip(valid_subtitles.judged, due.pages):
-                self.must("page", b"".join(rows) == pages.at(item.begin) and decoded and all(
-                    b"".join(decoded.get_page_at(frame)) == pages.at(frame)
-                    for frame in (item.begin, item.end - 1, item.end)), rows)
-        self.must("some", beside > 60, beside)
 
 
 # Test that very long inputs are read to their end.
