@@ -102,9 +102,11 @@ class Steps(Case):
             for has_clock in (True, False):
                 self.check(f"{ticks} {has_clock}", [size for _, size in self.locate(
                     leads, unusual, has_clock)], [sure if has_clock else None])
-        leads, unusual, _ = survey_times(make_times(dict.fromkeys(range(210, 240), -1800)))
-        self.check("30 steps of half a frame", separate_clock_jumps(
-            leads, unusual, lambda several: True).departures, [])
+        for name, places in (("30 steps of half a frame", range(210, 240)),
+                             ("30 steps of half a frame, apart", range(100, 1900, 60))):
+            leads, unusual, _ = survey_times(make_times(dict.fromkeys(places, -1800), 2000))
+            self.check(name, separate_clock_jumps(leads, unusual, lambda several: True).departures,
+                       [])
 
     def test_the_teletext_shows_its_own_clock(self) -> None:
         def departures(*places: int, ticks: int = -10 * TICKS) -> list[Departure]:

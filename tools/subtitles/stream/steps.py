@@ -15,6 +15,7 @@ ALIKE_TICKS = TICKS // 4  # steps that differ by less are alike
 MIN_PICTURES = 5  # least number of pictures in a row with a step that is usual
 MIN_AWAY_PICTURES = 3  # fewer pictures with other times may be damaged times
 MAX_AWAY_TICKS = 270_000  # the longest time between two steps that are compared as away and back
+MAX_CLOCK_JUMPS = 20  # a video with more jumps has pictures that are shown for different times
 ALONE_TICKS = 90_000  # within this time of another unusual step, it is unclear what happened
 MAX_REORDER_TICKS = 8 * TICKS  # the time from decoding a picture to showing it, if unknown
 
@@ -82,7 +83,7 @@ def find_unusual_steps(several: Sequence[StepRange], count: int) -> list[Unusual
 
 def find_clock_steps(unusual: Sequence[UnusualStep], count: int) -> list[Sequence[UnusualStep]]:
     """Return the steps that only a jump of the video's clock explains, in a video with `count`
-    pictures: single steps, and pairs that lead away and back."""
+    pictures: single steps, and pairs that lead away and back. Return none if there are many."""
     found, at = list[Sequence[UnusualStep]](), 0
     while at < len(unusual):
         step, length = unusual[at], 1
@@ -98,7 +99,7 @@ def find_clock_steps(unusual: Sequence[UnusualStep], count: int) -> list[Sequenc
                 and not all(item.may_keep_delay for item in steps):
             found.append(steps)
         at += length
-    return found
+    return found if len(found) <= MAX_CLOCK_JUMPS else []
 
 
 def is_return(steps: Sequence[UnusualStep]) -> bool:
