@@ -145,24 +145,6 @@ class Delays(ProgrammeCase):
             at = lines.index(f"+ {line}") + 1
             self.must(line, printed == lines[at:at + len(printed)], again)
 
-    def test_judges_a_repeated_programme_only_if_one_run_is_named(self) -> None:
-        hour = 3600 * 25 * TICKS
-        wrong = make_delay(10, self.due[15][0] * TICKS)(self.sent)
-        for name, origin, second in (("later", hour, self.sent), ("the same PTS", 0, self.sent),
-                                     ("wrong", hour, wrong)):
-            both = [*self.sent, *((pts + origin, packets) for pts, packets in second)]
-            result = self.judge(both)
-            self.must(name, result.word == "not judged" and result.told[0] ==
-                      "the recording contains the programme twice" and
-                      result.told[-1].endswith(" --pes I-J"), result.told)
-            count = len(self.sent)
-            for pes, word in ((f"0-{count - 1}", "accepted"), (
-                    f"{count}-{2 * count - 1}", "refused" if name == "wrong" else "accepted")):
-                result = self.judge(both, "--pes", pes)
-                self.must(f"{name} {pes}", result.word == word, result.said)
-            result = self.judge(both, "--pes", "99999-100000")
-            self.must(f"{name}: none", result.word == "not judged", result.said)
-
     def test_reports_errors_of_the_first_and_last_cue(self) -> None:
         begin, end = (self.due[at][at] for at in (0, -1))
         around = write_programme(self, [(begin - 1000, begin - 900), *self.due, (end + 3000, end

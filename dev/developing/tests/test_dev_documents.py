@@ -305,6 +305,12 @@ DEFAULTS = {option.name: option.default for option in OPTIONS}
 FINAL = {*STATUSES.values()} - {STATUSES[NOT_JUDGED]}
 STATED: list[tuple[str, str, object]] = [
     ("MANUAL.md", "back once, by {} hours or more", MIN_STEP_BACK // (FRAMES_OF_A_DAY // 24)),
+    ("../README.md", "| {} | status 0, but you gave no clock", STATUSES[RELATIVE]),
+    ("../README.md", "| {} | wrong arguments", f"{USAGE_STATUS}, {BUG_STATUS}"),
+    ("manual/refusals.md", "`STL30.01` | export the file at {} frames", FRAMES_A_SECOND),
+    ("manual/many-pairs.md", "only status {} is a success", STATUSES[ACCEPTED]),
+    ("manual/qc.md", "comparison fails, the recording is `not judged`, with status {}", BUG_STATUS),
+    ("manual/air.md", "a bug ended a service (status {})", BUG_STATUS),
     ("manual/results.md", "The format number is {}.", FORMAT),
     ("manual/results.md", "exit status {} is a `failure`", " or ".join(
         f"{status}" for status in sorted({*STATUSES.values()} - {0, STATUSES[NOT_JUDGED]}))),

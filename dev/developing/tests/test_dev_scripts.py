@@ -147,6 +147,15 @@ class FailedChecks(Case):
                    ["  false:    len(case.folder) > 1", "  found:    'no folder'"])
         self.check("lines", len(many.splitlines()), MAX_LINES_PRINTED)
 
+    def test_a_failed_check_gives_status_1(self) -> None:
+        other = self.write_program("other", "#!/bin/sh\necho another program\n")
+        for name, *words in (["check-tools", "test_stream_survey.PesLines"],
+                             ["check-survey", "--count", "1"]):
+            process = self.tool(name, "-p", other, *words)
+            last = process.out.decode().splitlines()[-1]
+            self.check(f"{name}: {last}", (process.status, last.endswith(", 0 failed")),
+                       (1, False))
+
     def test_check_tools_says_at_once_what_it_runs(self) -> None:
         name = "test_dev_gate.Counts"
         process = self.tool("check-tools", "--jobs", "3", "-p", self.bench.program, name)
