@@ -22,7 +22,7 @@ from subtitles.cli.main import make_parser
 from subtitles.cli.state import MIN_FREE_BYTES
 from subtitles.clock.stretches import MIN_BREAK_FRAMES, MIN_MATCHING_CUES
 from subtitles.common.command_line import (
-    BUG_STATUS, MAX_EVERY, MAX_WITHIN, PACKET_SIZE, Stop, USAGE_STATUS)
+    BUG_STATUS, MAX_EVERY, MAX_WITHIN, NO_PID, PACKET_SIZE, Stop, USAGE_STATUS)
 from subtitles.common.program import TOP, read
 from subtitles.common.times import FRAMES_A_SECOND, FRAMES_OF_A_DAY
 from subtitles.formats.layout import LAST_ROW
@@ -30,15 +30,15 @@ from subtitles.formats.listing import (
     ENDS_FILE, ENDS_READING, FAULTS_WITH_CAUSE, LOST_PACKETS, SILENT, SKIPPED_PACKETS,
     STL_FAULTS)
 from subtitles.formats.midnight import MIN_STEP_BACK
-from subtitles.formats.stl import MAX_STL, TEXT
-from subtitles.formats.stl_writer import MAX_BLOCKS
+from subtitles.formats.stl import COMMENT as MAX_COMMENT_FLAG, MAX_STL, TEXT
+from subtitles.formats.stl_writer import MAX_BLOCKS, RIGHT
 from subtitles.formats.teletext import OPTION_WORDS, OPTIONS as NATIONAL_OPTIONS
 from subtitles.judging.status import (
     ACCEPTED, FAULT_NUMBERS, NOT_JUDGED, READING_STATUSES, RELATIVE, STATUSES, STATUS_ORDER,
     Severity)
 from subtitles.judging.unchecked import MAX_HOLE
 from subtitles.judging.waivers import WAIVABLE
-from subtitles.recording.recording import MAX_PIPED_BYTES
+from subtitles.recording.recording import MAX_PIPED_BYTES, TELETEXT
 from subtitles.request.request import OPTIONS
 from subtitles.results.schema import FORMAT, MAX_LISTED_ITEMS, MAX_SUBTITLES
 from subtitles.stream.layout import MIN_SUBTITLES
@@ -283,6 +283,11 @@ def join_numbers(numbers: Iterable[int]) -> str:
     return " and ".join(filter(None, [", ".join(parts[:-1]), parts[-1]]))
 
 
+def join_statuses(statuses: Iterable[int]) -> str:
+    *first, last = map(str, statuses)
+    return f"{', '.join(first)} and {last}"
+
+
 def read_constant(module: str, name: str) -> int:
     """Return the value of a constant of a crate."""
     text = read(os.path.join(TOP, "crates", *module.split("/", 1)[:1], "src",
@@ -378,10 +383,8 @@ STATED: list[tuple[str, str, object]] = [
     ("manual/refusals.md", "Correct the subtitle file (faults {}).", join_numbers(STL_FAULTS)),
     ("manual/refusals.md", "has over {:,} TTI blocks", (MAX_STL - 1024) // 128),
     ("manual/refusals.md", "has over {:,} PES packets", FRAMES_OF_A_DAY),
-    ("manual/many-pairs.md", "The exit status is the first of {}", ", ".join(
-        map(str, STATUS_ORDER[:-1])) + f" and {STATUS_ORDER[-1]}"),
-    ("manual/many-pairs.md", "The exit statuses {} are final.",
-     ", ".join(map(str, sorted(FINAL)[:-1])) + f" and {max(FINAL)}"),
+    ("manual/many-pairs.md", "The exit status is the first of {}", join_statuses(STATUS_ORDER)),
+    ("manual/many-pairs.md", "The exit statuses {} are final.", join_statuses(sorted(FINAL))),
     ("manual/many-pairs.md", "After status 64, 70 or {}, remove", STATUSES[NOT_JUDGED]),
     ("manual/results.md", "contains at most {:,} items", MAX_SUBTITLES),
     ("manual/results.md", "each other list at most {:,}.", MAX_LISTED_ITEMS),
@@ -398,6 +401,22 @@ STATED: list[tuple[str, str, object]] = [
      read_constant("mpeg_ts/stream", "MAX_STREAM_BYTES").bit_length() - 1),
     ("manual/reference.md", "decodes the {} bytes of one packet",
      read_constant("ts_survey/units", "UNIT_SIZE") - 4),
+    ("manual/refusals.md", "the CF is over {} |", MAX_COMMENT_FLAG),
+    ("manual/refusals.md", "the JC is over {} |", RIGHT),
+    ("manual/refusals.md", "the VP is not between 1 and {} |", LAST_ROW),
+    ("manual/refusals.md", "a line with text is below row {} |", LAST_ROW),
+    ("manual/refusals.md", "double height (0D) is in row {} |", LAST_ROW),
+    ("manual/refusals.md", "a line has over {} cells", PAGE_COLUMNS),
+    ("manual/refusals.md", "use at most {} characters", PAGE_COLUMNS - 4),
+    ("manual/refusals.md", "PES_header_data_length is not 0x{:X} |", TELETEXT),
+    ("manual/refusals.md", "data_unit_length is not 0x{:X} |",
+     read_constant("ttx_pes/data_unit", "DATA_UNIT_LENGTH")),
+    ("manual/refusals.md", "a framing code is not {:X} |",
+     read_constant("ttx_pes/data_unit", "FRAMING_CODE")),
+    ("manual/survey.md", "with the same PCR_PID (not {})", NO_PID),
+    ("manual/survey.md", "and PCR_PID ({} if there is none)", NO_PID),
+    ("manual/read.md", "of {}. What was", join_statuses(
+        status for status in STATUS_ORDER if status != STATUSES[RELATIVE])),
     ("manual/refusals.md", "is not {} N - 6, with", read_constant("mpeg_ts/gap_marker",
                                                                   "GAP_MARKER_SIZE")),
     ("manual/refusals.md", "send at most {} bytes in each PES packet", PES_BYTES),
