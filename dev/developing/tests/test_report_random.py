@@ -1,4 +1,4 @@
-"""Compare the reports of random pairs with the output of the program."""
+"""Check the markup of the reports of random pairs, whose text is stored in dev/snapshots."""
 from __future__ import annotations
 
 import os
@@ -8,21 +8,19 @@ import subprocess
 import tempfile
 import unittest
 import xml.etree.ElementTree as tree
-from typing import Callable, NamedTuple
+from typing import Callable
 
 from developing.pes import (
     DATA, UNIT, decode_pts, encode_pts, make_packet, reverse_bits, split_complete_packets)
 from developing.stl import make_box_line, make_gsi_block, make_subtitle_blocks, make_tti_block
-from subtitles.common.times import CLOCK, FRAMES_OF_A_DAY, TICKS, format_frame, parse_frame
-from subtitles.formats.listing import (
-    BEGIN, ENDS_READING, FaultLine, SKIPPED_PACKETS, parse_fault_line)
+from subtitles.common.times import CLOCK, FRAMES_OF_A_DAY, TICKS
 from subtitles.formats.stl import NEW_LINE, USER_DATA
 from subtitles.formats.teletext import page_name
 from .bench import BENCH, read_example_file
 from .judged import JudgedPair, judge_files_with
 
 
-COUNT, EACH = 240, 8  # number of reports, and number of reports in each test
+COUNT = 36  # number of reports
 TEXTS = [b"Good evening.", b"Here is the news.", b"No! <&>", b"Thank you, Anne."]
 HTML = "{http://www.w3.org/1999/xhtml}"
 FOREIGN_MARKUP = re.compile(r"<script|<link|<img|<iframe|@import|\burl\(|\bsrc=|\bon\w+="
@@ -155,15 +153,6 @@ class RandomPair:
         return words + ["--no-complete"] * (chance.random() < 0.75)
 
 
-def run(*args: str) -> list[str]:
-    return subprocess.run([BENCH.program, *args], stdin=subprocess.DEVNULL, check=False,
-                          stdout=subprocess.PIPE, text=True).stdout.splitlines()
-
-
-def text_of(item: tree.Element) -> str:
-    return "".join(item.itertext())
-
-
 def make_report_of_pair(number: int, folder: str) -> tuple[JudgedPair, str]:
     """Judge a random pair. Return the judged pair and its report, or an empty string."""
     out = os.path.join(folder, "out")
@@ -173,23 +162,6 @@ def make_report_of_pair(number: int, folder: str) -> tuple[JudgedPair, str]:
         return result, ""
     with open(path, encoding="utf-8") as file:
         return result, file.read()
-
-
-class CueRow(NamedTuple):
-    """A subtitle's row in the cue list of a report."""
-
-    position: int
-    classes: set[str]
-    cells: list[str]
-
-    def frame(self, at: int) -> int | None:
-        return parse_frame(self.cells[at])
-
-
-def read_cue_rows(page: tree.Element) -> list[CueRow]:
-    return [CueRow(int(row.get("id", "")[1:]), set(row.get("class", "").split()),
-                   [text_of(cell) for cell in row])
-            for row in page.iter(HTML + "tr") if re.fullmatch(r"s\d+", row.get("id", ""))]
 
 
 class Reports(unittest.TestCase):
@@ -209,88 +181,9 @@ class Reports(unittest.TestCase):
             elif item.tag == f"{HTML}a":
                 self.assertTrue("".join(item.itertext()).strip())
 
-    def check_rows(self, judged_pair: JudgedPair, told: list[FaultLine],
-                   rows: list[CueRow]) -> None:
-        """Check that each judged subtitle has a row.
-
-        If its verdict is `right`, no fault may be reported while the subtitle was expected.
-        """
-        part = judged_pair.verdict.parts[0]
-        judged = [item.index for item in part.expected_pages().subtitles]
-        self.assertLessEqual(set(judged), {row.position for row in rows})
-        self.assertEqual(sorted(row.position for row in rows), [row.position for row in rows])
-        frames = [fault.frame for fault in told
-                  if fault.frame is not None and fault.number != BEGIN]
-        for row in rows:
-            begin, end = row.frame(2), row.frame(3)
-            if "ok" in row.classes and begin is not None and end is not None:
-                self.assertEqual([item for item in frames if begin <= item < end], [], row)
-        if judged_pair.verdict.word == "accepted":
-            self.assertEqual(set[str]().union(*(row.classes for row in rows)), {"ok"})
-
-    def check_counts(self, judged_pair: JudgedPair, page: tree.Element) -> None:
-        table = {row.get("id"): text_of(row[1]) for row in page.iter(HTML + "tr")
-                 if re.fullmatch(r"n\d+", row.get("id", ""))}
-        counts = judged_pair.verdict.parts[0].check_output.counts_by_number
-        self.assertEqual(table, {f"n{number}": f"{count:,}" for number, count in counts.items()})
-
-    def check_times(self, judged_pair: JudgedPair, rows: list[CueRow]) -> None:
-        """Check that the expected page is displayed at the actual in-cue.
-
-        Another page must be displayed in the frame before it and at the actual out-cue.
-        """
-        request = judged_pair.verdict.request
-        receiver = ["--origin", str(request.origin), "--page", page_name(*request.page)]
-        due = request.stl + ".due"
-        run("schedule", request.stl, due, "--every", "1500", "--option", request.option, *receiver)
-
-        def held(path: str, frame: int, *words: str) -> list[str]:
-            lines = run("listen", path, *receiver, *words, "--at", format_frame(frame))
-            return lines[2:] if lines[:1] != ["heard no"] else ["blank"]
-
-        right = [row for row in rows if row.classes == {"ok"}]
-        for row in right[:3] + right[-3:]:
-            expected, begin, end = row.frame(2), row.frame(4), row.frame(5)
-            if expected is None or begin is None:
-                continue
-            page = held(due, expected)
-            within = ["--within", str(request.within)]
-            self.assertEqual(held(request.recording or "", begin, *within), page, row)
-            if row.cells[4] != row.cells[2]:
-                self.assertNotEqual(held(request.recording or "", begin - 1, *within), page, row)
-            if end is not None and end != row.frame(3):
-                self.assertNotEqual(held(request.recording or "", end, *within), page, row)
-
-    def check_report(self, number: int, folder: str) -> None:
-        result, page = make_report_of_pair(number, folder)
-        out = os.path.join(folder, "out")
-        if not page:
-            return
-        self.check_page(page)
-        if result.verdict.word != "not judged" and result.verdict.parts:
-            root = tree.fromstring(page)
-            rows = read_cue_rows(root)
-            with open(os.path.join(out, "one.txt"), encoding="utf-8") as file:
-                reported = [fault for fault in map(parse_fault_line, file.read().splitlines())
-                            if fault and fault.is_fault]
-            self.check_rows(result, reported, rows)
-            self.check_counts(result, root)
-            numbers = result.verdict.parts[0].check_output.fault_numbers
-            passed = numbers & {*SKIPPED_PACKETS, *ENDS_READING, 62}
-            if result.verdict.request.recording and not passed:
-                self.check_times(result, rows)
-
-
-def make_report_test(first: int) -> Callable[[Reports], None]:
-    """Return a test method for `EACH` reports with consecutive seeds from `first` on."""
-
-    def test(self: Reports) -> None:
-        for number in range(first, first + EACH):
+    def test_reports_are_accessible_and_load_nothing(self) -> None:
+        for number in range(COUNT):
             with self.subTest(number), tempfile.TemporaryDirectory() as folder:
-                self.check_report(number, folder)
-
-    return test
-
-
-for FIRST in range(0, COUNT, EACH):
-    setattr(Reports, f"test_from_{FIRST:03}", make_report_test(FIRST))
+                _, page = make_report_of_pair(number, folder)
+                if page:
+                    self.check_page(page)
