@@ -43,7 +43,7 @@ from subtitles.stream.repeats import find_longest_gap, repeat_distance
 from subtitles.stream.packets import Packets
 from subtitles.stream.receiver import BLANK_PAGE
 from subtitles.stream.pictures import Departure
-from subtitles.stream.survey import Announced
+from subtitles.stream.survey import Announced, Survey
 from .bench import Case
 from .parts import make_example_request
 from .transmissions import PAGE
@@ -92,8 +92,10 @@ class PartClocks(unittest.TestCase):
                           Departure(TICKS * 101, TICKS * 100, None))
         known: dict[int, Any] = {1: [before], 2: [away, unclear, behind], 3: [away], 4: [away]}
         leads = {(9, video): several for video, several in known.items()}
-        survey: Any = SimpleNamespace(leads=leads, find_programmes=lambda pid: [
-            SimpleNamespace(kinds={pid: 6, 1: 2, 2: 2}), SimpleNamespace(kinds={pid: 6, 3: 27})])
+        survey: Any = SimpleNamespace(
+            leads=leads, get_packets=Survey().get_packets, find_programmes=lambda pid: [
+                SimpleNamespace(kinds={pid: 6, 1: 2, 2: 2}),
+                SimpleNamespace(kinds={pid: 6, 3: 27})])
         with mock.patch.object(desync, "locate_video_departures",
                                lambda survey, video, several, sent: several):
             for source, count in ((GIVEN, 2), (RECORDING, 2), (START, 3), (TCP, 3)):

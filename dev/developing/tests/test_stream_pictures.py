@@ -200,6 +200,7 @@ class DepartureFaults(Case):
             "later than allowed": ([(-2, 1500)], 1, [(middle, end, "2 frames late")], []),
             "late as allowed": ([(-2, 1500)], 2, [], [allowed]),
             "half a frame": ([(0.5, 1500)], 0, [(middle, end, "0.5 frames early")], []),
+            "2 frames and a tick": ([(2.0003, 1500)], 0, [(middle, end, "2 frames early")], []),
             "far": ([(250, 1500)], 0, [(middle, end, "250 frames early")], []),
             "there and back": ([(2, 1500), (-2, 1600)], 0,
                                [(middle, "00:01:03:24", "2 frames early")], []),

@@ -70,9 +70,12 @@ class Steps(Case):
             "one frame": ({203: 3600, 223: -3600}, [(content(223), None)]),
             "a step between": ({203: 36000, 213: 7200, 223: -36000},
                                [(content(226) + 6 * TICKS, 7200)]),
-            "after the last lead": ({490: 36000}, [(content(490), None)])}
+            "after the last lead": ({490: 36000}, [(content(490), None)]),
+            "back after the last lead": ({490: -36000}, [(content(490), -36000)])}
         for name, (moves, expected) in rows.items():
             self.check(name, self.locate(*survey_times(make_times(moves))[:2]), expected)
+        self.check("one frame, with leads", self.locate(*survey_times(make_times(
+            {710: 3600, 772: -3600}, 1500))[:2]), [(content(710), 3600), (content(772), -3600)])
         for places in ((10, 20), (20, 40), (20, 60)):
             leads, unusual, _ = survey_times(make_times(dict(zip(places, (36000, -36000)))))
             self.check(f"away before the first lead, {places}", self.locate(leads[1:], unusual), [
@@ -91,7 +94,7 @@ class Steps(Case):
     def locate(self, leads: list[VideoLead], unusual: list[UnusualStep],
                has_clock: bool = True) -> list[tuple[int, int | None]]:
         """Return the places of departures and their sizes, if Teletext `has_clock` of its own."""
-        jumps = separate_clock_jumps(leads, unusual, lambda several: has_clock)
+        jumps = separate_clock_jumps(leads, unusual, 500, lambda several: has_clock)
         return [(place.pts, place.ticks) for place in [
             *jumps.departures, *(locate_departures(jumps.leads, jumps.steps) or [])]]
 
@@ -105,8 +108,8 @@ class Steps(Case):
         for name, places in (("30 steps of half a frame", range(210, 240)),
                              ("30 steps of half a frame, apart", range(100, 1900, 60))):
             leads, unusual, _ = survey_times(make_times(dict.fromkeys(places, -1800), 2000))
-            self.check(name, separate_clock_jumps(leads, unusual, lambda several: True).departures,
-                       [])
+            self.check(name, separate_clock_jumps(
+                leads, unusual, 2000, lambda several: True).departures, [])
 
     def test_the_teletext_shows_its_own_clock(self) -> None:
         def departures(*places: int, ticks: int = -10 * TICKS) -> list[Departure]:

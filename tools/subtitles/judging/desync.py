@@ -10,7 +10,8 @@ from ..common.times import TICKS, format_frame, pts_of, subtract_pts, subtract_p
 from ..formats.listing import NamedFault, PICTURES_LEFT
 from ..stream.pictures import (
     Departure, VideoLead, locate_changes_of_video, locate_departures, separate_clock_jumps)
-from ..stream.steps import ALIKE_TICKS, are_in_order, find_unusual_steps, measure_reordering
+from ..stream.steps import (
+    ALIKE_TICKS, are_in_order, count_pictures, find_unusual_steps, measure_reordering)
 from ..stream.survey import Survey
 from .unchecked import Unchecked, find_unchecked, make_irregular_video, make_unclear_places
 
@@ -40,11 +41,12 @@ def find_desync(survey: Survey, pid: int, alignment: TimedPart, within: int, num
     by_video = {video: leads for (own, video), leads in survey.leads.items()
                 if own == pid and video in kinds}
     several = [*by_video.values()]
+    all_sent = [*survey.get_packets(str(pid)).pts()] or sent
     faults, notes, unclear = list[NamedFault](), list[str](), list[Departure]()
     unchecked = [*find_unchecked(survey, pid, by_video, alignment, sent, number)] if sent else []
     for video, leads in by_video.items():
         departure_places = locate_video_departures(
-            survey, video, leads, lambda several: has_own_clock(several, sent, changes))
+            survey, video, leads, lambda several: has_own_clock(several, all_sent, changes))
         inside = find_departures(departure_places or [], alignment)
         departed = [departure for departure in inside if departure.ticks]
         faults += make_desync_faults(departed, alignment, within, number)
@@ -62,10 +64,11 @@ def locate_video_departures(survey: Survey, video: int, leads: Sequence[VideoLea
         -> list[Departure] | None:
     """Return the places where the delay between a video PID and Teletext changes or may change.
     Return `None` if most decoding times are irregular."""
-    ranges, count = survey.steps.get(video, []), leads[-1].number
+    ranges = survey.steps.get(video, [])
+    count = count_pictures(ranges, leads[-1].number)
     if not are_in_order(ranges, count):
         return None
-    jumps = separate_clock_jumps(leads, find_unusual_steps(ranges, count), has_own_clock)
+    jumps = separate_clock_jumps(leads, find_unusual_steps(ranges, count), count, has_own_clock)
     places = locate_departures(jumps.leads, jumps.steps)
     margin = find_reordering(survey, video, leads[0])
     return None if places is None else sorted(
@@ -152,8 +155,8 @@ class Desync(NamedTuple):
     def describe(self) -> str:
         """Return a clause that describes the fault."""
         last = f"to {format_frame(self.end - 1)}" if self.is_over else "on"
-        count = counted(abs(self.ticks) // TICKS, "frame") if self.ticks % TICKS == 0 else \
-            f"{abs(self.ticks) / TICKS:.1f} frames"
+        frames = round(abs(self.ticks) / TICKS, 1)
+        count = counted(int(frames), "frame") if frames.is_integer() else f"{frames} frames"
         return f"from {format_frame(self.first)} {last}, subtitles are {count} " \
             f"{'early' if self.ticks > 0 else 'late'} for viewers: the video's timestamps jump"
 

@@ -71,18 +71,18 @@ class ClockJumps(NamedTuple):
     steps: Sequence[UnusualStep]
 
 
-def separate_clock_jumps(leads: Sequence[VideoLead], unusual: Sequence[UnusualStep],
+def separate_clock_jumps(leads: Sequence[VideoLead], unusual: Sequence[UnusualStep], count: int,
                          has_own_clock: Callable[[Sequence[Departure]], bool]) -> ClockJumps:
-    """Find the unusual steps that only a jump of the video's clock explains. `has_own_clock`
-    returns whether the Teletext PTS show that only the video jumps."""
+    """Find the unusual steps, in a video with `count` pictures, that only a jump of the video's
+    clock explains. `has_own_clock` returns whether the Teletext PTS show that only the video jumps.
+    """
     departures, rest = list[Departure](), [*unusual]
     numbers = [lead.number for lead in leads]
-    for steps in find_clock_steps(unusual, leads[-1].number):
+    for steps in find_clock_steps(unusual, count):
         at = bisect.bisect_left(numbers, steps[0].number)
         end = bisect.bisect_left(numbers, steps[-1].number + MIN_PICTURES)
-        earlier = max(at - 1, 0)
-        if end == len(leads) or not are_all_steps_known(leads[earlier], leads[end], rest,
-                                                        steps[0].usual):
+        earlier, later = max(at - 1, 0), min(end, len(leads) - 1)
+        if not are_all_steps_known(leads[earlier], leads[later], rest, steps[0].usual):
             continue
         size = measure_jump(leads, at, steps[0], unusual) if len(steps) == 1 else steps[0].ticks
         if size is None:
@@ -159,7 +159,7 @@ def find_departures_between_rows(leads: Sequence[VideoLead], steps: Sequence[int
     before each lead."""
     all_ticks, departures = [lead.ticks for lead in leads], list[Departure]()
     row_begin, row_end, ticks = 0, min(ends, default=0), 0
-    unclear = [step.ticks for step in inside.get(0, [])]
+    unclear, total = [step.ticks for step in inside.get(0, [])], 0
     for begin, end in zip(ends, [*ends[1:], len(leads)]):
         ticks += steps[begin - 1]
         if end - begin == 1 and end < len(leads):
@@ -183,14 +183,15 @@ def find_departures_between_rows(leads: Sequence[VideoLead], steps: Sequence[int
         places = [step for step in here if step.is_sure and any(
             abs(step.ticks - size) < ALIKE_TICKS for size in (ticks, left or ticks))]
         if left and len(places) == 1:
-            departures.append(make_departure(earlier, places[0], left))
+            steady = earlier._replace(ticks=earlier.ticks + total)
+            departures.append(make_departure(steady, places[0], left))
         elif left:
             departures.append(Departure(leads[begin].pts, earlier.pts, left,
                                         ahead=max(earlier.ticks, 0)))
         elif left is None or has_return(here):
             departures.append(make_unclear_departure(
                 earlier, leads[begin], here, measure_least_change(before, after, around)))
-        row_begin, row_end, ticks = begin, end, 0
+        row_begin, row_end, ticks, total = begin, end, 0, total + (left or 0)
     return departures
 
 

@@ -111,6 +111,11 @@ def is_return(steps: Sequence[UnusualStep]) -> bool:
         and pictures * away.usual <= MAX_AWAY_TICKS
 
 
+def count_pictures(several: Sequence[StepRange], count: int) -> int:
+    """Return the number of pictures, at least `count`, that the steps show."""
+    return max([count, *(max(item.least_at, item.most_at) for item in several)])
+
+
 def measure_lengths(several: Sequence[StepRange], count: int) -> list[int]:
     """Return the number of pictures from each range of steps to the next, of `count` in all."""
     ends = [*(min(item.least_at, item.most_at) for item in several[1:]), count]
