@@ -27,7 +27,7 @@ from subtitles.stream.receiver import BLANK_PAGE, Timeline
 from .bench import BENCH, Case
 from .judged import judge_files
 from .parts import make_example_request
-from .planted import INSERTERS, LATE, BLANK_FRAMES, Inserter, Programme
+from .inserters import INSERTERS, BLANK_FRAMES, Inserter, Programme
 from .transmissions import (
     ORIGIN, PAGE, add_pauses, join_pes_packets, write_programme, schedule_pages, subtitle_times)
 from .test_judging_reasons import KEEPING_HEADER
@@ -298,10 +298,9 @@ class Profiles(Case):
 
     def test_names_an_unusual_delay_and_refuses_it(self) -> None:
         programme = Programme(self, 7, Inserter("usual", begins=(0, 0, 1)), 40)
-        self.must("planted", programme.place_fault(LATE))
-        assert programme.fault
+        late = programme.delay_random_subtitle()
         lines, _ = self.profile(programme)
-        name = f"subtitle {programme.fault.place + 1} at "
+        name = f"subtitle {late.place + 1} at "
         self.check("within", [line for line in lines if line.startswith("--within")],
                    ["--within 1"])
         self.check("named", [name in line for line in lines if "later than usual" in line],

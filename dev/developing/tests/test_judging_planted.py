@@ -1,19 +1,13 @@
-"""Test that qc names the fault that was planted in a refused programme.
-
-From dev/, `python3 -m developing.tests.test_judging_planted PROGRAM FIRST LAST` tries the seeds
-FIRST to LAST - 1. It prints each planted fault that qc does not name.
-"""
+"""Test which fault the sentence names, and which options it advises."""
 from __future__ import annotations
 
-import collections
-import sys
 
 from subtitles.common.times import TICKS
 from subtitles.judging.sentence import FAULT_CLAUSES
-from .bench import BENCH, Case
+from .bench import Case
 from .judged import ProgrammeCase, judge_files
 from .streams import add_pictures, make_mpeg_2_picture
-from .planted import FIRST_TCI, Programme, plant_fault
+from .inserters import FIRST_TCI
 from .transmissions import SentPes, join_pes_packets, write_subtitle_file
 
 JPEG_2000 = 0x21  # stream_type of a video format that is not supported
@@ -114,44 +108,3 @@ class Advice(ProgrammeCase):
         for number, words in FAULT_CLAUSES.items():
             self.check(f"{number}",
                        [item for item in ADVICE_OPTIONS if item in words and number != 79], [])
-
-
-COUNT, NAMED = 100, 95  # number of programmes, and minimum number of faults that qc must name
-
-
-def judge_for_sentence(case: Case, programme: Programme) -> str:
-    path = case.write("planted.pes", join_pes_packets(programme.sent()))
-    return judge_files(case, programme.stl, path, "--origin", "0",
-                       *programme.inserter.options()).verdict.sentence
-
-
-class PlantedFaults(Case):
-    def test_finds_at_least_95_of_100_planted_faults(self) -> None:
-        others = list[tuple[int, object, str]]()
-        for number in range(COUNT):
-            result = plant_fault(self, number)
-            sentence = judge_for_sentence(self, result)
-            self.check(f"{number}: refused", sentence[:8], "Refused:")
-            if not result.is_named(sentence):
-                others.append((number, result.fault, sentence))
-        self.must(f"{NAMED} of {COUNT} are named", COUNT - len(others) >= NAMED, others)
-
-
-def main(program: str, first: int, last: int) -> None:
-    """Print each planted fault that qc does not name, and the numbers of faults of each kind."""
-    BENCH.chosen = program
-    case = PlantedFaults("test_finds_at_least_95_of_100_planted_faults")
-    counts = collections.Counter[str]()
-    case.setUp()
-    for number in range(first, last):
-        result = plant_fault(case, number)
-        sentence, kind = judge_for_sentence(case, result), result.fault.kind if result.fault else ""
-        is_named = result.is_named(sentence)
-        counts[kind if is_named else f"{kind}, not named"] += 1
-        if not is_named:
-            print(number, result.inserter.name, result.fault, sentence, flush=True)
-    print(dict(sorted(counts.items())), flush=True)
-
-
-if __name__ == "__main__":
-    main(sys.argv[1], int(sys.argv[2]), int(sys.argv[3]))
