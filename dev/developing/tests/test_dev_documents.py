@@ -22,7 +22,8 @@ from subtitles.cli.main import make_parser
 from subtitles.cli.state import MIN_FREE_BYTES
 from subtitles.clock.stretches import MIN_BREAK_FRAMES, MIN_MATCHING_CUES
 from subtitles.common.command_line import (
-    BUG_STATUS, MAX_EVERY, MAX_WITHIN, NO_PID, PACKET_SIZE, Stop, USAGE_STATUS)
+    BUG_STATUS, KINDS as KIND_NAMES, MAX_EVERY, MAX_WITHIN, NO_PID, OTHER_STATUS, PACKET_SIZE,
+    STATUSES_BY_KIND, Stop, USAGE_STATUS)
 from subtitles.common.program import TOP, read
 from subtitles.common.times import FRAMES_A_SECOND, FRAMES_OF_A_DAY
 from subtitles.formats.layout import LAST_ROW
@@ -480,6 +481,12 @@ class StatedFacts(Case):
         rows = re.findall(r"^\| `([a-z ]+)` \|.*\| (\d)[^|]*\|$",
                           read_document("docs/manual/qc.md"), re.M)
         self.check("rows", {word: int(status) for word, status in rows}, STATUSES)
+
+    def test_the_table_of_kinds_has_each_status(self) -> None:
+        rows = re.findall(r"^\| `([a-z]+)` \| [^|]+ \| (\d+) \| [^|]+ \|$",
+                          read_document("docs/manual/qc.md"), re.M)
+        self.check("rows", {word: int(status) for word, status in rows}, {
+            kind: STATUSES_BY_KIND.get(kind, OTHER_STATUS) for kind in KIND_NAMES})
 
     def test_the_table_of_readings_has_each_status(self) -> None:
         rows = re.findall(r"^\| `([a-z ]+)` \|.*\| (\d) \|$",
