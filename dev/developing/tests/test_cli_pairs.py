@@ -91,9 +91,6 @@ class Batches(Case):
         self.must("alone", json.loads(process.out)["line"] == process.told[-1] == RELATIVE, process)
 
 
-FIVE_WORDS = ("--origin", "0", "--every", "25")
-
-
 class PipedRecordings(Case):
     def test_refuses_devices_and_limits_pipes(self) -> None:
         process = self.tool("qc", STORY, "/dev/zero", "-p", self.bench.program)

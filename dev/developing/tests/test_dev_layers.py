@@ -10,7 +10,6 @@ import subprocess
 from typing import Iterator
 
 from subtitles.common.program import TOP
-from subtitles.common.times import CLOCK, subtract_pts, wrap_pts
 from .bench import Case, SECONDS
 
 # Packages of the tools. Each may import only packages before it.
@@ -185,18 +184,6 @@ class Imports(Case):
                 result = wraps(file.read())
             is_home = get_module_name(path) == "subtitles.common.times"
             self.must(get_module_name(path), bool(result) == is_home, result)
-
-    def test_wraps_pts_and_differences(self) -> None:
-        for ticks, expected in ((0, 0), (CLOCK - 1, CLOCK - 1), (CLOCK, 0), (-1, CLOCK - 1),
-                                (2 * CLOCK + 5, 5)):
-            self.must(f"wrapped {ticks}", wrap_pts(ticks) == expected, wrap_pts(ticks))
-        for first, second, expected in ((0, 0, 0), (5, 8, 3), (8, 5, -3), (CLOCK - 1, 1, 2),
-                                        (1, CLOCK - 1, -2), (0, CLOCK // 2 - 1, CLOCK // 2 - 1),
-                                        (0, CLOCK // 2, -CLOCK // 2),
-                                        (0, CLOCK // 2 + 1, 1 - CLOCK // 2),
-                                        (CLOCK + 5, 8, 3)):
-            result = subtract_pts(first, second)
-            self.must(f"from {first} to {second}", result == expected, result)
 
 
 TOOLS, DEV, BENCH = (os.path.join(TOP, name) for name in ("tools", "dev", "bench"))

@@ -15,7 +15,7 @@ from subtitles.cli.measure import (
     Delays, MeasuredRecording as ExpectedSubtitle, explain_omission, make_profile_lines, measure,
     propose_pace, propose_repeat_limit)
 from subtitles.common.program import TOP, read
-from subtitles.common.times import TICKS, format_frame
+from subtitles.common.times import TICKS
 from subtitles.request.lines import read_profile, read_options
 from subtitles.request.request import CHOICES, describe_option, make_request
 from subtitles.stream.pace import PAUSED, Pace, REGULAR
@@ -233,7 +233,6 @@ class ForeignPackets(ProgrammeCase):
 # first TCI, interval between TCIs, and duration, in frames
 FIRST_TCI, DISTANCE, DURATION = 900_000, 100, 60
 LINES = ("Good evening.", "Here", "is the news of today", "Thank you, Anne.", "Yes", "No no no")
-CLOCK_WORDS = ["--start", format_frame(FIRST_TCI - 50)]
 
 
 EARLY_CUES = "# early, which no option accepts: "

@@ -179,8 +179,6 @@ def replace_unit_ids(pes: bytes, data_unit_id: int) -> bytes:
 
 
 class Listings(Case):
-    maxDiff = None
-
     def lines_of(self, data: bytes) -> list[str]:
         """Return the output lines for a recording, except the first two lines."""
         status, lines = self.program("survey", self.write("one.ts", data))
