@@ -6,6 +6,7 @@ What forbids the verdict `as shown`, or was not checked, is returned with the pa
 from __future__ import annotations
 
 import collections
+import operator
 from typing import Callable, Iterator, NamedTuple, Sequence
 
 from ..clock.start import Clock, FIRST_PES
@@ -298,9 +299,8 @@ def find_likely_errors(pages: Sequence[ShownPage]) -> set[int]:
     found: set[int] = set()
     for at, (page, other) in enumerate(zip(pages, pages[1:])):
         cells, others = b"".join(page.rows), b"".join(other.rows)
-        differing = [pair for pair in zip(cells, others) if pair[0] != pair[1]]
-        if page.end == other.begin and len(differing) <= FEW_CELLS and \
-                all(min(pair) > 0x20 for pair in differing):
+        if page.end == other.begin and sum(map(operator.ne, cells, others)) <= FEW_CELLS and all(
+                min(pair) > 0x20 for pair in zip(cells, others) if pair[0] != pair[1]):
             found |= {at, at + 1}
     return found
 
