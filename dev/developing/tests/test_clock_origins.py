@@ -2,7 +2,6 @@
 from __future__ import annotations
 
 import itertools
-import random
 import unittest
 from collections import Counter
 from typing import Sequence
@@ -22,7 +21,7 @@ from subtitles.stream.packets import PageChange
 from .bench import Case, get_example_path, read_example_file
 from .parts import make_example_request, survey_packets
 from .transmissions import (
-    CLOSING, HEADER, ShownSubtitle, replace_pts, make_random_stl, make_numbered_row, schedule_pes,
+    CLOSING, HEADER, ShownSubtitle, replace_pts, make_numbered_row, schedule_pes,
     write_subtitle_file)
 from .test_clock_tables import make_sent_packets
 
@@ -101,26 +100,6 @@ class Origins(Case):
                 result = self.find(get_example_path(name + ".stl"), [data], *words)
                 self.must(f"{name} {given}", (result.status, result.printed) == (
                     0, [f"--origin {given}"]), result)
-
-    def test_finds_the_origin_of_random_transmissions(self) -> None:
-        for seed in range(8):
-            chance = random.Random(seed)
-            data, cues = make_random_stl(seed)
-            stl = self.write("random.stl", data)
-            given = chance.choice([chance.randrange(CLOCK),
-                                   -TICKS * cues[len(cues) // 2] % CLOCK])
-            page = chance.choice(["888", "12A", "701"])
-            pes = schedule_pes(self, stl, "--page", page, "--origin", str(given), "--every",
-                               str(chance.randrange(5, 500)))
-            lost = [item for item in pes if chance.random() < 0.67]
-            shaken = [replace_pts(item, lambda _, pts: pts + chance.randrange(-250, 251))
-                      for item in pes]
-            for name, some in (("all", pes), ("a third", pes[len(pes) // 3:2 * len(pes) // 3]),
-                               ("lost", lost), ("shaken", shaken)):
-                result = self.find(stl, some, "--page", page)
-                away = abs(result.parts[0].origin - given) if result.parts else CLOCK
-                self.must(f"{seed} {name}", result.status == 0 and
-                          away <= 100 * (name == "shaken"), (result, given))
 
     def test_uses_the_origin_of_late_rows(self) -> None:
         for count in (1, 2, 3, 20):
