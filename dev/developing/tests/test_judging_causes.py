@@ -5,7 +5,7 @@ import os
 import random
 import unittest
 from types import SimpleNamespace
-from typing import Any
+from typing import Any, Mapping
 
 from subtitles.common.command_line import counted
 from subtitles.common.program import TOP, read
@@ -270,104 +270,113 @@ class StoredRows(unittest.TestCase):
             self.assertEqual(RandomRow(number).row(), row, number)
 
 
-# Subtitles, decoded pages with their first frames, and the expected causes (index of the subtitle,
-# name, frames, index of another subtitle, sent page).
-ROWS_BY_HAND: list[tuple[str, str, list[tuple[int, str, int | None, int | None, str | None]]]] = [
-    ("100-150 a", "0:- 100:a 150:-", []), ("100-150 a", "0:- 103:a 150:-", [
-        (0, "late", 3, None, "a")]),
-    # The first text is wrong, and the second is early.
-    ("100-150 a;150-200 b", "0:- 100:x 147:b 200:-", [
-        (0, "wrong text", None, None, "x"), (1, "early", 3, None, "b")]),
-    # All subtitles are moved, or one is sent at the time of another subtitle.
-    ("100-200 a;200-300 b", "0:- 200:a 300:b 400:-", [(0, "late", 100, None, "a"),
-                                                      (1, "late", 100, None, "b")]),
-    ("200-300 a;300-400 b", "0:- 100:a 200:b 400:-", [(0, "early", 100, None, "a"),
-                                                      (1, "early", 100, None, "b")]),
-    ("100-200 a;200-300 b", "0:- 200:a 250:b 300:-", [
-        (0, "never sent", None, None, None), (1, "another subtitle's text", None, 0, "a")]),
-    ("100-150 a;200-250 b;300-350 c", "0:- 100:a 150:- 200:c 250:- 300:c 350:-", [
-        (1, "another subtitle's text", None, 2, "c")]),
-    # The page of a subtitle is searched for in the 250 frames before and the 250 frames after its
-    # TCI.
-    ("100-150 a;300-340 b", "0:- 300:b 340:- 350:a 380:-", [(0, "late", 250, None, "a")]),
-    ("100-150 a;300-340 b", "0:- 300:b 340:- 351:a 380:-", [
-        (0, "never sent", None, None, None), (1, "unknown", None, None, "a")]),
-    # A text that is not in the file and overlaps two subtitles is reported for the subtitle that it
-    # overlaps for more frames.
-    ("100-203 a;203-260 b", "0:- 100:a 200:z 260:-", [(1, "wrong text", None, None, "z")]),
-    ("100-190 a;203-260 b", "0:- 100:a 195:- 200:z 260:-", [
-        (0, "not erased", None, None, "a"), (1, "wrong text", None, None, "z")]),
-    ("100-203 a;203-260 b", "0:- 100:a 120:z 210:b 260:-", [
-        (0, "wrong text", None, None, "z"), (1, "late", 7, None, "b")]),
-    ("10-20 a;400-450 b", "0:- 10:a 20:- 150:b 160:-", [(1, "early", 250, None, "b")]),
-    # If several wrong pages were sent, the page that lasted longest is reported.
-    ("100-150 a", "0:- 100:z 110:y 150:-", [(0, "wrong text", None, None, "y")]),
-    ("100-150 a", "0:- 100:z 140:y 150:-", [(0, "wrong text", None, None, "z")]),
-    ("100-150 a", "0:- 100:z 105:y 108:x 150:-", [(0, "wrong text", None, None, "x")]),
-    ("100-150 a", "0:- 100:z 125:y", [(0, "wrong text", None, None, "z")]),
-    ("100-150 a", "0:- 100:z 120:a 150:-", [(0, "wrong text", None, None, "z")]),
-    ("100-150 a", "0:z 120:a 150:-", [(0, "late", 20, None, "a")]),
-    ("100-150 a", "0:- 50:z 160:-", [(0, "wrong text", None, None, "z")]),
-    # Subtitles before the first decoded page.
-    ("10-50 a;100-150 b", "60:b 150:-", [
-        (0, "never sent", None, None, None), (1, "early", 40, None, "b")]),
-    # A page with another text is sent in a pause, and is still displayed during the next subtitle.
-    ("100-150 a;200-250 b", "0:- 100:a 150:- 180:z 220:b 250:-", [
-        (0, "another text in a pause", None, None, "z"), (1, "wrong text", None, None, "z")]),
-    # A page with another text is sent at a TCO. At the last TCO it may belong to the next
-    # programme.
-    ("100-150 a;200-250 b", "0:- 100:a 150:z 170:- 200:b 250:-", [
-        (0, "another text in a pause", None, None, "z")]),
-    ("100-150 a;200-250 b", "0:- 100:a 150:- 200:b 250:z 270:-", [(1, "unknown", None, None, "z")]),
-    ("100-150 a;200-250 b", "0:- 100:a 150:- 200:b 250:- 251:z 270:-", [
-        (1, "unknown", None, None, "z")]),
-    ("100-150 a;200-250 b", "0:z 100:a 150:- 200:b 250:-", [(0, "unknown", None, None, "a")]),
-    ("100-150 a;200-250 b", "0:- 100:a 150:b 250:-", [(1, "early", 50, None, "b")]),
-    ("100-150 a", "0:- 100:a 120:z 150:-", [(0, "wrong text", None, None, "z")]),
-    ("100-150 a", "0:- 100:a 120:z 130:a 160:-", [(0, "wrong text", None, None, "z")]),
-    ("50-60 c;100-150 a;300-350 b", "0:- 50:c 110:- 120:b 150:- 300:b 350:-", [
-        (0, "not erased", None, None, "c"), (1, "another subtitle's text", None, 2, "b")]),
-    # The pause ends when the page changes, or a few frames earlier.
-    ("100-150 a", "0:- 100:a 161:- !148-160", [(0, "unknown", None, None, "a")]),
-    ("100-150 a", "0:- 100:a 165:- !148-160", [(0, "not erased", None, None, "a")]),
-    ("100-150 a", "0:- 111:a 150:- !95-110", [(0, "unknown", None, None, None)]),
-    ("100-150 a", "0:- 112:a 150:- !95-110", [(0, "late", 12, None, "a")]),
-    ("100-150 a", "0:- 160:- !95-149", [(0, "unknown", None, None, None)]),
-    ("100-150 a", "0:- 160:- !95-148", [(0, "never sent", None, None, None)]),
-    # Rows are sent without a header before, during and after the subtitle's time.
-    ("100-150 a", "0:- 160:- @99 @150", [(0, "never sent", None, None, None)]),
-    ("100-150 a", "0:- 160:- @90 @120", [(0, "unknown", None, None, None)]),
-    ("100-150 a", "0:- 160:- @149 @160", [(0, "unknown", None, None, None)]),
-    # Frames are unreadable before, during or after the frames with a wrong page.
-    ("100-150 a", "0:- 100:a 110:z 130:a 150:- ?130-140", [(0, "wrong text", None, None, "z")]),
-    ("100-150 a", "0:- 100:a 110:z 130:a 150:- ?129-140", [(0, "unknown", None, None, "z")]),
-    ("100-150 a", "0:- 100:a 110:z 130:a 150:- ?100-109", [(0, "wrong text", None, None, "z")]),
-    ("100-150 a", "0:- 120:a 150:- ?90-99", [(0, "late", 20, None, "a")]),
-    ("100-150 a", "0:- 120:a 150:- ?120-130", [(0, "unknown", None, None, None)]),
-    ("100-150 a", "0:- 160:- ?149-155", [(0, "unknown", None, None, None)]),
-    ("100-150 a", "0:- 160:- ?150-155", [(0, "never sent", None, None, None)]),
-    ("100-150 a", "0:- 100:a 110:- 120:z 150:-", [(0, "unknown", None, None, None)]),
-    ("100-150 a", "0:- 100:a,r 150:-", [(0, "wrong text", None, None, "a,r")]),
-    ("100-150 a", "0:- 100:a,m 150:-", [(0, "wrong place", None, None, "a,m")]),
-    ("100-150 a", "0:- 100:a,a 150:-", [(0, "wrong colour or attribute", None, None, "a,a")]),
-    # A subtitle is not erased: another text follows, or the same text, or nothing.
-    ("100-150 a;200-250 b", "0:- 100:a 200:b 250:-", [(0, "not erased", None, None, "a")]),
-    ("100-150 a;160-250 a", "0:- 100:a 250:-", [(0, "not erased", None, None, "a")]),
-    ("100-150 a", "0:- 100:a", [(0, "not erased", None, None, "a")])]
+# The subtitles with their frames; the decoded pages with their first frames, where `!` has the
+# frames of a pause, `?` unreadable frames and `@` a frame with rows without a header; and the
+# causes: the subtitle, the cause, its frames, another subtitle, and the decoded page.
+ROWS_BY_HAND = {
+    "as expected": ("100-150 a", "0:- 100:a 150:-", ""),
+    "late by 3 frames": ("100-150 a", "0:- 103:a 150:-", "1 late 3, a"),
+    "a wrong text, and the next one early": (
+        "100-150 a;150-200 b", "0:- 100:x 147:b 200:-", "1 wrong text, x; 2 early 3, b"),
+    "all late": ("100-200 a;200-300 b", "0:- 200:a 300:b 400:-", "1 late 100, a; 2 late 100, b"),
+    "all early": ("200-300 a;300-400 b", "0:- 100:a 200:b 400:-", "1 early 100, a; 2 early 100, b"),
+    "the first at the time of the second": (
+        "100-200 a;200-300 b", "0:- 200:a 250:b 300:-",
+        "1 never sent; 2 another subtitle's text of 1, a"),
+    "the third at the time of the second": (
+        "100-150 a;200-250 b;300-350 c", "0:- 100:a 150:- 200:c 250:- 300:c 350:-",
+        "2 another subtitle's text of 3, c"),
+    # A page is searched for in the 250 frames before and the 250 frames after its TCI.
+    "late by 250 frames": ("100-150 a;300-340 b", "0:- 300:b 340:- 350:a 380:-", "1 late 250, a"),
+    "later than 250 frames is never sent": (
+        "100-150 a;300-340 b", "0:- 300:b 340:- 351:a 380:-", "1 never sent; 2 unknown, a"),
+    # A text that is not in the file is reported for the subtitle that it overlaps longer.
+    "a foreign text, for more frames of the second": (
+        "100-203 a;203-260 b", "0:- 100:a 200:z 260:-", "2 wrong text, z"),
+    "a foreign text after one that is not erased": (
+        "100-190 a;203-260 b", "0:- 100:a 195:- 200:z 260:-", "1 not erased, a; 2 wrong text, z"),
+    "a foreign text, for more frames of the first": (
+        "100-203 a;203-260 b", "0:- 100:a 120:z 210:b 260:-", "1 wrong text, z; 2 late 7, b"),
+    "early by 250 frames": ("10-20 a;400-450 b", "0:- 10:a 20:- 150:b 160:-", "2 early 250, b"),
+    # Of several wrong pages the one that lasted longest is reported.
+    "two foreign texts, the second for longer": (
+        "100-150 a", "0:- 100:z 110:y 150:-", "1 wrong text, y"),
+    "two foreign texts, the first for longer": (
+        "100-150 a", "0:- 100:z 140:y 150:-", "1 wrong text, z"),
+    "three foreign texts, the last for longest": (
+        "100-150 a", "0:- 100:z 105:y 108:x 150:-", "1 wrong text, x"),
+    "a foreign text that is not erased": ("100-150 a", "0:- 100:z 125:y", "1 wrong text, z"),
+    "a foreign text, then the own": ("100-150 a", "0:- 100:z 120:a 150:-", "1 wrong text, z"),
+    "a foreign text since the beginning, then the own": (
+        "100-150 a", "0:z 120:a 150:-", "1 late 20, a"),
+    "a foreign text since the pause before": ("100-150 a", "0:- 50:z 160:-", "1 wrong text, z"),
+    "a subtitle before the first page": (
+        "10-50 a;100-150 b", "60:b 150:-", "1 never sent; 2 early 40, b"),
+    "a foreign text in the pause, and in the next": (
+        "100-150 a;200-250 b", "0:- 100:a 150:- 180:z 220:b 250:-",
+        "1 another text in a pause, z; 2 wrong text, z"),
+    "a foreign text at the TCO": (
+        "100-150 a;200-250 b", "0:- 100:a 150:z 170:- 200:b 250:-",
+        "1 another text in a pause, z"),
+    # At the last TCO a text may belong to the next programme.
+    "a foreign text at the last TCO": (
+        "100-150 a;200-250 b", "0:- 100:a 150:- 200:b 250:z 270:-", "2 unknown, z"),
+    "a foreign text after the last TCO": (
+        "100-150 a;200-250 b", "0:- 100:a 150:- 200:b 250:- 251:z 270:-", "2 unknown, z"),
+    "a foreign text before the first TCI": (
+        "100-150 a;200-250 b", "0:z 100:a 150:- 200:b 250:-", "1 unknown, a"),
+    "the second at the first TCO": (
+        "100-150 a;200-250 b", "0:- 100:a 150:b 250:-", "2 early 50, b"),
+    "a foreign text up to the TCO": ("100-150 a", "0:- 100:a 120:z 150:-", "1 wrong text, z"),
+    "a foreign text, then the own up to after the TCO": (
+        "100-150 a", "0:- 100:a 120:z 130:a 160:-", "1 wrong text, z"),
+    "one not erased, then the text of the third": (
+        "50-60 c;100-150 a;300-350 b", "0:- 50:c 110:- 120:b 150:- 300:b 350:-",
+        "1 not erased, c; 2 another subtitle's text of 3, b"),
+    # A pause ends when the page changes, or a few frames earlier.
+    "erased at the end of a pause": ("100-150 a", "0:- 100:a 161:- !148-160", "1 unknown, a"),
+    "erased after a pause": ("100-150 a", "0:- 100:a 165:- !148-160", "1 not erased, a"),
+    "sent at the end of a pause": ("100-150 a", "0:- 111:a 150:- !95-110", "1 unknown"),
+    "sent after a pause": ("100-150 a", "0:- 112:a 150:- !95-110", "1 late 12, a"),
+    "a pause up to the last frame": ("100-150 a", "0:- 160:- !95-149", "1 unknown"),
+    "a pause up to the last frame but one": ("100-150 a", "0:- 160:- !95-148", "1 never sent"),
+    "rows without a header before and after": ("100-150 a", "0:- 160:- @99 @150", "1 never sent"),
+    "rows without a header in its time": ("100-150 a", "0:- 160:- @90 @120", "1 unknown"),
+    "rows without a header in its last frame": ("100-150 a", "0:- 160:- @149 @160", "1 unknown"),
+    "unreadable after the foreign text": (
+        "100-150 a", "0:- 100:a 110:z 130:a 150:- ?130-140", "1 wrong text, z"),
+    "unreadable in the last frame of the foreign text": (
+        "100-150 a", "0:- 100:a 110:z 130:a 150:- ?129-140", "1 unknown, z"),
+    "unreadable before the foreign text": (
+        "100-150 a", "0:- 100:a 110:z 130:a 150:- ?100-109", "1 wrong text, z"),
+    "unreadable before its time": ("100-150 a", "0:- 120:a 150:- ?90-99", "1 late 20, a"),
+    "unreadable when it comes": ("100-150 a", "0:- 120:a 150:- ?120-130", "1 unknown"),
+    "unreadable in its last frame": ("100-150 a", "0:- 160:- ?149-155", "1 unknown"),
+    "unreadable after its time": ("100-150 a", "0:- 160:- ?150-155", "1 never sent"),
+    "a foreign text after the page was erased": (
+        "100-150 a", "0:- 100:a 110:- 120:z 150:-", "1 unknown"),
+    "a row is missing": ("100-150 a", "0:- 100:a,r 150:-", "1 wrong text, a,r"),
+    "another margin": ("100-150 a", "0:- 100:a,m 150:-", "1 wrong place, a,m"),
+    "another attribute": ("100-150 a", "0:- 100:a,a 150:-", "1 wrong colour or attribute, a,a"),
+    "not erased, and another text follows": (
+        "100-150 a;200-250 b", "0:- 100:a 200:b 250:-", "1 not erased, a"),
+    "not erased, and the same text follows": (
+        "100-150 a;160-250 a", "0:- 100:a 250:-", "1 not erased, a"),
+    "not erased, and nothing follows": ("100-150 a", "0:- 100:a", "1 not erased, a")}
 
 
 class CausesByHand(unittest.TestCase):
     def test_finds_the_causes_derived_by_hand(self) -> None:
-        for subtitles, sent, expected in ROWS_BY_HAND:
+        for name, (subtitles, sent, expected) in ROWS_BY_HAND.items():
             times = [[int(frame) for frame in item.split()[0].split("-")]
                      for item in subtitles.split(";")]
             programme = ExpectedPages(
                 [Subtitle(at, at, begin, end, 20, 2, b"") for at, (begin, end) in
                  enumerate(times, 1)], [make_page_named(item[-1]) for item in subtitles.split(";")])
             decoded, pages = empty(), dict[Rows, str]()
-            for frame, _, name in (item.partition(":") for item in sent.split() if ":" in item):
-                decoded.record_page(int(frame), make_page_named(name))
-                pages[make_page_named(name)] = name
+            for frame, _, page in (item.partition(":") for item in sent.split() if ":" in item):
+                decoded.record_page(int(frame), make_page_named(page))
+                pages[make_page_named(page)] = page
             decoded.first, decoded.last = 0, 999
             decoded.uncertain_spans, decoded.pauses = (
                 [Span(*map(int, item[1:].split("-"))) for item in sent.split() if item[0] == mark]
@@ -381,15 +390,19 @@ class CausesByHand(unittest.TestCase):
             causes.classify_faults(fake_answer([(begin, next(last for last in range(begin, 501)
                                                              if last + 1 not in faulty))
                                                 for begin in faulty if begin - 1 not in faulty]))
-            for begin in faulty:
-                item = causes.find_cause(72, begin)
-                self.assertTrue(item
-                                and item.subtitle_index in [place for place, *_ in expected], sent)
-            with self.subTest(subtitles=subtitles, sent=sent):
-                self.assertEqual([(item.subtitle_index, item.name, item.frames, item.other_index,
-                                   None if item.sent_page is None
-                                   else pages.get(item.sent_page, "due"))
-                                  for item in causes.list_causes()], expected)
+            places = {cause.subtitle_index for cause in causes.list_causes()}
+            with self.subTest(name):
+                self.assertEqual("; ".join(self.format_cause(cause, pages)
+                                           for cause in causes.list_causes()), expected)
+                for begin in faulty:
+                    item = causes.find_cause(72, begin)
+                    self.assertIn(item and item.subtitle_index, places)
+
+    def format_cause(self, cause: Cause, pages: Mapping[Rows, str]) -> str:
+        frames = "" if cause.frames is None else f" {cause.frames}"
+        other = "" if cause.other_index is None else f" of {cause.other_index + 1}"
+        page = "" if cause.sent_page is None else f", {pages.get(cause.sent_page, 'due')}"
+        return f"{cause.subtitle_index + 1} {cause.name}{frames}{other}{page}"
 
     def test_extends_the_recording_by_its_pcr(self) -> None:
         for reach, expected in ((None, (10, 20)), ((5, 30), (5, 30)), ((12, 18), (10, 20)),
