@@ -12,6 +12,7 @@ from unittest import mock
 
 from subtitles.air import check, main
 from subtitles.air.check import Checker, Outcome
+from subtitles.air.decision import decide
 from subtitles.air.segments import UnbrokenRun, find_segments, find_unbroken_runs, make_segment_name
 from subtitles.cli.single import hold_lock
 from .air import AirCase, DAY
@@ -93,6 +94,12 @@ class Checks(Feeds):
         checker.clear()
         self.check("files that are left", os.listdir(out), [])
         return result
+
+    def test_names_three_gaps_and_counts_the_others(self) -> None:
+        for count, words in ((1, "a"), (3, "a, b, c"), (4, "a, b, c and 1 more"),
+                             (6, "a, b, c and 3 more")):
+            outcome = decide("one", [], "abcdef"[:count], True)
+            self.check(f"{count}", outcome and outcome.reason, f"not recorded: {words}")
 
     def test_each_recording_gets_its_verdict(self) -> None:
         feeds = [2 * self.feed(is_wrong) for is_wrong in (False, True)]
