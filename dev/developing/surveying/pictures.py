@@ -115,6 +115,8 @@ class Video:
     def take(self, packet: Packet) -> None:
         if packet.has_error:
             return
+        # For pictures, a discontinuity_indicator counts even in a scrambled TS packet.
+        packet.announces_jump = packet.is_discontinuity
         if not packet.has_payload:
             self.stretch.has_jump |= packet.is_discontinuity
             self.is_flagged |= packet.is_random_access
