@@ -81,6 +81,7 @@ class Gate(Case):
 
 
 EDIT = "sub_packets/must-fail/check_accepts_another_packet_of_a_row"
+OTHER_EDIT = "sub_packets/must-fail/check_accepts_a_header_that_does_not_erase_the_page"
 REFUSED = ("note: src/packet_rules.rt:5:1: it is not proved that a (`returns`)\n"
            "fn sub_packets::packet_rules::row: not proved\nlogic=not-proved\n")
 
@@ -106,6 +107,16 @@ class Edits(Case):
             with self.subTest(name):
                 self.check("last line", process.out.decode().splitlines()[-1], last)
                 self.check("status", process.status, expected_status)
+
+
+    def test_fails_if_one_of_two_edits_is_not_refused(self) -> None:
+        self.write("output", REFUSED.encode())
+        rt = self.write_program("rt", "#!/bin/sh\ncd '{0}'\nmkdir called 2>/dev/null || exit 0\n"
+                                      "cat output\nexit 1\n".format(self.folder))
+        process = self.call([get_tool_path("edits"), EDIT, OTHER_EDIT],
+                            env={**os.environ, "RT": rt})
+        self.check("status and last line", (process.status, process.out.decode().splitlines()[-1]),
+                   (1, "1 refused, 1 not refused"))
 
 
 # The command, its output, and each status (`None` after a time limit) that agrees with it.
