@@ -439,7 +439,7 @@ class SurveyAnswers(Case):
             reported = [*survey_runs(self.fake_survey(lines[:2 * count - (count == 2)]), "one.pes",
                                      PAGE)]
             self.must(f"{count}", [texts for _, texts in reported] == expected, reported)
-        reported = list[tuple[PacketRun, Texts | None]]()
+        reported: list[tuple[PacketRun, Texts | None]] = []
         with self.assertRaises(ProgramInterrupted):
             for item in survey_runs(self.fake_survey(lines, 3), "one.pes", PAGE):
                 reported.append(item)

@@ -112,7 +112,8 @@ class ClockTables(unittest.TestCase):
     def test_packets_agree_with_a_list_of_pes_packets(self) -> None:
         chance = random.Random(7)
         for _ in range(400):
-            packets, known = Packets(5), list[tuple[int, int | None, str]]()
+            packets = Packets(5)
+            known: list[tuple[int, int | None, str]] = []
             for _ in range(chance.randrange(7)):
                 pts = chance.choice((None, 0, CLOCK - 2 * TICKS, 5 * TICKS, 9 * TICKS))
                 run = PacketRun(len(known), chance.randrange(1, 8), pts,

@@ -459,8 +459,8 @@ class Verdict:
         """Yield the waivers for the subtitle file, with the faults that each of them waives."""
         waivers, severities = self.severity.waivers, [part.severities for part in self.parts]
         for waiver in waivers.used:
-            owners = set[int | None]().union(*(item.other_owners.get(waiver.key, ())
-                                               for item in severities))
+            owners: set[int | None] = set()
+            owners.update(*(item.other_owners.get(waiver.key, ()) for item in severities))
             yield UsedWaiver(waiver, sum(item.waived_counts[waiver.key] for item in severities),
                              owners)
         yield from (UsedWaiver(waiver, 0, set(), True) for waiver in waivers.ended)
