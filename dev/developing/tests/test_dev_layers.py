@@ -236,7 +236,8 @@ class Hints(Case):
         if mypy is None and "CI" not in os.environ:
             self.skipTest("type hints, since there is no mypy")
         assert mypy, "there is no mypy, which dev/install-test-tools installs"
-        command = [mypy, "--strict", "--scripts-are-modules", "--follow-imports=silent"]
+        command = [mypy, "--strict", "--python-version=3.9", "--scripts-are-modules",
+                   "--follow-imports=silent"]
         try:
             listed = [path for folder in PACKAGES for path in modules(folder)]
             with open_mypy_cache(self) as cache:

@@ -439,9 +439,9 @@ class SurveyAnswers(Case):
             reported = [*survey_runs(self.fake_survey(lines[:2 * count - (count == 2)]), "one.pes",
                                      PAGE)]
             self.must(f"{count}", [texts for _, texts in reported] == expected, reported)
-        reported: list[tuple[PacketRun, Texts | None]] = []
+        reported_runs: list[tuple[PacketRun, Texts | None]] = []
         with self.assertRaises(ProgramInterrupted):
             for item in survey_runs(self.fake_survey(lines, 3), "one.pes", PAGE):
-                reported.append(item)
-        self.must("all", [(run.first, texts) for run, texts in reported] == [
-            (0, ((20, b"A"),)), (1, None), (2, ())], reported)
+                reported_runs.append(item)
+        self.must("all", [(run.first, texts) for run, texts in reported_runs] == [
+            (0, ((20, b"A"),)), (1, None), (2, ())], reported_runs)

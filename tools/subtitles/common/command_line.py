@@ -427,7 +427,7 @@ def format_error(reason: BaseException) -> str:
     if isinstance(reason, ReportedError):
         return text
     if os.environ.get("SUBTTX_DEBUG") == "1":
-        traceback.print_exception(reason)
+        traceback.print_exception(type(reason), reason, reason.__traceback__)
     return f"internal error: {type(reason).__name__} in {locate_error(reason)}: {text}"
 
 
