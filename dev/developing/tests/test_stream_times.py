@@ -22,6 +22,7 @@ from subtitles.stream.packets import (
 from subtitles.stream.ranges import find_range, is_outside
 from subtitles.stream.survey import Survey
 from .parts import read_survey
+from .stories import read_table
 
 
 def make_packets_with_pts(pts: Sequence[int | None], **more: Any) -> Packets:
@@ -64,6 +65,77 @@ def text_of(number: int, does: str) -> Texts:
     `does` contains the flags of a `pes` line. It ends with `y` if the text is unchanged.
     """
     return () if "b" in does else ((20, b"same" if does[-1] == "y" else b"%d" % number),)
+
+
+# PES packets, each with its frame and flags, and the range found for frames 100 to 200. The flags
+# are h (header), e (erase page), b (blank), o (open), c (closed), x (another text) and y (the same
+# text). `m` is a gap marker. `found` has whether the last page transmission was found, and whether
+# no later PES packet can be in the range. `read` is the number of PES packets that were read.
+RANGES = """
+sent                                   | range | found    | read | where it begins or ends
+100:he 200:he                          | 0-1   | end      | 2    | at the first header
+100:- 101:- 120:he 200:he              | 2-3   | end      | 4    | at a header after rows
+100:- 200:-                            |       |          | 2    | no header
+100:he 300:he 150:- 300:he 200:heb     | 0-4   | end      | 5    | two wrong PTS, each alone
+99:he 201:he 202:he                    |       |          | 3    | headers before and after
+99:heb 100:he 200:heb                  | 1-2   | end      | 3    | not at an earlier blank page
+100:he 200:- 201:he                    | 0-1   | end over | 3    | at the last TCO, without a header
+100:- 201:- 202:-                      |       | over     | 3    | no header, two after the end
+"""
+# A header up to 25 frames before or after also counts.
+RANGES_WITH_REPEATS = """
+sent                                   | range | found    | read | where it begins or ends
+75:heb 80:heb 100:he 200:heb           | 1-3   | end      | 4    | at the last blank page
+74:heb 100:he 200:heb                  | 1-2   | end      | 3    | not 26 frames before
+75:heb 100:he 200:heb                  | 0-2   | end      | 3    | 25 frames before
+80:heb 90:he 100:he 200:heb            | 0-3   | end      | 4    | not at a page with text
+80:hb 100:he 200:heb                   | 0-2   | end      | 3    | at a blank page that keeps
+80:he 90:hb 100:he 200:heb             | 1-3   | end      | 4    | at one that keeps, not erases
+80:heb 90:he 100:hex 200:heb           | 2-3   | end      | 4    | at a new text at the first TCI
+75:he 80:- 100:he 200:heb              | 0-3   | end      | 4    | at the header before a repeat
+80:hebx 90:he 100:he 200:heb           | 0-3   | end      | 4    | before a text that stays
+80:heb 90:he 101:hex 200:heb           | 0-3   | end      | 4    | before a text after the TCI
+80:heb m 100:hex 200:heb               | 0-3   | end      | 4    | at a blank page before a gap
+80:he 80:b 100:he 200:heb              | 2-3   | end      | 4    | not at a second PES packet
+100:he 150:-                           | 0-1   |          | 2    | at the last PES packet
+100:he 150:- 120:-                     | 0-2   |          | 3    | after a PTS that goes back
+100:he 200:heb 201:- 202:-             | 0-1   | end over | 3    | at a header at the last TCO
+100:he 200:heb 200:- 201:-             | 0-2   | end over | 4    | with all of the last frame
+100:he 200:- 210:he 220:he             | 0-2   | end over | 4    | at a later header
+225:he 226:he                          | 0-0   | end over | 2    | at a header 25 frames after
+226:he 227:he                          |       |          | 2    | not 26 frames after
+100:he 225:he 226:he                   | 0-1   | end over | 3    | up to 25 frames after
+100:he 226:he 227:he                   | 0-0   | over     | 3    | not up to 26 frames after
+100:he 900:he 150:he 200:he 201:- 202:- | 0-3  | end over | 5    | one far behind
+100:he 900:he 901:he 200:he            | 0-0   | over     | 3    | two far behind
+100:he 5:he 200:heb                    | 0-2   | end      | 3    | one far before
+100:he m 200:heb m 201:-               | 0-3   | end over | 5    | gap markers between and after
+m 100:he 200:heb                       | 1-2   | end      | 3    | a gap marker before
+80:- m:heb 100:- 200:heb               | 1-3   | end      | 4    | at a header without a PTS
+                                       |       |          | 0    | nothing
+"""
+# Pages may also be two frames late.
+RANGES_OF_LATE_PAGES = """
+sent                                   | range | found    | read | where it begins or ends
+80:hb 90:hb 101:he 200:heb             | 1-3   | end      | 4    | at the last blank page
+80:he 80:b 100:he 200:heb              | 0-3   | end      | 4    | at a frame of two PES packets
+79:he 80:- 80:hb 100:he 200:heb        | 1-4   | end      | 5    | a header in the second of two
+75:hey 80:- 100:he 200:heb             | 0-3   | end      | 4    | at the header before a repeat
+77:hey 102:he 200:heb                  | 0-2   | end      | 3    | before a repeat, two frames late
+75:heb 76:hey 100:hebx 100:oy 200:heb  | 0-4   | end      | 5    | before a repeat, rows apart
+75:heb 76:hey 100:hebx 102:oy 200:heb  | 0-4   | end      | 5    | rows two frames later
+75:heb 76:hey 99:hebx 100:oy 200:heb   | 0-4   | end      | 5    | begun before the first TCI
+75:heb 76:hey 100:hebx 100:ox 200:heb  | 2-4   | end      | 5    | not before another text
+75:heb 76:hey 97:hebx 100:hey 200:heb  | 2-4   | end      | 5    | not if blank for three frames
+100:he 200:he 203:-                    | 0-2   | end      | 3    | not at a page with text
+100:he 200:he 201:heb 202:-            | 0-2   | end over | 4    | at the blank page
+100:heo 200:heob 201:-                 | 0-1   | end over | 3    | at an open page, none was closed
+100:heo 101:c 200:heob 201:cb 202:-    | 0-3   | end over | 5    | at its end, one before was closed
+74.8:heb 99.8:he 199.8:heb 203:-       | 0-2   | end over | 4    | a fifth of a frame early
+80:heo 81:c 100:heox 200:heob 201:- 210:- | 2-3 | end over | 5   | only an earlier one was closed
+100:heo 101:c 200:heob 201:cb 202:heob 225:heob | 0-3 | end over | 5 | before more blank pages
+100:he 201:he 202:he 203:-             | 0-2   | end over | 4    | two frames late
+"""
 
 
 class ClockTables(unittest.TestCase):
@@ -213,134 +285,41 @@ class ClockTables(unittest.TestCase):
                               for loss_place in find_loss_places(packets)],
                              expected, (marks, several))
 
-    def test_cuts_the_range_of_each_row(self) -> None:
-        """Test the range found for frames 100 to 200.
-
-        The table lists PES packets, each with its frame and letters: h (header), e (erase page),
-        b (blank), o (open), c (closed), x (changed text) and y (unchanged text).
-        """
-        whole, every, late = (100, 200), (100, 200, 25), (100, 200, 25, 2)
-        rows: list[tuple[str, str, tuple[int, ...], tuple[int, int] | None, bool, bool, int]] = [
-            # Test cases for the start of the range.
-            ("with the first header", "100 he, 200 he", whole, (0, 1), True, False, 2),
-            ("behind rows", "100 -, 101 -, 120 he, 200 he", whole, (2, 3), True, False, 4),
-            ("nowhere: no header", "100 -, 200 -", whole, None, False, False, 2),
-            ("with wrong PTS, each alone", "100 he, 300 he, 150 -, 300 he, 200 heb", whole, (0, 4),
-             True, False, 5),
-            ("nowhere: before and behind it", "99 he, 201 he, 202 he", whole, None, False, False,
-             3),
-            ("with the last blank one", "75 heb, 80 heb, 100 he, 200 heb", every, (1, 3), True,
-             False, 4),
-            ("not with one before the bound", "74 heb, 100 he, 200 heb", every, (1, 2), True,
-             False, 3),
-            ("with the bound", "75 heb, 100 he, 200 heb", every, (0, 2), True, False, 3),
-            ("without a bound with none", "99 heb, 100 he, 200 heb", whole, (1, 2), True, False, 3),
-            ("not with one that shows text", "80 heb, 90 he, 100 he, 200 heb", every, (0, 3), True,
-             False, 4),
-            ("with a blank one that keeps", "80 hb, 100 he, 200 heb", every, (0, 2), True, False,
-             3),
-            ("with the last blank one that keeps, late", "80 hb, 90 hb, 101 he, 200 heb", late,
-             (1, 3), True, False, 4),
-            ("with one that keeps behind one that erases", "80 he, 90 hb, 100 he, 200 heb", every,
-             (1, 3), True, False, 4),
-            ("with itself, where it erases a page that shows text at the first TCI",
-             "80 heb, 90 he, 100 hex, 200 heb", every, (2, 3), True, False, 4),
-            ("not where nothing changes then", "80 heb, 90 he, 100 he, 200 heb", every, (0, 3),
-             True, False, 4),
-            ("with the header before, where a repeat shows text at the first TCI",
-             "75 he, 80 -, 100 he, 200 heb", every, (0, 3), True, False, 4),
-            ("not where another one changes", "80 hebx, 90 he, 100 he, 200 heb", every, (0, 3),
-             True, False, 4),
-            ("not later than the first TCI", "80 heb, 90 he, 101 hex, 200 heb", every, (0, 3),
-             True, False, 4),
-            ("with one in two PES packets of a frame", "80 he, 80 b, 100 he, 200 heb", late,
-             (0, 3), True, False, 4),
-            ("whose header is in the second", "79 he, 80 -, 80 hb, 100 he, 200 heb", late, (1, 4),
-             True, False, 5),
-            ("with the last blank one, before a mark", "80 heb, m, 100 hex, 200 heb", every, (0, 3),
-             True, False, 4),
-            ("which is no sending within 0", "80 he, 80 b, 100 he, 200 heb", every, (2, 3), True,
-             False, 4),
-            ("late: with the header before, where a repeat shows text at the first TCI",
-             "75 hey, 80 -, 100 he, 200 heb", late, (0, 3), True, False, 4),
-            ("late: or as late as may be", "77 hey, 102 he, 200 heb", late, (0, 2), True, False, 3),
-            ("late: a repeat with its rows in a PES packet of its own",
-             "75 heb, 76 hey, 100 hebx, 100 oy, 200 heb", late, (0, 4), True, False, 5),
-            ("late: or two frames later", "75 heb, 76 hey, 100 hebx, 102 oy, 200 heb", late, (0, 4),
-             True, False, 5),
-            ("late: or begun before the first TCI", "75 heb, 76 hey, 99 hebx, 100 oy, 200 heb",
-             late, (0, 4), True, False, 5),
-            ("late: not where another text comes", "75 heb, 76 hey, 100 hebx, 100 ox, 200 heb",
-             late, (2, 4), True, False, 5),
-            ("late: not where the page is blank for longer",
-             "75 heb, 76 hey, 97 hebx, 100 hey, 200 heb", late, (2, 4), True, False, 5),
-            # Test cases for the end of the range.
-            ("with what is there", "100 he, 150 -", every, (0, 1), False, False, 2),
-            ("back in the time", "100 he, 150 -, 120 -", every, (0, 2), False, False, 3),
-            ("with a header at the last TCO", "100 he, 200 heb, 201 -, 202 -", every, (0, 1), True,
-             True, 3),
-            ("with all of that frame", "100 he, 200 heb, 200 -, 201 -", every, (0, 2), True, True,
-             4),
-            ("with a later one", "100 he, 200 -, 210 he, 220 he", every, (0, 2), True, True, 4),
-            ("at the bound alone", "225 he, 226 he", every, (0, 0), True, True, 2),
-            ("behind the bound alone", "226 he, 227 he", every, None, False, False, 2),
-            ("up to the bound", "100 he, 225 he, 226 he", every, (0, 1), True, True, 3),
-            ("not behind it", "100 he, 226 he, 227 he", every, (0, 0), False, True, 3),
-            ("without a bound at the last TCO", "100 he, 200 -, 201 he", whole, (0, 1), True, True,
-             3),
-            ("late: not with a page that shows text", "100 he, 200 he, 203 -", late, (0, 2), True,
-             False, 3),
-            ("late: with the blank one", "100 he, 200 he, 201 heb, 202 -", late, (0, 2), True,
-             True, 4),
-            ("late: with an open one, where none was closed", "100 heo, 200 heob, 201 -", late,
-             (0, 1), True, True, 3),
-            ("late: with one that ends, where one before did",
-             "100 heo, 101 c, 200 heob, 201 cb, 202 -", late, (0, 3), True, True, 5),
-            ("late: what is a little early is of its frame", "74.8 heb, 99.8 he, 199.8 heb, 203 -",
-             late, (0, 2), True, True, 4),
-            ("late: what ended it before tells nothing",
-             "80 heo, 81 c, 100 heox, 200 heob, 201 -, 210 -", late, (2, 3), True, True, 5),
-            ("late: that again, in two PES packets of a frame",
-             "100 heo, 101 c, 200 heob, 201 cb, 202 heob, 225 heob", late, (0, 3), True, True, 5),
-            ("late: as late as may be", "100 he, 201 he, 202 he, 203 -", late, (0, 2), True, True,
-             4),
-            # PES packets outside the requested times.
-            ("one behind alone", "100 he, 900 he, 150 he, 200 he, 201 -, 202 -", every, (0, 3),
-             True, True, 5),
-            ("two behind", "100 he, 900 he, 901 he, 200 he", every, (0, 0), False, True, 3),
-            ("one before alone", "100 he, 5 he, 200 heb", every, (0, 2), True, False, 3),
-            ("marks between and behind", "100 he, m, 200 heb, m, 201 -", every, (0, 3), True, True,
-             5),
-            ("marks before", "m, 100 he, 200 heb", every, (1, 2), True, False, 3),
-            ("a header without a PTS", "80 -, m heb, 100 -, 200 heb", every, (1, 3), True, False,
-             4),
-            ("two behind, and no header", "100 -, 201 -, 202 -", whole, None, False, True, 3),
-            ("nothing", "", every, None, False, False, 0)]
-        for name, sent, request, expected, has_end, is_over, read in rows:
-            known = [item.split() for item in sent.split(", ") if item]
+    def check_ranges(self, table: str, every: int | None = None, within: int = 0) -> None:
+        """Check the ranges found for frames 100 to 200."""
+        low, high = 100 - (every or 0), 200 + (every or 0)
+        for row in read_table(table):
+            sent = [item.partition(":")[::2] for item in row["sent"].split()]
+            times = [-1.0 if frame == "m" else float(frame) for frame, _ in sent]
+            pts = [None if frame < 0 else round(TICKS * frame) for frame in times]
             packets = Packets(257, [
-                PacketRun(at, 1, None if item[0] == "m" else round(TICKS * float(item[0])), 0,
-                          "".join(item[1:]).strip("xy-"), "") for at, item in enumerate(known)],
-                changes=[PageChange(round(TICKS * float(item[0])), b"", at, text_of(at, item[-1]))
-                         for at, item in enumerate(known) if item[-1][-1] in "xy"])
-            begin, end, bound, within = (*request, None, 0)[:4] if len(request) < 4 else request
-            result = find_range(packets, begin or 0, end or 0, 0, bound, within or 0)
-            low, high = 100 - (bound or 0), 200 + (bound or 0)
-            frames = [round(float(item[0].replace("m", "-1"))) for item in known]
-            came = [frame for frame in frames if low <= frame <= high]
-            taken = [frame for frame in frames[expected[0]:] if frame >= 0] if expected else []
-            with self.subTest(name):
-                self.assertEqual((result.range, result.has_end, result.is_over, result.read),
-                                 (expected, has_end, is_over, read))
-                first, last = expected or (0, -1)
-                ends = [item for item in frames[first:last + 1] if low <= item <= high]
+                PacketRun(at, 1, pts[at], 0, does.strip("xy-"), "")
+                for at, (_, does) in enumerate(sent)], changes=[
+                    PageChange(pts[at] or 0, b"", at, text_of(at, does))
+                    for at, (_, does) in enumerate(sent) if does[-1:] in {"x", "y"}])
+            result = find_range(packets, 100, 200, 0, every, within)
+            found = "-".join(map(str, result.range or ()))
+            words = f"{result.read} PES packet{'s' * (result.read != 1)}"
+            frames = list(map(round, times))
+            first, last = map(int, row["range"].split("-")) if row["range"] else (len(sent), -1)
+            with self.subTest(f"{row['sent']}: {row['where it begins or ends']}"):
+                self.assertEqual((found, " ".join(["end"] * result.has_end + ["over"] * (
+                    result.is_over)), f"{result.read}"), (row["range"], row["found"], row["read"]))
                 self.assertEqual((result.first_packet_frame, result.first, result.last), (
-                    came[0] if came else None, taken[0] if taken else None,
-                    ends[-1] if ends else None))
-                words = f"{read} PES packet{'s' * (read != 1)}"
+                    next((frame for frame in frames if low <= frame <= high), None),
+                    next((frame for frame in frames[first:] if frame >= 0), None),
+                    next((frame for frame in frames[first:last + 1][::-1]
+                          if low <= frame <= high), None)))
                 self.assertTrue(result.describe().startswith(
-                    f"none of {words} at the time of the subtitles contains" if expected is None
-                                else f"{expected[1] - expected[0] + 1} of {words}, from 00:00:0"))
+                    f"{last - first + 1} of {words}, from 00:00:0" if row["range"] else
+                    f"none of {words} at the time of the subtitles contains"))
+
+    def test_finds_the_range_of_a_programme(self) -> None:
+        self.check_ranges(RANGES)
+        self.check_ranges(RANGES_WITH_REPEATS, 25)
+        self.check_ranges(RANGES_OF_LATE_PAGES, 25, 2)
+
+    def test_finds_the_range_of_a_part(self) -> None:
         packets = Packets(257,
                           [PacketRun(at, 1, TICKS * frame, 0, does, "") for at, (frame, does) in
                            enumerate(((75, "he"), (100, "he"), (200, "heb")))],
