@@ -1,8 +1,8 @@
 """Store the output of chosen runs of qc as text, and compare later output with it.
 
 dev/snapshots/named.txt has the arguments, status and printed lines of each run in `named_calls`,
-and the lines of its output files that were not printed. reports.txt has the text of reports of the
-random pairs in `test_report_random`. `dev/check-tools --update test_snapshots` writes the files
+and the lines of its output files that were not printed. reports.txt has the text of the reports in
+`test_report_stories`. `dev/check-tools --update test_snapshots` writes the files
 again, and `git diff` then shows how a change affects the user.
 """
 from __future__ import annotations
@@ -13,17 +13,17 @@ import html
 import json
 import os
 import re
-import tempfile
 from typing import Any, Callable, Iterable, Iterator
 
 from subtitles.common.program import TOP
-from . import named_calls, test_report_random as reports
+from . import named_calls
 from .bench import BENCH
 from .failures import MAX_LINES_PRINTED
+from .test_report_stories import make_report
 
 FOLDER = os.path.join(TOP, "dev", "snapshots")
 HEAD, TAIL = 16, 4  # number of lines stored from the start and end of a long list
-REPORT_LINES = 60  # number of lines stored from the start of a report
+REPORT_LINES = 42  # number of lines stored from the start of a report
 WIDTH = 300  # maximum number of characters stored from a line
 OMITTED = re.compile(r"date$|seconds$|^files_at_start\.|^inputs\.|^commands\b|^omitted\.|^format$")
 
@@ -95,20 +95,19 @@ def format_call_output(output: named_calls.CallOutput) -> list[str]:
     return lines
 
 
-def report_text(number: int) -> list[str]:
-    """Return the lines stored for a random pair: its verdict and the text of its report."""
-    with tempfile.TemporaryDirectory() as folder:
-        result, page = reports.make_report_of_pair(number, folder)
+def report_text(name: str) -> list[str]:
+    """Return the lines stored for a report: the verdict, and the text of the report."""
+    judged, page, folder = make_report(name)
     page = named_calls.replace_volatile_text(page, BENCH.program).replace(folder, "FOLDER")
-    return [result.verdict.word, *page_text(page)]
+    return [judged.verdict.word, *page_text(page)]
 
 
 def run_for_snapshot(name: str) -> list[str]:
-    """Return the lines to store for a run of qc such as `named a list` or `report 3`."""
+    """Return the lines to store for a run of qc such as `named a list` or `report late`."""
     kind, _, rest = name.partition(" ")
     if kind == "named":
         return format_call_output(named_calls.run_named_call(rest, BENCH.program))
-    return report_text(int(rest))
+    return report_text(rest)
 
 
 def get_snapshot_path(group: str) -> str:

@@ -300,8 +300,9 @@ class ClockTables(unittest.TestCase):
             result = find_range(packets, 100, 200, 0, every, within)
             found = "-".join(map(str, result.range or ()))
             words = f"{result.read} PES packet{'s' * (result.read != 1)}"
-            frames = list(map(round, times))
-            first, last = map(int, row["range"].split("-")) if row["range"] else (len(sent), -1)
+            frames = [round(frame) for frame in times]
+            first, last = [int(number) for number in row["range"].split("-")] if row["range"] \
+                else [len(sent), -1]
             with self.subTest(f"{row['sent']}: {row['where it begins or ends']}"):
                 self.assertEqual((found, " ".join(["end"] * result.has_end + ["over"] * (
                     result.is_over)), f"{result.read}"), (row["range"], row["found"], row["read"]))

@@ -1,0 +1,132 @@
+"""Check the markup of reports on chosen recordings, whose text is stored in dev/snapshots."""
+from __future__ import annotations
+
+import functools
+import re
+import xml.etree.ElementTree as tree
+from typing import Callable
+
+from developing.pes import make_pes_packet
+from subtitles.common.times import CLOCK, TICKS
+from subtitles.formats.stl import GSI, TTI
+from .judged import JudgedPair, judge_files
+from .stories import Story, StoryCase, first_tick, read_table
+from .transmissions import (
+    LASTS, ORIGIN, SentPes, make_numbered_row, schedule_pages, subtitle_times, write_programme)
+
+HTML = "{http://www.w3.org/1999/xhtml}"
+FOREIGN_MARKUP = re.compile(r"<script|<link|<img|<iframe|@import|\burl\(|\bsrc=|\bon\w+="
+                            r"|https?://(?!www\.w3\.org/1999/xhtml)")
+# `count` is the number of subtitles. `bytes` has changed bytes: of the GSI block (block 0), a TTI
+# block or a PES packet, their offset and their value.
+REPORTS = {story["name"]: story for story in read_table("""
+name              | count | sent                      | options     | bytes
+accepted          | 3     | as scheduled              | --within 1  |
+a valid file      | 3     | as scheduled              | --file-only |
+another page      | 3     | as scheduled              | --page 150  |
+a wrong GSI block | 3     | as scheduled              |             | block 0: 11=39
+a wrong TTI block | 8     | as scheduled              |             | block 2: 13=18
+two wrong blocks  | 8     | as scheduled              | --file-only | block 2: 3=F0; block 5: 13=18
+a wrong character | 8     | as scheduled              | --file-only | block 3: 20=E6
+late and early    | 10    | 1 late by 2, 8 early by 3 |             |
+late by 3, of 3   | 10    | 3 late by 3               | --within 3  |
+never sent        | 10    | 5 not sent, 6 not sent    |             |
+another's text    | 10    | 4 with the text of 7      |             |
+late for long     | 60    | 1-50 late by 30           |             |
+in three parts    | 24    | break +1000 before 9, break +2000 before 17, 10 late by 3 | --breaks 2 |
+in another row    | 10    | 6 in row 24               |             |
+a wrong letter    | 10    | 6 with a wrong letter     |             |
+an even byte      | 10    | 6 with an even byte       |             |
+not erased        | 10    | 6 not erased              |             |
+erased too early  | 10    | 6 erased after a second   |             |
+in a pause        | 10    | another page in a pause   |             |
+PTS off frames    | 10    | 5 a tick late             |             |
+PTS that go back  | 10    | break -250 before 8       |             |
+unreadable        | 10    | as scheduled              |             | pes 9: 7=05; pes 10: 45=05
+not repeated      | 10    | 3 not repeated            | --every 25  |
+begins late       | 10    | from subtitle 3 on        |             |
+""")}
+BYTES = re.compile(r"(block|pes) (\d+): (\d+)=([0-9A-F]{2})")
+
+
+def is_of(pts: int, number: int) -> bool:
+    """Return whether a page transmission shows the subtitle with this number."""
+    return 0 <= pts - first_tick(f"{number}") < LASTS * TICKS
+
+
+def change_second_packet(sent: SentPes, change: Callable[[bytes], bytes]) -> SentPes:
+    """Change the first row of subtitle 6."""
+    return [(pts, [some[0], change(some[1]), *some[2:]] if is_of(pts, 6) else some)
+            for pts, some in sent]
+
+
+class Reports(StoryCase):
+    text, lines = b"\3No! <&> %d", 2
+    ways = {
+        "6 in row 24": lambda sent: change_second_packet(
+            sent, lambda row: make_numbered_row(24, b"\x0dElsewhere.")),
+        "6 with a wrong letter": lambda sent: change_second_packet(
+            sent, lambda row: row[:20] + bytes([row[20] ^ 3]) + row[21:]),
+        "6 with an even byte": lambda sent: change_second_packet(
+            sent, lambda row: row[:20] + bytes([row[20] ^ 0x80]) + row[21:]),
+        "6 not erased": lambda sent: [item for item in sent if not (
+            is_of(item[0] - LASTS * TICKS, 6))],
+        "6 erased after a second": lambda sent: [
+            (pts, sent[-1][1] if is_of(pts - 25 * TICKS, 6) else some) for pts, some in sent],
+        "another page in a pause": lambda sent: sorted([*sent, *(
+            (pts + 75 * TICKS, [some[0], make_numbered_row(20, b"Elsewhere"), some[-1]])
+            for pts, some in sent if pts == first_tick("2"))]),
+        "5 a tick late": lambda sent: [(pts + (pts == first_tick("5")), some)
+                                       for pts, some in sent],
+        "from subtitle 3 on": lambda sent: [item for item in sent if item[0] > first_tick("3")]}
+
+    def report(self, story: Story) -> tuple[JudgedPair, str]:
+        """Judge a recording. Return the judged pair and its report."""
+        self.stl = write_programme(self, subtitle_times(int(story["count"])), self.lines, self.text)
+        self.sent = schedule_pages(self, self.stl, origin=ORIGIN)
+        stl = bytearray(self.read("one.stl"))
+        pes = [bytearray(make_pes_packet(pts % CLOCK, some))
+               for pts, some in self.change(story["sent"])]
+        for kind, block, offset, value in BYTES.findall(story["bytes"]):
+            data, begin = (pes[int(block)], 0) if kind == "pes" else (
+                stl, GSI + TTI * (int(block) - 1) if int(block) else 0)
+            data[begin + int(offset)] = int(value, 16)
+        words = [] if "--file-only" in story["options"] else [
+            self.write("one.pes", b"".join(pes)), "--origin", f"{ORIGIN}"]
+        result = judge_files(self, self.write("one.stl", stl), *words, *story["options"].split(),
+                             "-o", self.path("out"))
+        return result, self.read("out/one.html").decode()
+
+    def check_page(self, page: str) -> None:
+        """Check that a report is accessible XML without scripts and external resources."""
+        items = list(tree.fromstring(page).iter())
+        self.assertIsNone(FOREIGN_MARKUP.search(page))
+        names = [item.get("id") for item in items if item.get("id")]
+        self.assertEqual(len(names), len(set(names)))
+        links = [item for item in items if item.tag == f"{HTML}a"]
+        self.assertLessEqual({item.get("href") for item in links}, {f"#{name}" for name in names})
+        for item in items:
+            if item.tag == f"{HTML}th":
+                self.assertIn(item.get("scope"), ("col", "row"))
+            elif item.tag == f"{HTML}svg":
+                self.assertEqual(item.get("aria-hidden"), "true")
+            elif item.tag == f"{HTML}a":
+                self.assertTrue("".join(item.itertext()).strip())
+
+    def test_reports_are_accessible_and_load_nothing(self) -> None:
+        for name, story in REPORTS.items():
+            with self.subTest(name):
+                self.check_page(self.report(story)[1])
+
+
+@functools.lru_cache(maxsize=None)
+def make_case() -> Reports:
+    result = Reports("test_reports_are_accessible_and_load_nothing")
+    result.folder = result.bench.make_folder("reports")
+    return result
+
+
+def make_report(name: str) -> tuple[JudgedPair, str, str]:
+    """Return a judged pair of `REPORTS`, its report, and the folder of its files."""
+    case = make_case()
+    return (*case.report(REPORTS[name]), case.folder)
