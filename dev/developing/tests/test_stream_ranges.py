@@ -1,6 +1,7 @@
 """Test --from and --to, files written for printed commands, and PTS that go back."""
 from __future__ import annotations
 
+import itertools
 import os
 
 from developing.stl import make_gsi_block, make_subtitle_blocks, make_tti_block
@@ -282,13 +283,14 @@ class StepsBack(Case):
             "from its last frame": ([(39, 1, 0), (20, 1, 0)], (1, 39, 19 * TICKS)),
             "after the programme": ([(40, 1, 0), (20, 1, 0)], None),
             "past the largest PTS": ([(CLOCK // TICKS + 1, 1, 0), (2, 1, 0)], None)}
-        for name, (runs, expected) in rows.items():
+        for origin, (name, (runs, expected)) in itertools.product((0, CLOCK - 12 * TICKS),
+                                                                  rows.items()):
             packets, number = Packets(PES), 0
             for frame, length, step in runs:
-                packets.runs.append(PacketRun(number, length, TICKS * frame % CLOCK, TICKS * step,
-                                              "", ""))
+                packets.runs.append(PacketRun(number, length, (origin + TICKS * frame) % CLOCK,
+                                              TICKS * step, "", ""))
                 number += length
-            self.check(name, find_step_back(packets, 10, 40, 0), expected)
+            self.check(f"{name}, {origin}", find_step_back(packets, 10, 40, origin), expected)
 
     def test_the_sentence_names_it_first(self) -> None:
         stl = write_programme(self, subtitle_times(9))
