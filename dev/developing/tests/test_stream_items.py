@@ -1,7 +1,6 @@
 """Test which items of a layout are proposed from the transmitted subtitles."""
 from __future__ import annotations
 
-import random
 from typing import NamedTuple, Sequence
 
 from subtitles.formats.layout import (
@@ -11,7 +10,6 @@ from subtitles.stream.layout import (
     Evidence, ItemEvidence, LayoutChoice, MAX_ITEMS, SentSubtitle, add_items, choose_layouts,
     draws_as_sent, find_questionable_items, is_found, list_items, match_lines, remove_items)
 from .bench import Case
-from .test_stream_layouts import BROADCASTER_LAYOUTS, programme
 
 
 SHORT_TEXTS = [b"cat", b"dog", b"the sun", b"and then", b"who knows", b"yes"]
@@ -259,18 +257,3 @@ class ProposedItems(Case):
         sent = draw_sent_subtitles([SentText(codes + b"Hi", b"Hi")] * 10)
         taken, missing = Evidence(sent, ENGLISH).remove_unsupported(layout)
         self.must("few", len(list_items(taken)) <= MAX_ITEMS and len(missing) >= 4, taken)
-
-    def test_finds_each_layout_despite_exceptions(self) -> None:
-        for number, (has_codes, leaves_room, text) in enumerate(BROADCASTER_LAYOUTS):
-            some = random.Random(number)
-            sent = programme(some, has_codes, leaves_room, read_intended_layout(text), 100)
-            count = (1, 5, 20)[number % 3]
-            for at in some.sample(range(len(sent)), count):
-                rows = sent[at].rows
-                sent[at] = sent[at]._replace(rows=rows[at % 3 + 1:] + rows[:at % 3 + 1])
-            closest, choice = choose_layouts(sent, ENGLISH)
-            is_few = count * 10 <= len(sent)
-            result = choice if is_few else closest
-            self.must(f"{text}, {count}", result.as_sent == len(sent) - count and
-                      choice.is_clear == is_few and (is_few or choice == closest),
-                      (closest, choice))

@@ -2,7 +2,6 @@
 from __future__ import annotations
 
 import os
-import random
 from typing import Iterable
 
 from developing.pes import decode_address
@@ -60,7 +59,7 @@ DRAWN = [
     ("Hi 8A 8A Ho", 20, 2, "pack,before=0D0B0B", "55 at 2"),
     ("0D Hi 8A 8A Ho", 20, 2, "", "20 16 0B0B0D4869 0A0A 22 17 0B0B486F 0A0A"),
     ("03 06 07", 22, 2, "text,before=,after=", "22 17 03 0607"), ("E6", 22, 2, "", "50 at 0")]
-WORDS = "the cat sat on a mat and then it went to see what was there Hi Ho no yes".split()
+TEXTS = [b"the cat", b"on a mat, and then it went to see", b"what was there", b"Hi Ho", b"yes"]
 # For each inserter: whether the subtitle file has control codes, whether the file has an empty line
 # below text in double height, and the layout.
 BROADCASTER_LAYOUTS = [
@@ -86,26 +85,22 @@ def draw_with_program(text: bytes, row: int, justify: int, layout: Layout) -> st
                     f"{item.cells[-2:].hex().upper()}" for item in result)
 
 
-def line(chance: random.Random, has_codes: bool) -> bytes:
-    text = " ".join(chance.choice(WORDS) for _ in range(chance.randrange(1, 5)))[:30].encode()
-    colour = chance.choice([b"", b"", b"\3", b"\6"])
-    return b"\x0d" + colour + b"\x0b\x0b" + text + b"\x0a\x0a" if has_codes else colour + text
-
-
-def programme(chance: random.Random, has_codes: bool, leaves_room: bool, layout: Layout,
-              count: int = 120) -> list[SentSubtitle]:
-    """Return random subtitles and their texts as transmitted in a layout.
+def programme(has_codes: bool, leaves_room: bool, layout: Layout, count: int = 120
+              ) -> list[SentSubtitle]:
+    """Return subtitles of one or two lines, and their texts as transmitted in a layout.
 
     `has_codes` adds control codes to the lines. `leaves_room` puts an empty line between two lines.
     """
-    sent: list[SentSubtitle] = []
-    while len(sent) < count:
-        between = b"\x8a\x8a" if leaves_room else b"\x8a"
-        text = between.join(line(chance, has_codes) for _ in range(chance.choice([1, 2, 2])))
-        row, justify = chance.choice([16, 18, 20]), chance.choice([2, 2, 2, 1, 3, 0])
-        lines = draw_text(text, row, justify, layout, ENGLISH)
-        if not isinstance(lines, TextFault):
-            sent.append(SentSubtitle(text, row, justify, make_page_rows(lines)))
+    sent = list[SentSubtitle]()
+    for number in range(count):
+        colour, begin, end = (b"", b"\3", b"", b"\6")[number % 4], b"", b""
+        if has_codes:
+            colour, begin, end = b"\x0d" + colour, b"\x0b\x0b", b"\x0a\x0a"
+        lines = [colour + begin + TEXTS[number * by % 5] + end for by in (1, 2)[:1 + number % 3]]
+        text, justify = (b"\x8a\x8a" if leaves_room else b"\x8a").join(lines), number // 3 % 4
+        drawn = draw_text(text, row := 16 + number // 2 % 3 * 2, justify, layout, ENGLISH)
+        assert not isinstance(drawn, TextFault), (text, row, layout)
+        sent.append(SentSubtitle(text, row, justify, make_page_rows(drawn)))
     return sent
 
 
@@ -138,18 +133,16 @@ class Layouts(Case):
 
 class LayoutSearch(Case):
     def test_finds_each_layout(self) -> None:
-        some = random.Random(7)
         for has_codes, leaves_room, text in BROADCASTER_LAYOUTS:
             layout = parse_layout(text) if text else PLAIN
             assert layout is not None, text
-            sent = programme(some, has_codes, leaves_room, layout)
+            sent = programme(has_codes, leaves_room, layout)
             result = choose_layouts(sent, ENGLISH)[1]
             self.must(text, result.as_sent == result.total == len(sent) and result.is_clear
                       and compute_complexity(result.layout) <= compute_complexity(layout), result)
 
     def test_a_wrong_page_shows_no_layout(self) -> None:
-        some = random.Random(8)
-        sent = programme(some, False, False, Layout(text=True))
+        sent = programme(False, False, Layout(text=True))
         wrong = sent[20]._replace(rows=tuple(row.replace(b"e", b"c") for row in sent[20].rows))
         moved = sent[30]._replace(rows=tuple(row[-3:] + row[:-3] for row in sent[30].rows))
         sent[20:21], sent[30:31] = [wrong], [moved]
@@ -161,23 +154,21 @@ class LayoutSearch(Case):
     def test_finds_columns_although_one_subtitle_differs(self) -> None:
         house, other = parse_layout("left=3,text"), parse_layout("left=3,text,after=0A")
         assert house is not None and other is not None
-        sent, otherwise = (programme(random.Random(10), False, False, item)
-                           for item in (house, other))
+        sent, otherwise = (programme(False, False, item) for item in (house, other))
         for place in (0, len(sent) - 1):
             mixed = [*sent[:place], otherwise[place], *sent[place + 1:]]
             result = choose_layouts(mixed, ENGLISH)[1]
             self.must(f"{place}", result[:3] == (house, len(sent) - 1, len(sent)), result)
 
     def test_finds_no_layout_without_evidence(self) -> None:
-        some = random.Random(9)
-        sent = programme(some, False, False, PLAIN)
+        sent = programme(False, False, PLAIN)
         others = [item._replace(rows=other.rows) for item, other in zip(sent, sent[1:])]
         self.must("another programme", not choose_layouts(others, ENGLISH)[1].is_clear)
         self.must("nine", not choose_layouts(sent[:9], ENGLISH)[1].is_clear)
         self.must("ten", choose_layouts(sent[:10], ENGLISH)[1] == LayoutChoice(PLAIN, 10, 10))
         self.must("none", choose_layouts([], ENGLISH)[1] == LayoutChoice(PLAIN, 0, 0))
-        turns = [item for pair in zip(programme(some, False, False, PLAIN, 60),
-                                      programme(some, False, False, Layout(row=-1), 60))
+        turns = [item for pair in zip(programme(False, False, PLAIN, 60),
+                                      programme(False, False, Layout(row=-1), 60))
                  for item in pair]
         result = choose_layouts(turns, ENGLISH)[0]
         self.must("in turns", not result.is_clear and result.total == 120
