@@ -5,6 +5,7 @@ Times are seconds after `DAY`. A segment has one byte for each second of the fee
 from __future__ import annotations
 
 import argparse
+import datetime
 import json
 import os
 from typing import Any, Callable, NamedTuple, Sequence
@@ -60,6 +61,15 @@ class FakeChecker:
 
     def clear(self) -> None:
         """Do nothing, since a fake checker has no work folder."""
+
+
+def make_tdt(seconds: float) -> bytes:
+    """Return a TS packet with a TDT, `seconds` after `DAY`, and some null packets."""
+    date = datetime.datetime.fromtimestamp(DAY + seconds, datetime.timezone.utc)
+    day = int(DAY + seconds) // 86_400 + 40_587  # modified Julian date
+    table = b"\x70\x70\x05" + day.to_bytes(2, "big") + bytes.fromhex(f"{date:%H%M%S}")
+    return (b"\x47\x40\x14\x10\0" + table).ljust(188, b"\xff") + 99 * (
+        b"\x47\x1f\xff\x10".ljust(188, b"\xff"))
 
 
 def outcome(name: str, verdict: str, reason: str) -> Outcome:
@@ -119,6 +129,11 @@ class AirCase(Case):
             file.write(data or b"." * max(int(end - begin), 1))
         os.utime(path, (DAY + end, DAY + end))
         return path
+
+    def put_clock_jump(self, step: int, at: int = 0) -> None:
+        """Put a segment on each side of a jump of the clock by `step` seconds."""
+        self.put_segment(at - 10, at, make_tdt(at - 10))
+        self.put_segment(at, at + 10, make_tdt(at - step), is_new=True)
 
     def put_segments(self, begin: int, end: int, missing: Sequence[tuple[int, int]] = ()) -> None:
         for at in range(begin, end, LENGTH):

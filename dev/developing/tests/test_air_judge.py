@@ -319,6 +319,28 @@ class JudgedProgrammes(AirCase):
         judge.look(DAY + 680)
         self.check("right", self.verdicts(), {NAME: "relative"})
 
+    def test_judges_no_programme_if_the_clock_jumped_since_its_margin(self) -> None:
+        never_sent, file_refused = (outcome(NAME, "refused", "refused 72") for _ in range(2))
+        assert file_refused.result
+        file_refused.result["inputs"]["recording"] = None
+        right = outcome(NAME, "relative", "relative 1500 frames")
+        doubt = "the clock jumped by -120 s from the TDT at 2026-12-01T08:"
+        rows: dict[str, tuple[Outcome, int, str]] = {
+            "before the margin": (never_sent, 530, "refused 72"),
+            "as it begins": (never_sent, 540, f"{doubt}09:00Z: refused 72"),
+            "later": (never_sent, 1000, f"{doubt}16:40Z: refused 72"),
+            "later, and it seems right": (right, 1000, f"{doubt}16:40Z: relative 1500 frames"),
+            "later, and the file is refused": (file_refused, 1000, "refused 72")}
+        for name, (result, at, reason) in rows.items():
+            self.delete_all("segments", "out")
+            self.put_segments(min(at + 10, 550), 900)
+            self.put_clock_jump(-120, at)
+            checker = FakeChecker({})
+            checker.check = lambda *_: result  # type: ignore
+            self.run_judge(checker, 1500)
+            self.check(name, (self.verdicts()[NAME], self.result(NAME)["reason"]),
+                       ("not judged" if doubt in reason else result.verdict, reason))
+
     def test_gives_up_a_programme_that_waits_for_too_long(self) -> None:
         window = Window(BEGIN, BEGIN + 60, 60, MARGIN_SECONDS, MARGIN_SECONDS)
         for name, (spans, deleted, clock, expected) in GIVEN_UP_CASES.items():
@@ -597,6 +619,13 @@ class State(AirCase):
             monitor = Monitor()
             monitor.look(self.path("segments"), self.path("out"), DAY + 60, "/bin/true", [], DAY)
             self.check(name, (monitor.is_clock_wrong, monitor.last_byte - DAY), expected)
+
+    def test_raises_the_alarm_for_an_hour_after_the_clock_jumped(self) -> None:
+        self.put_clock_jump(-120)
+        for now, expected in ((20, True), (HOUR, True), (HOUR + 1, False)):
+            monitor = Monitor()
+            monitor.look(self.path("segments"), self.path("out"), DAY + now, "/bin/true", [], DAY)
+            self.check(f"{now}", monitor.is_clock_wrong, expected)
 
     def test_uses_long_segments_that_do_not_overlap(self) -> None:
         for name, (times, is_wrong, count) in LONG_SEGMENTS.items():

@@ -10,9 +10,10 @@ from unittest import mock
 from subtitles.air import recorder, segments
 from subtitles.air.recorder import Limits, Recorder
 from subtitles.air.segments import (
-    Segment, UnbrokenRun, find_segments, find_unbroken_runs, list_segment_names, make_segment_name,
-    parse_segment_begin)
-from .air import AirCase, DAY
+    Segment, UnbrokenRun, find_clock_jump, find_segments, find_unbroken_runs, list_segment_names,
+    make_segment_name, parse_segment_begin)
+from subtitles.cli.single import now
+from .air import AirCase, DAY, make_tdt
 from .streams import change_packet_size, multiplex_frames
 from .programmes import BEGIN, SECOND
 
@@ -57,12 +58,47 @@ JOINT_CASES = {
     "a frame is lost in a stall": (900, 917, "0-10 18-20", "0-10 18-20"),
     "a frame is lost in a stall near a PCR jump": (900, 917, "0-10 18-20", "0-10 18-20"),
     "a packet is lost on air": (900, 901, "0-10 10-20", "0-20"),
+    "a packet is lost on air, on the only PID": (900, 901, "0-10 10-20", "0-20"),
     "the first is cut in a packet": (880.3, 900.5, "0-10 10-20 20-30", "0-10 20-30"),
     "the first is cut between packets": (880, 900, "0-10 10-20", "10-20"),
     "more is cut, without a PCR": (880, 1150, "0-10 10-20", "10-20"),
     "it stalled, and no counters are in the tables": (900.5, 900.5, "0-10 18-20", "0-20"),
     "the second is cut, and starts later": (900.5, 930.3, "0-10 18-20", "0-10 18-20"),
     "the first is too short to tell": (3.5, 3.5, "0-10 18-20", "0-10 18-20"),
+}
+
+# Segments, each with begin, end, the time in its TDT, if any, and ! as above; and the expected jump
+# of the clock after 0 in seconds, with its time.
+JUMP_CASES = {
+    "none": ("0..10:0 10..20:10 !30..40:30", ""),
+    "no TDT": ("0..10 !10..20:130", ""),
+    "set back": ("0..10:0 !10..20:130", "-120 at 10"),
+    "set ahead": ("0..10:0 130..140:10", "+120 at 130"),
+    "set ahead and back": ("0..10:0 !20..30:20 130..140:10", "+120 at 20"),
+    "set back between earlier segments": ("0..10:0 10..20:10 !12..22:132 20..30:20 22..32:142 "
+                                          "32..42:152", "-120 at 22"),
+    "the recorder stalls, and catches up": ("0..10:0 50..60:15 60..70:60", ""),
+    "set back and ahead": ("0..10:0 !10..20:130 140..150:140", "+120 at 140"),
+    "set back by 30 seconds": ("0..10:0 !10..20:40", ""),
+    "set back by 31 seconds": ("0..10:0 !10..20:41", "-31 at 10"),
+    "the TDT differs by an hour": ("0..10:3600 !130..140:3730", ""),
+    "the TDT jumps": ("0..10:0 10..20:130", ""),
+    "the TDT jumps in a pause of 5 seconds": ("0..10:0 15..25:130", ""),
+    "in a longer pause": ("0..10:0 16..26:136", ""),
+    "in a longer pause, after which the recorder started": ("0..10:0 !16..26:136", "-120 at 16"),
+    "the clock is set ahead in a pause": ("0..10:0 150..160:30", "+120 at 150"),
+    "the TDT jumps where segments overlap by a second": ("0..10:0 9..19:130", ""),
+    "where they overlap more": ("0..10:0 8..18:128", "-120 at 8"),
+    "the TDT jumps back": ("0..10:600 !20..30:0", ""),
+    "the TDT stands": ("0..10:0 !100..110:0", ""),
+    "the TDT is a day ahead": ("0..10:0 !10..20:86410", ""),
+    "the TDT is almost a day ahead": ("0..10:0 !10..20:86409", "-86399 at 10"),
+    "no TDT for two segments": ("0..10:0 10..20 !20..30 30..40:150", "-120 at 20"),
+    "no TDT for eight segments": (
+        "0..10:0 " + " ".join(f"{at}..{at + 10}" for at in range(10, 90, 10)) + " !90..99:210", ""),
+    "before the given time": ("-20..-10:-20 !-10..0:110 0..10:120", ""),
+    "at the given time": ("-10..0:-10 !0..10:120", "-120 at 0"),
+    "set ahead by more than what is given": ("-10..0:-10 5000..5010:0", "+5000 at 5000"),
 }
 
 # Times in seconds, and the expected offsets in a segment of 100 bytes that lasts from 10 to 20
@@ -98,7 +134,8 @@ class Segments(AirCase):
         feeds = {"PCR": b"".join(packet for packet in packets if packet[3] & 0x10),
                  "tables": b"".join(
             packet[:3] + b"\x10" + packet[4:] if packet[1] in (0x40, 0x41) else packet
-            for packet in packets), "jump": feed[:700 * 188] + later[700 * 188:]}
+            for packet in packets), "jump": feed[:700 * 188] + later[700 * 188:],
+            "PID": b"".join(packet for packet in packets if packet[1] not in (0x40, 0x41))}
         for name, (end, begin, text, expected) in JOINT_CASES.items():
             for size in (188, 192, 204):
                 data = change_packet_size(feeds.get(name.split()[-1], feed), size)
@@ -118,6 +155,18 @@ class Segments(AirCase):
             self.put_segment(begin, end, b"".join(data[number:number + 1]), word[0] == "!")
         result = find_unbroken_runs(find_segments(self.path("segments"), 0, DAY + 99), pause)
         return " ".join(f"{item.begin - DAY:.0f}-{item.end - DAY:.0f}" for item in result)
+
+    def test_compares_the_clock_with_the_tdt(self) -> None:
+        for name, (text, expected) in JUMP_CASES.items():
+            self.delete_all("segments")
+            segments.read_feed_times.cache_clear()
+            for word in text.split():
+                times, _, tdt = word.strip("!").partition(":")
+                begin, end = map(float, times.split(".."))
+                self.put_segment(begin, end, make_tdt(float(tdt)) if tdt else b"", word[0] == "!")
+            folder, (step, _, time) = self.path("segments"), expected.partition(" at ")
+            self.check(name, find_clock_jump(folder, list_segment_names(folder), DAY), time and
+                       f"the clock jumped by {step} s from the TDT at {now(DAY + float(time))}")
 
     def test_finds_the_segments_of_a_time_range(self) -> None:
         chance = random.Random(4)

@@ -448,6 +448,7 @@ class WrittenFiles(Case):
                 ("after an adaptation field", b"\x47\x40\x14\x31\x02\x00\xff\x00" + table,
                  b"000101"),
                 ("another table", b"\x47\x40\x14\x10\x00" + other, b"010203"),
+                ("no decimal digits", b"\x47\x40\x14\x10\x00" + table[:-1] + b"\x5a", b"010203"),
                 ("no payload", b"\x47\x40\x14\x20\x00" + table, b"010203"),
                 ("no section", b"\x47\x00\x14\x10\x00" + table, b"010203"),
                 ("a long pointer", b"\x47\x40\x14\x10\xfe" + table, b"010203"),

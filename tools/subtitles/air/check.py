@@ -4,6 +4,7 @@ from __future__ import annotations
 
 import contextlib
 import dataclasses
+import functools
 import itertools
 import os
 import shutil
@@ -72,54 +73,39 @@ class Outcome(NamedTuple):
             self.verdict == REFUSED and self.is_finished and not self.is_file_refused)
 
 
-class BeginCheck(NamedTuple):
-    """A check that a programme began at most `early` seconds before its air time, and less than
-    `late` seconds after it. The recording begins at `first`. `count_packets` returns the number of
-    PES packets of a PID that were recorded before a given time."""
-
-    air_time: float
-    early: float
-    late: float
-    first: float
-    count_packets: Callable[[int, float], int]
-
-    def examine(self, verdict: Verdict) -> None:
-        """Add a note to the verdict if the programme began within the margins of its air time.
-        Raise `Unclear` if it began later, or if the pair is refused and the recording may lack the
-        beginning of the programme."""
-        part = verdict.parts[0] if verdict.parts and verdict.word != NOT_JUDGED else None
-        # The subtitle file itself is refused if there is no alignment.
-        if part is None or part.alignment is None or part.pes is None:
-            return
-        date = single.now(self.air_time)
-        words = f"{self.late:g} s of {date}" if self.early == self.late else \
-            f"{self.early:g} s before and {self.late:g} s after {date}"
-        pid, _ = part.stream or (0, 0)
-        missing_seconds = count_seconds_before_first(part)
-        if verdict.word not in CORRECT_VERDICTS and missing_seconds > 0 and \
-                self.count_packets(pid, self.first + missing_seconds + MAX_PMT_SECONDS):
-            raise Unclear("the first subtitle was expected before the first recorded PES packet of "
-                          f"the page: the programme did not begin within {words}, or its beginning "
-                          "was not recorded")
-        if begin_number(part) >= self.count_packets(pid, self.air_time + self.late):
-            raise Unclear(f"the programme did not begin within {words}, but later")
-        verdict.notes.append(f"begun within {words}")
+def examine_begin(programme: Programme, first: float, count_packets: Callable[[int, float], int],
+                  verdict: Verdict) -> None:
+    """Add a note to the verdict if the programme began at most `early` seconds before its air time,
+    and less than `late` seconds after it. Raise `Unclear` if it began later, or if the pair is
+    refused and the recording, which begins at `first`, may lack the beginning of the programme.
+    `count_packets` returns the number of PES packets of a PID that were recorded before a time."""
+    part = verdict.parts[0] if verdict.parts and verdict.word != NOT_JUDGED else None
+    # The subtitle file itself is refused if there is no alignment.
+    if part is None or part.alignment is None or part.pes is None:
+        return
+    begin, early, late = programme.begin, programme.early, programme.late
+    words = f"{late:g} s of {single.now(begin)}" if early == late else \
+        f"{early:g} s before and {late:g} s after {single.now(begin)}"
+    pid, _ = part.stream or (0, 0)
+    begin_number, missing_seconds = locate_begin(part)
+    if verdict.word not in CORRECT_VERDICTS and missing_seconds > 0 and \
+            count_packets(pid, first + missing_seconds + MAX_PMT_SECONDS):
+        raise Unclear("the first subtitle was expected before the first recorded PES packet of the "
+                      f"page: the programme did not begin within {words}, or its beginning was not "
+                      "recorded")
+    if begin_number >= count_packets(pid, begin + late):
+        raise Unclear(f"the programme did not begin within {words}, but later")
+    verdict.notes.append(f"begun within {words}")
 
 
-def begin_number(part: Part) -> int:
-    """Return the number of the PES packet at which the first subtitle is expected."""
-    _, alignment = part.judged_recording
-    begin, (first, _) = pts_of(alignment.begin, alignment.origin), part.pes or (0, 0)
-    earlier = itertools.takewhile(lambda pts: subtract_pts(begin, pts) < 0, part.list_pts())
-    return first + sum(1 for _ in earlier)
-
-
-def count_seconds_before_first(part: Part) -> float:
-    """Return the number of seconds from the first TCI to the first PES packet of the page."""
+def locate_begin(part: Part) -> tuple[int, float]:
+    """Return the number of the PES packet at which the first subtitle is expected, and the number
+    of seconds from there to the first PES packet of the page."""
     recording, alignment = part.judged_recording
-    begin = pts_of(alignment.begin, alignment.origin)
+    begin, (number, _) = pts_of(alignment.begin, alignment.origin), part.pes or (0, 0)
+    earlier = itertools.takewhile(lambda pts: subtract_pts(begin, pts) < 0, part.list_pts())
     first = next(recording.packets.pts(alignment.packets), begin)
-    return subtract_pts(begin, first) / PTS_SECOND
+    return number + sum(1 for _ in earlier), subtract_pts(begin, first) / PTS_SECOND
 
 
 def exit_status(verdict: Verdict) -> int:
@@ -181,26 +167,24 @@ class Checker:
 
     def judge(self, programme: Programme, stretch: UnbrokenRun, last: float) -> int:
         """Judge a programme in the current process. Return the exit status."""
-        air_time, request = programme.begin, programme.request
-        recording, first = os.path.join(self.work, RECORDING), air_time - programme.early
+        recording, first = os.path.join(self.work, RECORDING), programme.begin - programme.early
 
         def count_packets(pid: int, end: float) -> int:
             head = os.path.join(self.work, HEAD_FILE)
             with open(head, "wb") as file:
                 file.writelines(stretch.read(first, end))
             program = CommandPaths(self.program_name, self.program).program_path
-            found = survey(program, head, request.page)
+            found = survey(program, head, programme.request.page)
             return found.by_pid[pid].count if pid in found.by_pid else 0
 
-        begin = BeginCheck(air_time, programme.early, programme.late, max(first, stretch.begin),
-                           count_packets)
-        call = single.PairOptions(self.program, out=self.out, staging_folder=self.work,
-                                  name=programme.name, is_claimed=True, is_kept=self.is_kept,
-                                  examine=begin.examine)
+        call = single.PairOptions(
+            self.program, out=self.out, staging_folder=self.work, name=programme.name,
+            is_claimed=True, is_kept=self.is_kept, examine=functools.partial(
+                examine_begin, programme, max(first, stretch.begin), count_packets))
         try:
             with open(recording, "xb") as file:
                 file.writelines(stretch.read(first, last))
-            request = dataclasses.replace(request, recording=recording)
+            request = dataclasses.replace(programme.request, recording=recording)
             return exit_status(single.judge_and_report(request, call, self.program_name))
         except (OSError, MemoryError) as reason:  # for example if a segment was deleted
             print_stderr(format_error(reason))

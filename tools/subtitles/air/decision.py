@@ -12,12 +12,10 @@ from .check import Outcome
 from .segments import Segment, UnbrokenRun
 
 RECORDER_LAG = 10.0  # seconds to wait after the end of a programme, since the recorder may lag
-# seconds by which a recording may seem shorter than the programme that it contains
-LENGTH_TOLERANCE = 1.0
+LENGTH_TOLERANCE = 1.0  # seconds by which a recording may seem shorter than its programme
 MAX_GAPS = 3  # maximum number of gaps listed in a result
 HOUR = 3600.0
-# Seconds that must be recorded after a window before a programme is given up as not recorded. Until
-# then, a wrong clock may be the reason why the window seems to have passed.
+# Seconds that are recorded after a window if it has passed, and the clock is not only ahead
 MIN_RECORDED_LATER = HOUR
 MAX_WAIT = 48 * HOUR  # seconds after a window after which a programme is given up for any reason
 
@@ -100,9 +98,3 @@ def give_up(name: str, outcome: Outcome) -> Outcome:
 def count_seconds(segments: Sequence[Segment], begin: float) -> float:
     """Return the number of recorded seconds after a time."""
     return sum(max(segment.end - max(segment.begin, begin), 0.0) for segment in segments)
-
-
-def compute_retry_delay(window: Window, now: float) -> float:
-    """Return the seconds until the next attempt to judge a programme that may still be on air. Each
-    attempt doubles the time since the scheduled end, until the search window has passed."""
-    return min(max(now - window.end, RECORDER_LAG), max(window.last + RECORDER_LAG - now, 0.0))

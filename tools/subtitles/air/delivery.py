@@ -19,8 +19,7 @@ from ..recording.notices import TNB, read_count
 from ..request.commands import make_pair_name
 from ..request.request import Request, parse_range
 
-# maximum number of frames from the TCI of a subtitle to the TCO of the next one
-MAX_STEP = 6 * 3600 * FRAMES_A_SECOND
+MAX_STEP = 6 * 3600 * FRAMES_A_SECOND  # frames from a TCI to the TCO of the next subtitle
 
 
 class Content(NamedTuple):
@@ -58,11 +57,10 @@ def read_delivery(request: Request, now: float, settled: float) -> Delivery:
     if info.st_mtime > now - settled and time.monotonic() < find_first_look(stl, version) + settled:
         fault = f"{stl} was changed at {date(info.st_mtime)} and may still be incomplete"
     elif info.st_size < content.announced_size:
-        blocks = [(size - GSI) // TTI for size in (content.announced_size, info.st_size)]
-        fault = "the subtitle file is incomplete: it " + (
-            "ends in its GSI block" if blocks[1] < 0 else
-            f"announces {blocks[0]} blocks (TNB) and has {blocks[1]}"
-        ) + f"; copy it again, or create {marker}"
+        announced, found = ((size - GSI) // TTI for size in (content.announced_size, info.st_size))
+        state = "ends in its GSI block" if found < 0 else \
+            f"announces {announced} blocks (TNB) and has {found}"
+        fault = f"the subtitle file is incomplete: it {state}; copy it again, or create {marker}"
     with contextlib.suppress(OSError):
         fault = "" if os.stat(marker).st_mtime_ns >= info.st_mtime_ns else fault
     return Delivery(fault, content, version)

@@ -17,18 +17,18 @@ from ..cli.state import lock_service, log_bug, write_state
 from ..common.command_line import INPUT, Stop, format_error, print_stdout
 from ..common.files import TEMPORARY_PREFIX, open_result
 from ..request.commands import CommandPaths
-from ..results.files import ENDING, encode_result
+from ..results.files import ENDING, encode_result, make_unjudged
 from .check import Checker, Outcome
 from .decision import (
-    HOUR, MIN_RECORDED_LATER, RECORDER_LAG, Window, compute_retry_delay, count_seconds, decide,
-    describe_gaps, give_up, is_given_up)
+    HOUR, MIN_RECORDED_LATER, RECORDER_LAG, Window, count_seconds, decide, describe_gaps, give_up,
+    is_given_up)
 from .delivery import Delivery, read_delivery
 from .schedule import Programme, Schedule, read_schedule
-from .segments import find_deleted, find_segments, find_unbroken_runs
+from .segments import (
+    find_clock_jump, find_deleted, find_segments, find_unbroken_runs, list_segment_names)
 from .state import Monitor
 
-# minimum and maximum delay in seconds after a system error
-RETRY_SECONDS, MAX_RETRY_SECONDS = 2.0, 60.0
+RETRY_SECONDS, MAX_RETRY_SECONDS = 2.0, 60.0  # delays in seconds after system errors
 SHARE = 10  # failing programmes get at most a tenth of the judging time
 OTHER_FILE_SECONDS = 600.0  # seconds between attempts while another line's file is missing
 HOOK_SECONDS = 10  # time limit of the command of --on-result
@@ -63,31 +63,25 @@ class Judge:
         self.read_schedule(now)
         self.checker.report()
         if self.polls and now < self.polls[-1][1]:  # the clock was set back
-            for attempts in self.attempts.values():
-                attempts.next = 0.0
+            self.attempts.clear()
         self.polls.append((start_time, now))
         while len(self.polls) > 1 and self.polls[1][0] <= start_time - HOUR:
             del self.polls[0]
         return not self.monitor.is_clock_wrong and any(
             self.try_to_judge(item, now) for item in self.waiting())
 
-    def find_certain_time(self) -> float:
-        """Return the earliest time that the clock has shown for an hour of monotonic time."""
-        is_known = self.polls[0][0] <= self.polls[-1][0] - HOUR
-        return min(now for _, now in self.polls) if is_known else -math.inf
-
     def report(self, now: float) -> None:
         """Write the state file."""
-        waiting = self.waiting()
+        waiting = [(item, self.window(item, self.read_delivery(item, now)).last)
+                   for item in self.waiting()]
         self.monitor.waiting = len(waiting)
-        self.monitor.late = [item.name for item in waiting if self.is_late(item, now)]
-        self.monitor.pages_on_air = {
-            item.request.page for item in waiting if item.begin + item.late <= now
-            <= self.window(item, self.read_delivery(item, now)).last}
+        self.monitor.late = [item.name for item, last in waiting if now > last + self.args.margin]
+        self.monitor.pages_on_air = {item.request.page for item, last in waiting
+                                     if item.begin + item.late <= now <= last}
         self.monitor.look(self.segments, self.out, now, self.program,
                           {item.request.page for item in self.schedule.programmes},
                           min([now - 2 * self.args.margin,
-                               *(item.begin - item.early for item in waiting)]))
+                               *(item.begin - item.early for item, _ in waiting)]))
         write_state(self.out, self.monitor.make_contents())
 
     def read_schedule(self, now: float) -> None:
@@ -102,12 +96,6 @@ class Judge:
         """Return the programmes without a result, earliest first."""
         files = {*os.listdir(self.out)}
         return [item for item in self.schedule.programmes if item.name + ENDING not in files]
-
-    def is_late(self, programme: Programme, now: float) -> bool:
-        """Return whether the result of a programme is overdue."""
-        margin: float = self.args.margin
-        return now > programme.begin + 2 * margin and \
-            now > self.window(programme, self.read_delivery(programme, now)).last + margin
 
     def try_to_judge(self, programme: Programme, now: float) -> bool:
         """Judge a programme if it is over. Return whether an attempt was made."""
@@ -127,10 +115,10 @@ class Judge:
                 window = window._replace(more=window.length)  # breaks may delay the programme's end
                 outcome = self.judge(programme, window, delivery, now)
             if outcome is None:
-                attempts.next = now + compute_retry_delay(window, now)
+                # Each attempt doubles the time since the end, until the window has passed.
+                attempts.next = min(2 * now - window.end, max(window.last + RECORDER_LAG, now))
             else:
-                seconds = self.count_doubtful_seconds(outcome, window, is_limited)
-                self.conclude(programme, window, outcome, seconds, now, start_time)
+                self.conclude(programme, window, outcome, is_limited, now, start_time)
         except Exception as reason:  # other programmes must still be judged
             self.retry(programme, now, start_time, format_error(reason))
         return True
@@ -162,31 +150,32 @@ class Judge:
             early=min([programme.early, *(-time for time in times if time < 0)]),
             late=min([programme.late, *(time for time in times if time > 0)])), bool(missing)
 
-    def count_doubtful_seconds(self, outcome: Outcome, window: Window, is_limited: bool
-                               ) -> float | None:
-        """Return the seconds until the next attempt to judge a programme, or `None` after a system
-        error. Return 0 if the result is certain: neither a wrong clock nor margins that another
-        line's missing subtitle file limits (`is_limited`) can be the reason for it."""
-        if outcome.result is None:
-            return None
-        if is_limited and not (outcome.is_final or outcome.is_file_refused):
-            return OTHER_FILE_SECONDS
-        if outcome.is_recorded:
-            return 0.0
-        doubtful_seconds = MIN_RECORDED_LATER - count_seconds(
-            find_segments(self.segments, window.last, math.inf), window.last)
-        return max(doubtful_seconds, RECORDER_LAG) if doubtful_seconds > 0 else 0.0
-
-    def conclude(self, programme: Programme, window: Window, outcome: Outcome,
-                 seconds: float | None, now: float, start_time: float) -> None:
+    def conclude(self, programme: Programme, window: Window, outcome: Outcome, is_limited: bool,
+                 now: float, start_time: float) -> None:
         """Publish the result of a programme if it is certain or if the programme is given up.
-        Otherwise try again after `seconds`."""
+        Otherwise try again later. It is not certain if a wrong clock may be the reason for it, or
+        margins that another line's missing subtitle file limits (`is_limited`)."""
+        later = find_segments(self.segments, window.last, math.inf)
+        missing_seconds = MIN_RECORDED_LATER - count_seconds(later, window.last)
+        jump = find_clock_jump(self.segments, list_segment_names(self.segments), window.first)
+        if jump and outcome.result and not outcome.is_file_refused:
+            reason = f"{jump}: {outcome.reason}"
+            outcome = outcome._replace(result=make_unjudged(programme.name, reason, INPUT),
+                                       reason=reason)
+        seconds: float | None = None
+        if outcome.result and is_limited and not (outcome.is_final or outcome.is_file_refused):
+            seconds = OTHER_FILE_SECONDS
+        elif outcome.result:
+            seconds = 0.0 if outcome.is_recorded or missing_seconds <= 0 else max(
+                missing_seconds, RECORDER_LAG)
+        # The earliest time that the clock has shown for an hour
+        clock = -math.inf if self.polls[0][0] > self.polls[-1][0] - HOUR else min(
+            clock for _, clock in self.polls)
         if self.monitor.is_clock_wrong:  # it became wrong while the programme was judged
             self.retry(programme, now, start_time, "the clock differs from the segments", 0.0)
         elif seconds == 0:
             self.publish(programme.name, outcome)
-        elif is_given_up(window, find_segments(self.segments, window.last, math.inf),
-                         find_deleted(self.segments), self.find_certain_time()):
+        elif is_given_up(window, later, find_deleted(self.segments), clock):
             self.publish(programme.name, give_up(programme.name, outcome))
         else:
             self.retry(programme, now, start_time, outcome.reason, seconds)

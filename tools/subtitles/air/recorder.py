@@ -20,8 +20,7 @@ MAX_READ_BYTES = 1 << 18  # maximum number of bytes per read
 PIPE_SIZE = 1 << 20  # pipe buffer in bytes: 0.2 seconds at 40 Mbit/s
 # Seconds between writes to a full disk, and seconds after which unwritten bytes are dropped.
 WRITE_RETRY, WRITE_PATIENCE = 0.1, 5.0
-# Maximum number of segments deleted for each new segment, so that neither a wrong clock nor other
-# files on the disk delete the recording before an alarm is noticed.
+# Segments deleted for each new one: a wrong clock or other files must not delete all at once
 MAX_DELETED_SEGMENTS = 2
 MAX_STEP_BACK = 10.0  # seconds by which the names of segments may be ahead of the clock
 MAX_SILENCE = 5.0  # seconds without a byte after which a segment ends, so that `judge` sees them

@@ -3,6 +3,7 @@ at the time of its last write (mtime)."""
 from __future__ import annotations
 
 import bisect
+import collections
 import contextlib
 import datetime
 import errno
@@ -12,7 +13,10 @@ import os
 import re
 from typing import Iterable, Iterator, NamedTuple, Sequence
 
+from ..cli.single import now as date
+from ..common.command_line import PACKET_SIZES, Stop
 from ..common.times import subtract_pts
+from ..reading.dates import DAY, find_times
 
 # Names such as 20261129T201500.250Z.ts, news-20261129-201500.ts, feed_2026-11-29_20-15-00.ts.
 NAME = re.compile(r"(?:.*\D)?(\d{4})-?(\d\d)-?(\d\d)[T_-]?(\d\d)[-.:]?(\d\d)[-.:]?(\d\d)"
@@ -24,8 +28,11 @@ MAX_STALL = 60.0  # seconds for which a recorder may stall without losing data
 # A segment is not used if its last write was more than a minute before the time in its name, or so
 # long after it that the name may be in another time zone: it then overlaps the segments next to it.
 CLOCK_TOLERANCE, MAX_SEGMENT_SECONDS = 60.0, 900.0
-PACKET_SIZES, SYNC = (188, 192, 204), 0x47
-MIN_SYNC_PACKETS = 5  # number of sync bytes needed to find where TS packets begin
+# Seconds by which the clock must jump from the TDT, and segments in which to search for a TDT: it
+# comes every 30 seconds, and a recorder that stalled may need time to catch up
+MIN_JUMP, TDT_SEGMENTS = 30.0, 8
+MAX_PAUSE, MAX_OVERLAP = 5.0, 1.0  # seconds between two segments if the clock does not jump
+SYNC, MIN_SYNC_PACKETS = 0x47, 5  # number of sync bytes needed to find where TS packets begin
 TimedName = tuple[float, str]  # start time and name of a segment
 Sides = tuple[list[int], list[int]]  # counters or PCR, before and after a segment boundary
 
@@ -42,9 +49,8 @@ class Segment(NamedTuple):
 
     def find_offset(self, time: float) -> int:
         """Return the number of bytes written before a time, assuming a constant rate."""
-        if time <= self.begin or time >= self.end:
-            return 0 if time <= self.begin else self.size
-        return int(self.size * (time - self.begin) / (self.end - self.begin))
+        share = (time - self.begin) / max(self.end - self.begin, 1e-6)
+        return int(self.size * min(max(share, 0.0), 1.0))
 
 
 def make_segment_name(time: float, is_new: bool = False) -> str:
@@ -106,6 +112,39 @@ def compare_times(folder: str, names: Iterable[TimedName]) -> list[tuple[Segment
             for (segment, write), last_write, next_begin in zip(found, before, after)]
 
 
+def find_clock_jump(folder: str, names: Sequence[TimedName], begin: float) -> str:
+    """Describe the last jump of the clock after `begin`, if any. The clock may differ from the TDT,
+    but always by the same time. A clock that is set ahead makes a pause, and one that is set back a
+    new segment or an overlap. The TDT may also jump, and go back if a recording is sent again."""
+    jump, first = "", max(bisect.bisect_left(names, (begin, "")) - TDT_SEGMENTS, 0)
+    segments = [segment for segment, _, is_right in compare_times(folder, names[first:])
+                if is_right and segment.size]
+    for number, (before, after) in enumerate(zip(segments, segments[1:]), 1):
+        pause = after.begin - before.end
+        is_ahead, is_back = pause > MAX_PAUSE, after.is_new or pause < -MAX_OVERLAP
+        if not (is_ahead or is_back) or after.begin < begin:
+            continue
+        earlier, later = ([time for segment in part for time in read_feed_times(segment)] for part
+                          in (segments[:number][-TDT_SEGMENTS:], segments[number:][:TDT_SEGMENTS]))
+        if earlier and later:
+            seconds, clock_seconds = (new - old for new, old in zip(later[-1], earlier[-1]))
+            step = clock_seconds - seconds
+            if seconds > 0 and (step > MIN_JUMP and is_ahead or step < -MIN_JUMP and is_back):
+                jump = f"the clock jumped by {step:+.0f} s from the TDT at {date(after.begin)}"
+    return jump
+
+
+@functools.lru_cache(maxsize=1_000)
+def read_feed_times(segment: Segment) -> list[tuple[float, float]]:
+    """Return each time in the feed (TDT), and the time of the clock when it was recorded. Ignore
+    times that differ by a day, since they belong to an old recording that is sent."""
+    times, duration = list[tuple[float, float]](), segment.end - segment.begin
+    with contextlib.suppress(OSError, Stop):  # the segment was deleted
+        times = [(time, segment.begin + duration * place / segment.size)
+                 for place, time in find_times(segment.path)]
+    return [(time, clock) for time, clock in times if abs(time - clock) < DAY]
+
+
 class UnbrokenRun(NamedTuple):
     """A continuous part of the feed: segments with no missing data between them."""
 
@@ -121,8 +160,7 @@ class UnbrokenRun(NamedTuple):
 
     def size(self, begin: float, end: float) -> int:
         """Return the number of bytes between two times."""
-        return sum(max(segment.find_offset(end) - segment.find_offset(begin), 0)
-                   for segment in self.segments)
+        return sum(item.find_offset(end) - item.find_offset(begin) for item in self.segments)
 
     def read(self, begin: float, end: float) -> Iterator[bytes]:
         """Yield the bytes between two times. Skip the first byte if the data begins like a PES
@@ -161,23 +199,22 @@ def is_continued(before: Segment, after: Segment) -> bool | None:
     count = len(range(first, middle, size))
     if min(count, len(packets) - count) < MIN_SYNC_PACKETS:
         return None
-    counters, clocks = dict[int, Sides](), dict[int, Sides]()
+    counters, clocks = (collections.defaultdict[int, Sides](lambda: ([], [])) for _ in range(2))
     for number, packet in enumerate(packets):
         pid = int.from_bytes(packet[1:3], "big") & 0x1FFF
         if packet[3] & 0x10:  # only packets with payload are counted
-            counters.setdefault(pid, ([], []))[number >= count].append(packet[3] & 15)
+            counters[pid][number >= count].append(packet[3] & 15)
         if packet[3] & 0x20 and packet[4] > 6 and packet[5] & 0x10:
-            pcr = int.from_bytes(packet[6:11], "big") >> 7
-            clocks.setdefault(pid, ([], []))[number >= count].append(pcr)
+            clocks[pid][number >= count].append(int.from_bytes(packet[6:11], "big") >> 7)
     out = sum(packet[0] != SYNC for packet in packets[count:count + MIN_SYNC_PACKETS])
     lost = [(new[0] - old[-1]) % 16 != 1 for old, new in counters.values() if old and new and all(
         (after - before) % 16 == 1 for before, after in (
             *zip(old[-2:-1], old[-1:]), *zip(new, new[1:2])))]
     usual = [is_usual_step(*pcrs) for pcrs in clocks.values() if all(pcrs)
              and sum(map(len, pcrs)) > 2]
-    is_cut = 2 * out > MIN_SYNC_PACKETS or 2 * sum(lost) > len(lost) or not all(usual)
+    is_long = not all(usual) if usual else 2 * sum(lost) > len(lost)
     if out or any(lost):
-        return False if is_cut else None
+        return False if is_long or 2 * out > MIN_SYNC_PACKETS else None
     return True if lost and usual and all(usual) else None
 
 
@@ -192,9 +229,8 @@ def is_usual_step(before: Sequence[int], after: Sequence[int]) -> bool:
 def find_unbroken_runs(segments: Iterable[Segment], longest_pause: float) -> Iterator[UnbrokenRun]:
     """Divide segments into continuous parts of the feed. A part ends where TS packets are missing.
     It also ends where a segment's name or a pause of more than `longest_pause` seconds shows a gap,
-    unless the TS packets clearly continue. If they continue after a longer pause than a recorder
-    can stall, the clock was changed. If only the TS packets show the gap, the segment before the
-    gap is incomplete, and is omitted."""
+    unless the TS packets clearly continue and the pause is no longer than a recorder can stall. If
+    only the TS packets show the gap, the segment before the gap is incomplete, and is omitted."""
     stretch = list[Segment]()
     for segment in segments:
         is_continuation = is_continued(stretch[-1], segment) if stretch else None

@@ -9,7 +9,9 @@ from ..cli.state import State, format_date_or_none
 from ..common.command_line import Stop
 from ..formats.teletext import Page, page_name
 from ..stream.survey import survey
-from .segments import CLOCK_TOLERANCE, NEW, NOTE, TimedName, compare_times, list_segment_names
+from .decision import HOUR
+from .segments import (
+    CLOCK_TOLERANCE, NEW, NOTE, TimedName, compare_times, find_clock_jump, list_segment_names)
 
 SILENCE = 10.0  # seconds without data after which the alarm `silence` is active
 PAGE_SILENCE = 600.0  # seconds without a page header after which the alarm for the page is active
@@ -42,8 +44,7 @@ class Monitor(State):
         self.has_note = os.path.exists(os.path.join(segments, NOTE))
         self.is_deleted_early = self.oldest > needed and not names[0][1].endswith(NEW)
         past_names = [item for item in names if item[0] <= now + CLOCK_TOLERANCE]
-        self.look_at_clock(segments, sorted({*names[-NEWEST_SEGMENTS:],
-                                             *past_names[-NEWEST_SEGMENTS:]}))
+        self.look_at_clock(segments, names, past_names)
         headers = {page: min(self.headers.get(page, 0.0), now) for page in pages}
         is_new = headers.keys() != self.headers.keys()
         self.headers = headers
@@ -52,12 +53,15 @@ class Monitor(State):
             first = now - (PAGE_SILENCE if is_new else 2 * SEARCH_EVERY)
             self.search(segments, [item for item in past_names if item[0] >= first], program)
 
-    def look_at_clock(self, folder: str, names: Sequence[TimedName]) -> None:
+    def look_at_clock(self, folder: str, names: Sequence[TimedName],
+                      past_names: Sequence[TimedName]) -> None:
         """Compare the names and the last writes of segments with the clock. A segment from the
         future is no sign that the feed is alive. A file that no clock could name is ignored."""
         self.last_byte, self.is_clock_wrong = 0.0, False
+        newest = sorted({*names[-NEWEST_SEGMENTS:], *past_names[-NEWEST_SEGMENTS:]})
         with contextlib.suppress(OSError):
-            for segment, write, is_right in compare_times(folder, names):
+            self.is_clock_wrong = bool(find_clock_jump(folder, names, self.now - HOUR))
+            for segment, write, is_right in compare_times(folder, newest):
                 if segment.begin > write + MAX_ZONE_SECONDS:
                     continue
                 self.is_clock_wrong |= not is_right or segment.end > self.now + CLOCK_TOLERANCE

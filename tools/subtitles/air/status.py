@@ -57,15 +57,13 @@ def make_metrics(state: dict[str, Any]) -> Iterator[tuple[str, dict[str, str], f
 
 def format_metrics(lines: list[tuple[str, dict[str, str], float]]) -> str:
     """Return the metrics in Prometheus's text format, with the lines of each metric together."""
-    text = ""
-    for name in dict.fromkeys(name for name, _, _ in lines):
+    texts = dict[str, str]()
+    for name, labels, value in lines:
+        words = ",".join(f'{key}="{escape(word)}"' for key, word in labels.items())
         kind = "counter" if name.endswith("_total") else "gauge"
-        text += f"# TYPE subttx_air_{name} {kind}\n"
-        for other, labels, value in lines:
-            if other == name:
-                words = ",".join(f'{key}="{escape(word)}"' for key, word in labels.items())
-                text += f"subttx_air_{name}{{{words}}} {value:.15g}\n"
-    return text
+        texts.setdefault(name, f"# TYPE subttx_air_{name} {kind}\n")
+        texts[name] += f"subttx_air_{name}{{{words}}} {value:.15g}\n"
+    return "".join(texts.values())
 
 
 def escape(word: str) -> str:
