@@ -204,13 +204,18 @@ class OriginLines(unittest.TestCase):
                     "1 of 4 PES packets have no PTS and were skipped: they are refused with "
                     "fault 34"]),
                 (runs[:1], [], "", [], ["one has no header of page 888; other subtitle pages: 777, "
-                                        "150"])]
+                                        "150, 101, 102, 103"])]
         for several, some, damage, changes, printed in rows:
             lines, packets = list[str](), Packets(0, several)
             packets.gap_markers, packets.changes = some, changes
-            packets.damage, packets.header_counts = damage, {"888": 9, "150": 1, "777": 2}
+            packets.damage = damage
+            packets.header_counts = {"888": 9, "150": 2, "777": 3, "101": 1, "102": 1, "103": 1,
+                                     "104": 1}
             self.assertEqual((report_sent_pages(packets, OriginSearch("a", "one"), lines), lines),
                              (bool(changes), printed), (several, some, damage))
+        packets.header_counts = {"888": 9}
+        self.assertFalse(report_sent_pages(packets, OriginSearch("a", "one"), lines))
+        self.assertEqual(lines[-1], "one has no header of page 888; other subtitle pages: none")
 
     def test_reports_the_length_of_each_break(self) -> None:
         parts = [make_part_at(0), make_part_at(25, 100), make_part_at(-50, 200),

@@ -6,8 +6,7 @@ import unittest
 from collections import Counter
 from typing import Sequence
 
-from developing.pes import (
-    GAP_MARKER, decode_pts, get_data_field, get_teletext_packets, make_packet, make_pes_packet)
+from developing.pes import decode_pts, get_data_field, get_teletext_packets, make_pes_packet
 from developing.stl import make_box_line
 from subtitles.clock.alignment import (
     ExpectedCue, ExpectedSubtitle as Due, TimeBase, count_delays, find_expected_cues,
@@ -16,7 +15,7 @@ from subtitles.clock.origin import (
     OriginEstimate, OriginSearch, estimate_origin, read_subtitles_between)
 from subtitles.clock.stretches import Stretch, Track, find_best_stretches, find_stretches
 from subtitles.common.command_line import Stop
-from subtitles.common.times import ALL_DAY, CLOCK, FrameRange, TICKS, format_frame
+from subtitles.common.times import ALL_DAY, CLOCK, FrameRange, TICKS
 from subtitles.stream.packets import PageChange
 from .bench import Case, get_example_path, read_example_file
 from .parts import make_example_request, survey_packets
@@ -142,39 +141,6 @@ class Origins(Case):
         for some, printed in ((pes, ["--origin 0"]), (pes[10:20], [])):
             self.must("alike", self.find(alike, some).printed == printed)
 
-    def test_chooses_the_earliest_of_equal_origins(self) -> None:
-        item, other = (100, 150, b"One"), (200, 260, b"Other")
-        own = [(100 * at, 100 * at + 20 + 5 * at, b"Text %c" % (65 + at)) for at in range(12)]
-        rows: list[tuple[list[ShownSubtitle], int, list[ShownSubtitle], int, list[str],
-                         str]] = [
-            ([item], 0, [other], 100, [], "--origin 0 fits no better than --origin 360000"),
-            (own[6:], 0, own[:6], 2000, [], "--origin 7200000 fits no better than --origin 0"),
-            (own[6:], 1000, own[:6], 950, ["--pes 12-23 --origin 3420000"], "12 of 12 cues")]
-        for some, by, later, by_too, printed, line in rows:
-            pes = [pes for times, frames in ((some, by), (later, by_too)) for pes in schedule_pes(
-                self, self.stl(times, "sent.stl"), "--origin", str(TICKS * frames))]
-            result = self.find(self.stl(sorted([*some, *later])), pes)
-            self.must(line, result.printed == printed and line in "".join(result.lines), result)
-
-    def test_finds_adjoining_parts(self) -> None:
-        for count, frames in ((12, 4500), (3, 4500), (12, 250), (40, 300)):
-            times = [*make_even_times(2 * count, 100, 60, begin=FIRST_TCI)]
-            times[count - 1] = (*times[count - 1][:1], times[count][0], b"Last")
-            stl, parts = self.stl(times), [times[:count], times[count:]]
-            pes = [item for at, part in enumerate(parts) for item in schedule_pes(self, 
-                self.stl(part, "sent.stl"), "--origin", str(77_000 + at * frames * TICKS))]
-            result = self.find(stl, pes, "--breaks", "1")
-            self.must(f"{count} {frames}", result.printed == [
-                f"--from {format_frame(part[0][0])} --to {format_frame(part[-1][1])} --origin "
-                f"{77_000 + late}" for part, late in zip(parts, (0, frames * TICKS))] and
-                      not any("reaches into" in line for line in result.lines) and
-                      result.lines[0] == f"2 parts: {4 * count} of {4 * count} cues match", result)
-        times = [*make_even_times(20, 70, 40), (1500, 1520, b"One"), (1600, 1650, b"Two")]
-        pes = schedule_pes(self, self.stl(times[:20], "sent.stl")) + schedule_pes(self, 
-            self.stl(times[20:], "sent.stl"), "--origin", str(900 * TICKS))
-        result = self.find(self.stl(times), pes)
-        self.must("two", result.printed == ["--origin 0"] and not result.shift_texts, result)
-
     def transmission(self, begin: int, late: Sequence[int] = (0,) * COUNT) -> list[bytes]:
         """Return the PES packets of a programme whose subtitles have these delays in frames."""
         return [make_pes_packet((begin + TICKS * (70 * number + frame + by)) % CLOCK, [
@@ -184,51 +150,6 @@ class Origins(Case):
     def write_own_stl(self) -> str:
         return self.stl(make_even_times(COUNT, 70, 40, begin=FIRST_TCI))
 
-    def test_prints_no_parts_if_any_part_is_unclear(self) -> None:
-        late, other = [0] * 5, [1600, 1600, 1600, 1631, 1667, 1613, 1689]
-        for row in ([*late, *other], [*(item - 1600 for item in other), *(1700 for _ in late)]):
-            result = self.find(self.write_own_stl(), self.transmission(9 * 3600, row),
-                               "--breaks", "1")
-            self.must(f"{row}", (result.status, result.printed, result.parts) == (1, [], []) and
-                      result.lines[0].startswith("2 parts: "), result)
-
-    def test_finds_each_run_with_its_pes_packets(self) -> None:
-        gaps = TICKS * 70 * (COUNT + 20) - 3, -3 * 10 ** 9
-        for gap, runs in itertools.product(gaps, (1, 2, 3)):
-            pes = list[bytes]()
-            for number in range(runs):
-                own = self.transmission(gap * number)
-                pes += [*own, make_pes_packet((decode_pts(own[-1]) + 9 * TICKS) % CLOCK,
-                                              [HEADER, CLOSING])]
-            count, result = len(own) + 1, self.find(self.write_own_stl(), pes)
-            self.must(f"{gap} {runs}", (result.status, result.airings) == (int(runs > 1), [
-                (count * at - (at > 0), count * (at + 1) - 1)
-                for at in range(runs)] * (runs > 1)), result)
-            for number, (first, last) in enumerate(result.airings):
-                item = self.find(self.write_own_stl(), pes, "--pes", f"{first}-{last}")
-                self.must(f"{gap} {number}", item.printed == [
-                    f"--origin {(gap * number - TICKS * FIRST_TCI) % CLOCK}"], item)
-
-    def test_reports_from_which_cue_subtitles_are_late(self) -> None:
-        late = [0] * 6 + [50] * 6
-        origin = (5000 - TICKS * FIRST_TCI) % CLOCK
-        for known, away in ((None, None), (origin, 0), ((origin - 7200) % CLOCK, 7200)):
-            result = self.find(self.write_own_stl(), self.transmission(5000, late),
-                               *([] if known is None else ["--origin", str(known)]))
-            with self.subTest(known=known):
-                self.assertEqual((result.status, result.first_shift, result.ticks_late),
-                                 (0, FIRST_TCI + 70 * 6, away))
-                frames = 50 + (away or 0) // TICKS
-                self.assertIn(f"{frames / 25:.2f} s ({frames} frames) late", result.shift_texts[0])
-                self.assertEqual(result.parts[0].origin, origin)
-                self.assertEqual((result.parts[0].matches, result.parts[0].total,
-                                  result.has_all_cues),
-                                 (12, 12, True))
-        whole = self.find(self.write_own_stl(), self.transmission(5000))
-        self.assertTrue(whole.has_all_cues and not whole.shift_texts and whole.first_shift is None)
-        self.assertIn("subtitles are expected from 11:06:40:00 to 11:07:12:10; the page was "
-                      "received from 11:06:40:00 to 11:07:12:10", whole.lines)
-
     def test_accepts_ends_with_the_same_delay(self) -> None:
         for late, has_all_cues in (([3] * COUNT, True), ([3] * 6 + [9] * 6, False),
                                    ([3] * (COUNT - 1) + [9], False)):
@@ -237,55 +158,9 @@ class Origins(Case):
                    for number, by in enumerate(late) for frame in (0, 40 + by)]
             result = self.find(self.write_own_stl(), pes)
             self.must(f"{late}", result.has_all_cues == has_all_cues, result)
-
-    def test_counts_cues_that_agree(self) -> None:
-        pes, count = self.transmission(5000), 2 * COUNT
-        pes[6] = make_pes_packet(5000 + TICKS * 210,
-                                 [HEADER, make_numbered_row(20, b"Another"), CLOSING])
-        for some, matches, total, letters in ((pes, count, count, count - 1),
-                                              (pes[:-3], count - 3, count - 3, count - 4),
-                                              (pes[:10] + pes[11:], count - 2, count, count - 3),
-                                              (pes[:11] + pes[12:], count - 1, count, count - 2)):
-            result = self.find(self.write_own_stl(), some)
-            part, has_all_cues = result.parts[0], matches == total
-            self.must(f"{matches}", (part.matches, part.total, result.has_all_cues) == (
-                matches, total, has_all_cues) and f" {letters} with the expected text" in part.line,
-                      result)
-            others = [line for line in result.lines if line.startswith("the first cue without")]
-            self.must(f"{matches}: first", others == [
-                "the first cue without a match is at "
-                f"{format_frame(FIRST_TCI + 350 + 40 * (matches == count - 1))}"]
-                      * (not has_all_cues), others)
-
-    def test_reports_missing_pts_gap_markers_and_other_pages(self) -> None:
-        good = self.transmission(0)[:3]
-        bare = good[0][:7] + b"\0" + good[0][8:]
-        other = [make_pes_packet(number, [make_packet(0, 0, [7, 8, 0, 8, 0, 8, 1, 0], b" " * 32),
-                                          CLOSING,
-                                          *[make_numbered_row(1, b"%d" % number)]])
-                 for number in range(2)]
-        rows: list[tuple[str, list[bytes], bool, list[str]]] = [
-                ("good", good, True, []),
-                ("bare", [bare, bare], False, ["none of 2 PES packets in a.pes has a PTS: "]),
-                ("marks", [*good, GAP_MARKER], True, ["1 gap marker was ignored"]),
-                ("some", [*good, GAP_MARKER, bare, GAP_MARKER], True, [
-                    "2 gap markers were ignored", "1 of 6 PES packets have no PTS "]),
-                ("another page", other, False, ["a.pes has no header of page 888; other subtitle "
-                                                "pages: 887"]),
-                ("other pages", [make_pes_packet(number, [make_packet(0, 0, [
-                    item, 8, 0, 8, 0, 8, 1, 0], b" " * 32), CLOSING,
-                                                          make_numbered_row(1, b"%d" % number)])
-                    for number, item in enumerate((1, 2, 3, 3, 2, 2, 4, 5, 4, 6))], False, [
-                        "a.pes has no header of page 888; other subtitle pages: 882, 883, 884, "
-                        "881, 885"]),
-                ("no page", [make_pes_packet(0, [CLOSING])], False, [
-                    "a.pes has no header of page 888; other subtitle pages: none"])]
-        for name, pes, is_page, reported in rows:
-            result = self.find(self.write_own_stl(), pes)
-            lines = [line.replace("one.pes", "a.pes") for line in result.lines]
-            self.must(name, all(line.startswith(begin) for line, begin in zip(lines, reported)) and
-                      len(lines) >= len(reported) and (len(lines) > len(reported)) == is_page,
-                      lines)
+            self.must(f"{late}: times", f"subtitles are expected from 11:06:40:00 to 11:07:12:10; "
+                      f"the page was received from 11:06:40:00 to 11:07:12:{10 + late[-1]}"
+                      in result.lines, result.lines)
 
 
 class Tracks(Case):
