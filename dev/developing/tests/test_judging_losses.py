@@ -12,7 +12,7 @@ from unittest import mock
 
 from developing.pes import STUFFING_UNIT, make_pes_packet
 from subtitles.common.times import TICKS
-from subtitles.judging.timing import describe_unchecked_losses
+from subtitles.judging.timing import describe_missing_pcr, describe_unchecked_losses
 from subtitles.stream.pace import IRREGULAR, Pace
 from .stories import StoryCase
 from .streams import Packet, Shape, find_teletext_places, make_multiplex, remove_packets_at
@@ -185,3 +185,12 @@ class LossEvidence(unittest.TestCase):
                               (25, "losses of 1.0 s or more")):
             self.assertIn(f"{words} on this PID", describe_unchecked_losses(
                 Pace(IRREGULAR), frames, recording), frames)
+
+    def test_reports_that_the_programme_has_no_pcr(self) -> None:
+        for is_stream, clock, is_told in ((True, None, True), (True, (0, 9), False),
+                                          (False, None, False)):
+            recording: Any = SimpleNamespace(
+                is_stream=is_stream, packets=SimpleNamespace(pid=5),
+                survey=SimpleNamespace(get_pcr_range=lambda _: clock))
+            self.assertEqual("the programme of PID 0x5 has no PCR" in describe_missing_pcr(
+                recording), is_told, (is_stream, clock))

@@ -1,36 +1,23 @@
-"""Test losses in transport streams, the option --pace, and reading lists of specifications."""
+"""Test the places of losses, the option --pace, and reading lists of specifications."""
 from __future__ import annotations
 
-import argparse
 import itertools
 import os
 from typing import Optional, Tuple
 
-from developing.multiplex import PACKET
-from developing.pes import decode_pts
-from developing.stl import make_box_line
-from subtitles.cli.main import make_parser
 from subtitles.common.command_line import Stop
-from subtitles.common.program import ProgramInfo
 from subtitles.common.times import CLOCK, TICKS
-from subtitles.request.lines import read_pairs
-from subtitles.request.request import make_request
-from subtitles.results.files import describe_inputs, is_current
-from subtitles.results.schema import PROGRAM, REQUEST
+from subtitles.results.schema import REQUEST
 from subtitles.stream.gaps import (
-    ClockJump, LossPlace, MAX_LATE, SECOND, describe_gap_markers, describe_loss, do_overlap,
-    find_clock_jumps, find_loss_places, find_pts_delay, find_recorded_range)
+    LossPlace, MAX_LATE, SECOND, describe_gap_markers, describe_loss, do_overlap, find_loss_places,
+    find_pts_delay, find_recorded_range)
 from subtitles.stream.packets import GapMarker, PCRStep, PacketRun, Packets
-from subtitles.stream.survey import ProgramMap, Survey, survey
+from subtitles.stream.survey import ProgramMap, Survey
 from ..cited import find_long_readings
 from ..definitions import Library, count_lines_to_read
 from ..promises import list_indexed_clauses, find_unknown_clauses
 from .bench import Case
-from .judged import judge_files
-from .streams import (
-    Packet, Shape, TELETEXT_PID, multiplex_frames, make_multiplex, join_packets, delete_between)
-from .parts import make_example_request, list_call_arguments
-from .transmissions import write_programme, schedule_pes
+from .parts import make_example_request
 
 
 Jump = Tuple[int, int]  # PTS before and after a clock jump
@@ -114,137 +101,18 @@ class LatePts(Case):
                     (first + ahead) % CLOCK, 90_000 - late))
 
 
-BEGIN, COUNT = 900_000, 8  # first frame, and number of subtitles
-PAGE = 0, 0x88
-
-
-class StreamLosses(Case):
-    def programme(self, every: int = 1) -> list[bytes]:
-        stl = write_programme(self, [(begin, begin + 20) for begin in range(
-            BEGIN, BEGIN + 25 * COUNT, 25)], text=make_box_line(b"Number %d"), name="story.stl")
-        return schedule_pes(self, stl, "--every", str(every))
-
-    def survey_losses(self, packets: list[Packet]) -> tuple[list[LossPlace], list[ClockJump]]:
-        path = self.write("heard.ts", join_packets(packets))
-        result = survey(self.bench.program, path, PAGE).by_pid[TELETEXT_PID]
-        return find_loss_places(result), list(find_clock_jumps(result))
-
-    def test_finds_no_loss_in_complete_streams(self) -> None:
-        pes = self.programme()
-        for shape in (Shape(), Shape(4000, 1800), Shape(700, 9000, True), Shape(pause=(60, 100)),
-                      Shape(jump=(60, 500_000), is_announced=True)):
-            places, jumps = self.survey_losses(make_multiplex(pes, shape))
-            self.must(f"{shape}", not places and not jumps, (places, jumps))
-        result = b"".join(multiplex_frames(pes, decode_pts(pes[0]), 80))
-        own = [at for at in range(0, len(result), PACKET)
-               if result[at + 1] & 0x1F == TELETEXT_PID >> 8
-               and result[at + 2] == TELETEXT_PID & 255]
-        torn = result[:own[40]] + result[own[56] - 5 * PACKET:]
-        for name, data, count in (("whole", result, 0), ("torn", torn, 1)):
-            places, jumps = self.survey_losses([Packet(0, data)])
-            self.must(name, (len(places), len(jumps)) == (count, 0), (places, jumps))
-
-    def test_finds_losses_of_16_packets_and_more(self) -> None:
-        pes = self.programme()
-        for shape in (Shape(4000, 1800), Shape(2000, 3600, True)):
-            multiplex = make_multiplex(pes, shape)
-            for count in (16, 64):
-                places, _ = self.survey_losses(delete_between(multiplex, 70, count))
-                known = [(item.before, item.after) for item in places]
-                first, last = known[0] if known else (None, None)
-                self.must(f"{shape} {count}", len(known) == 1 and first is not None
-                          and last is not None and decode_pts(pes[66]) <= first <=
-                          decode_pts(pes[69])
-                          and decode_pts(pes[70 + count]) <= last <= decode_pts(pes[74 + count]),
-                          known)
-        places, _ = self.survey_losses(delete_between(multiplex, 70, 17))
-        self.must("by its counter", [item.lost for item in places] == [1], places)
-        for ticks in (8641 * SECOND, -SECOND, CLOCK // 2 - 10 * SECOND):
-            multiplex = make_multiplex(pes, Shape(jump=(60, ticks)))
-            places, jumps = self.survey_losses(multiplex)
-            self.must(f"{ticks}", len(jumps) == 1 and abs(jumps[0].ticks - ticks) < 400
-                      and not places, (jumps, places))
-            number = [at for at, item in enumerate(multiplex) if item.pid == TELETEXT_PID][60]
-            places, jumps = self.survey_losses(multiplex[:number - 40] + multiplex[number + 5:])
-            missing = [item for item in places if item.missing]
-            self.must(f"{ticks}: a loss", len(missing) <= (ticks > 0) and not jumps, places)
-
-    def test_judges_a_stream_with_losses_and_jumps(self) -> None:
-        pes = self.programme()
-        multiplex = make_multiplex(pes, Shape())
-        words = [self.path("story.stl"), self.path("one.ts"), "--origin", "0"]
-        own = [item for item in multiplex if item.pid == TELETEXT_PID]
-        jumped = make_multiplex(pes, Shape(jump=(60, 8641 * SECOND)))
-        hole = "s of TS packets are missing according to the PCR and the counters of other PIDs"
-        for name, sent, word, more, line in (
-                ("whole", multiplex, "accepted", "--pid=0x101", ""),
-                ("a hole", delete_between(multiplex, 27, 16), "lost", "--pace=none", hole),
-                ("and the pace", delete_between(multiplex, 27, 16), "refused", "--page=888", hole),
-                ("allowed", delete_between(multiplex, 27, 16), "waived", "--allow-lost", hole),
-                ("a jump", jumped, "accepted", "--page=888", "the clock jumps by 2:24:01 at "
-                 "10:00:02:08, but no packet is missing: was an encoder restarted?"),
-                ("alone", own, "accepted", "--pid=0x101", ""),
-                ("not asked", own, "accepted", "--pace=none",
-                 " has no PCR")):
-            self.write("one.ts", join_packets(sent))
-            result = judge_files(self, *words, more)
-            reported = [item for item in result.told if item.startswith("warning: the clock") or
-                    item.endswith(" has no PCR") or hole in item]
-            self.must(name, result.word == word and len(reported) == bool(line) and
-                      line in "".join(reported), result.said)
-            if word == "lost":
-                judge_files(self, *words, more, "-o", self.path("out"))
-                self.must("in the report", reported[0] in self.read("out/one.html").decode(),
-                          reported)
-
-
 class PaceOptions(Case):
-    def setUp(self) -> None:
-        super().setUp()
-        for name in ("one.stl", "one.ts", "two.stl"):
-            self.write(name, b"")
-
-    def options(self, *args: str) -> argparse.Namespace:
-        return make_parser("").parse_args(args)
-
     def test_passes_the_pace_to_check(self) -> None:
         for word, pace in (("none", None), ("1", 1), ("0025", 25), ("2160000", 2160000)):
             request = make_example_request("one.stl", "one.ts", "--pace", word)
             given = ["--pace", str(pace)] if pace else []
-            self.must(word, request.list_check_arguments() == ["--complete", *given]
-                      and request.pace ==
-                      pace
-                      and make_request(self.options(*list_call_arguments(request))) == request)
-            self.must(f"{word}: result", REQUEST.to_json(request)["pace"] == str(pace or "none"))
+            self.check(word, (request.list_check_arguments(), request.pace, REQUEST.to_json(
+                request)["pace"]), (["--complete", *given], pace, str(pace or "none")))
         self.must("left out",
                   REQUEST.to_json(make_example_request("one.stl", "one.ts"))["pace"] is None)
         for word in ("0", "", "-1", "x", "None", "2160001", "9" * 5000, "1.5", "\u0661"):
             with self.assertRaises(Stop, msg=word):
                 make_example_request("one.stl", "one.ts", "--pace", word)
-
-    def test_reads_the_pace_of_each_line_of_a_list(self) -> None:
-        line = f"{self.path('one.stl')} {self.path('one.ts')}"
-        items = read_pairs(self.write("list", f"{line}\n{line} --pace 9\n{line} --pace none\n"
-                                              f"{line} --pace 0\n".encode()),
-                           self.options("--batch", "list", "--pace", "7"))
-        self.must("lines", [item.request and item.request.pace for item in items] ==
-                  [7, 9, None, None]
-                  and str(items[3].reason).endswith(
-                      "line 4: argument --pace: 0 is not a PES interval: give 1 to 2160000 frames"),
-                  items)
-
-    def test_judges_again_with_another_pace(self) -> None:
-        program = ProgramInfo("1", "0" * 64, None)
-        request = [make_example_request(self.path("one.stl"), self.path("one.ts"), *words)
-                   for words in ((), ("--pace", "none"), ("--pace", "16"))]
-        for item in request:
-            words = REQUEST.to_json(item)
-            known = {"request": words, "files_at_start": describe_inputs(item),
-                     "program": PROGRAM.to_json(program), "waivers": []}
-            self.must(f"{item.pace}", [is_current(known, other, program) for other in request] ==
-                      [other == item for other in request])
-            del words["pace"]
-            self.must(f"{item.pace}: of an earlier tool", not is_current(known, item, program))
 
 
 # Test tools/reading-list in a repository with two crates.
