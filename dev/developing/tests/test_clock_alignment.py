@@ -21,10 +21,10 @@ from subtitles.judging.part import belongs_to_part, find_lost_spans, find_record
 from subtitles.stream.gaps import LossPlace
 from subtitles.stream.packets import Packets, PageChange
 from .bench import Case
-from .judged import JudgedPair, judge_files
+from .judged import judge_files
 from .parts import make_part
 from .transmissions import join_pes_packets, make_delay, write_programme, schedule_pages
-from .test_clock_delays import FIRST_TCI, make_even_times
+from .test_clock_delays import make_even_times
 from .test_clock_tables import make_sent_packets
 
 TEXT, OTHER_TEXT = ((20, b"text"),), ((20, b"other"),)
@@ -346,47 +346,6 @@ class JudgedPairs(Case):
                                           join_pes_packets(make_delay(2, at, at)(sends))),
                                *words[2:])
             self.must(f"{count}: late", item.word == "accepted", item.said)
-
-    def judge_drift(self, frames: int) -> JudgedPair:
-        stl = write_programme(self, make_even_times(20))
-        begin, end = make_even_times(20)[0][0], make_even_times(20)[-1][1]
-        path = self.write("one.pes", join_pes_packets([
-            (pts + TICKS * ((pts // TICKS - begin) * frames // (end - begin)), packets)
-            for pts, packets in schedule_pages(self, stl)]))
-        return judge_files(self, stl, path, "--every", "30", "--no-complete", "--within", str(
-            frames if frames < 5 else 0), "--pace", "none")
-
-    def test_reports_a_drift_in_its_own_sentence(self) -> None:
-        for frames, words in ((3, ("accepted",)), (4, ("accepted",)),
-                              (8, ("refused", "not judged")), (60, ("refused", "not judged"))):
-            item = self.judge_drift(frames)
-            lines = [line for line in item.told if line.startswith(
-                "from 10:00:00:00 to 10:01:35:00, subtitles come later and later")]
-            self.must(f"{frames}", item.word in words and len(lines) == 1 and
-                      "another frame rate?" in lines[0], item.said)
-
-    def test_judges_no_run_if_one_has_wrong_texts(self) -> None:
-        times = [(FIRST_TCI + at * at * 7 + 90 * at, FIRST_TCI + at * at * 7 + 90 * at + 60 + at)
-                 for at in range(20)]
-        stl, hour = write_programme(self, times), 3600 * 25 * TICKS
-        right = schedule_pages(self, stl)
-        other = schedule_pages(self, write_programme(self, times, text=b"Other words %d",
-                                                     name="other.stl"))
-        few = [item for at in (0, 8, 16) for item in schedule_pages(self, write_programme(
-            self, times[at:at + 3], first=at + 1, name="few.stl"))]
-        rows: list[tuple[str, list[tuple[int, list[bytes]]], list[str], str]] = [
-            ("wrong texts", other, [], "not judged"),
-            ("wrong texts, a clock", other, ["--origin", "0"], "accepted"),
-            ("few", few, [], "not judged"),
-            ("few, a clock", few, ["--origin", "0"], "not judged"), ("none", [], [], "accepted")]
-        for name, second, words, word in rows:
-            both = [*right, *((pts + hour, packets) for pts, packets in second)]
-            item = judge_files(self, stl, self.write("one.pes", join_pes_packets(both)),
-                               "--every", "25",
-                               "--no-complete", *words)
-            self.must(name, item.word == word and (word == "accepted" or item.told[0] ==
-                                                   "the recording contains the programme "
-                                                   "twice"), item.said)
 
 
 # Ticks added to all PTS: none, or amounts that make the PTS wrap.

@@ -79,8 +79,9 @@ class Requests(Case):
                                                          (0, 4)):
             for some in (self.transmissions(sent), strange + self.transmissions(sent)):
                 result = self.find(some, within=within)
-                self.assertEqual(["later and later" in line for line in result.shift_texts],
-                                 [True] * is_told, result)
+                self.assertEqual([(line[:5], "later and later, by " in line, line[-24:])
+                                  for line in result.shift_texts],
+                                 [("from ", True, "have another frame rate?")] * is_told, result)
 
     def test_reports_unclear_results_with_rows_of_a_closed_page_first(self) -> None:
         for sent, is_told in (([0] * 24, False), ([0, 0, 0, *[2] * 21], True)):
