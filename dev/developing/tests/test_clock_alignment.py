@@ -225,21 +225,6 @@ class EstimatedClocks(Case):
                     self.assertTrue(item.status == 0 and does_first_part_agree(item) or before,
                                     item.lines)
 
-    def test_reports_an_early_cue_of_a_known_inserter(self) -> None:
-        for name, (within, inserter) in INSERTERS.items():
-            if name in ("any of six", "seldom late"):
-                continue  # early in-cues are usual for these inserters
-            chance = random.Random(5)
-            shown = [item._replace(letters=b"text %d" % at)
-                     for at, item in enumerate(make_random_cues(chance, 30))]
-            cues, shares = find_expected_cues(shown), measure_inserter_delays(inserter)
-            begins = [at for at, cue in enumerate(cues) if cue.is_begin]
-            times = [(TICKS * (cue.frame + (-1 if at == begins[20] else
-                                            inserter(chance, cue.is_begin))), cue.letters)
-                     for at, cue in enumerate(cues)]
-            item = find_origin(shown, make_sent_packets(sorted(times)), within, late=shares)
-            self.assertFalse(does_first_part_agree(item), (name, item.lines))
-
 
 class Drifts(Case):
     def drift(self, delays: Sequence[int], texts: Sequence[bytes] = ()) -> Drift | None:

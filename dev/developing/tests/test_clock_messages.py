@@ -88,6 +88,8 @@ class OriginLines(unittest.TestCase):
                 "late. Give --origin or --start"]),
             "late cues": (self.part(3, 3, 3, within=3, delays=[2, 1, 3, 2]), [
                 cues("3 of 3 match, 3"), "cues are 1 to 3 frames late (median 2)"]),
+            "cues on time and late": (self.part(2, 2, 2, within=3, delays=[1, 0]), [
+                cues("2 of 2 match, 2"), "cues are 0 to 1 frame late (median 1)"]),
             "late in-cues": (self.part(4, 9, 4, apart=begins), [
                 cues("4 of 9 match, 4"),
                 "all in-cues are 2 frames late compared with the out-cues"]),
