@@ -405,7 +405,7 @@ STATED: list[tuple[str, str, object]] = [
     ("manual/refusals.md", "the CF is over {} |", MAX_COMMENT_FLAG),
     ("manual/refusals.md", "the JC is over {} |", RIGHT),
     ("manual/refusals.md", "the VP is not between 1 and {} |", LAST_ROW),
-    ("manual/refusals.md", "a line with text is below row {} |", LAST_ROW),
+    ("manual/refusals.md", "above row 1 or below row {} |", LAST_ROW),
     ("manual/refusals.md", "double height (0D) is in row {} |", LAST_ROW),
     ("manual/refusals.md", "a line has over {} cells", PAGE_COLUMNS),
     ("manual/refusals.md", "use at most {} characters", PAGE_COLUMNS - 4),

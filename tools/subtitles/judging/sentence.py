@@ -164,7 +164,7 @@ FAULT_CLAUSES = {
     50: "the national option lacks a character",
     51: "a control code is not allowed",
     52: "a line has more than 40 cells, box codes included",
-    53: "a line with text is below row 23",
+    53: "a line with text is above row 1 or below row 23",
     54: "double height (0D) is on row 23, which has no row below",
     55: "a line is directly below one with double height, which hides it",
     56: "TCI is before the TCI of the previous subtitle",
