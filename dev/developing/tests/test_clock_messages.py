@@ -181,14 +181,15 @@ class OriginLines(unittest.TestCase):
             (0, 0, "the subtitles match --origin 0"),
             (0, 9, "compared with --origin 0, the subtitles are 9 ticks late"),
             (0, 251 * TICKS, "compared with --origin 0, the subtitles are 251 frames late"),
-            (9, 9, "the subtitles match --origin 9")]
+            (9, 9, "the subtitles match --origin 9"),
+            (CLOCK - 5, 4, f"compared with --origin {CLOCK - 5}, the subtitles are 9 ticks late")]
         for known, origin, words in rows:
             origin_estimate, part = OriginEstimate(), self.part(20, 20, 20)
             part.origin = origin
             compare_with_known_origin(origin_estimate, known, part)
             self.assertEqual(origin_estimate.lines, [words] * bool(words), (known, origin))
-            self.assertEqual(origin_estimate.ticks_late, None if known is None else origin - known,
-                             (known, origin))
+            self.assertEqual(origin_estimate.ticks_late, None if known is None else
+                             (origin - known) % CLOCK, (known, origin))
 
     def test_lists_the_contents_of_a_recording(self) -> None:
         runs = [PacketRun(0, 2, 0, TICKS, "h", ""), PacketRun(2, 1, None, 0, "m", ""),

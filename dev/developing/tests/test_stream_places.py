@@ -6,7 +6,7 @@ import os
 from typing import Optional, Tuple
 
 from subtitles.common.command_line import Stop
-from subtitles.common.times import CLOCK, TICKS
+from subtitles.common.times import CLOCK, TICKS, pts_of
 from subtitles.results.schema import REQUEST
 from subtitles.stream.gaps import (
     LossPlace, MAX_LATE, SECOND, describe_gap_markers, describe_loss, do_overlap, find_loss_places,
@@ -71,14 +71,13 @@ class LossPlaces(Case):
             self.assertEqual(do_overlap(*places), max(first, begin) < min(last, end), places)
 
     def test_keeps_the_longer_of_two_losses(self) -> None:
-        runs = [PacketRun(at, 1, None if at == 4 else at * TICKS, 0, "-", "") for at in range(9)]
-        for ticks in ((2, 3), (3, 2), (3, 3)):
-            clocks = [PCRStep(3 * TICKS, 5 * TICKS, item * TICKS, 9, TICKS, 9, "broken")
-                      for item in ticks]
-            packets = Packets(5, runs, gap_markers=[GapMarker(4, 3 * TICKS, 2, 0)],
-                              pcr_steps=clocks)
+        for first, ticks in itertools.product((0, CLOCK - 4 * TICKS), ((2, 3), (3, 2), (3, 3))):
+            pts = [pts_of(at, first) for at in range(9)]
+            runs = [PacketRun(at, 1, None if at == 4 else pts[at], 0, "-", "") for at in range(9)]
+            packets = Packets(5, runs, gap_markers=[GapMarker(4, pts[3], 2, 0)], pcr_steps=[
+                PCRStep(pts[3], pts[5], item * TICKS, 9, TICKS, 9, "broken") for item in ticks])
             reported = [item.missing for item in find_loss_places(packets)]
-            self.must(f"{ticks}", reported == [2 * TICKS], reported)
+            self.must(f"{first} {ticks}", reported == [2 * TICKS], reported)
 
 
 class LatePts(Case):

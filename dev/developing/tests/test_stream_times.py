@@ -256,7 +256,7 @@ class ClockTables(unittest.TestCase):
                 ([-45_000, 47_000], [("behind", 1, -45_000), ("changed", 2, -46_000)])]
         # The rows begin after the first minute, or before a PTS wrap in the first minute.
         for begin, (more, wanted) in itertools.product((61, -100), rows):
-            ahead = [*enumerate([30_000, *[1000] * 8]), *enumerate(more, begin)]
+            ahead = [*enumerate([*[30_000] * 3, *[1000] * 6]), *enumerate(more, begin)]
             samples = [(SECOND * (at - 3) % CLOCK, item) for at, item in ahead]
             result = list(find_pts_anomalies(make_packets_with_pts([], samples=samples)))
             self.assertEqual([(item.kind, item.number, item.worst) for item in result],
