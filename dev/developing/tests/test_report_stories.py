@@ -28,7 +28,7 @@ a wrong GSI block | 3     | as scheduled              |             | block 0: 1
 a wrong TTI block | 8     | as scheduled              |             | block 2: 13=18
 two wrong blocks  | 8     | as scheduled              | --file-only | block 2: 3=F0; block 5: 13=18
 a wrong character | 8     | as scheduled              | --file-only | block 3: 20=E6
-late and early    | 10    | 1 late by 2, 8 early by 3 |             |
+late and early    | 10    | other packets before, 1 late by 2, 8 early by 3 | |
 late by 3, of 3   | 10    | 3 late by 3               | --within 3  |
 never sent        | 10    | 5 not sent, 6 not sent    |             |
 another's text    | 10    | 4 with the text of 7      |             |
@@ -42,7 +42,7 @@ erased too early  | 10    | 6 erased after a second   |             |
 in a pause        | 10    | another page in a pause   |             |
 PTS off frames    | 10    | 5 a tick late             |             |
 PTS that go back  | 10    | break -250 before 8       |             |
-unreadable        | 10    | as scheduled              |             | pes 9: 7=05; pes 10: 45=05
+unreadable        | 10    | as scheduled              |             | pes 0: 45=05; pes 10: 7=05
 not repeated      | 10    | 3 not repeated            | --every 25  |
 begins late       | 10    | from subtitle 3 on        |             |
 """)}
@@ -76,6 +76,8 @@ class Reports(StoryCase):
         "another page in a pause": lambda sent: sorted([*sent, *(
             (pts + 75 * TICKS, [some[0], make_numbered_row(20, b"Elsewhere"), some[-1]])
             for pts, some in sent if pts == first_tick("2"))]),
+        "other packets before": lambda sent: [
+            (sent[0][0] - 40 * TICKS, sent[-1][1][-1:]), *sent],
         "5 a tick late": lambda sent: [(pts + (pts == first_tick("5")), some)
                                        for pts, some in sent],
         "from subtitle 3 on": lambda sent: [item for item in sent if item[0] > first_tick("3")]}
