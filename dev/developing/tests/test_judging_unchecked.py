@@ -3,7 +3,7 @@ from __future__ import annotations
 
 from typing import Sequence
 
-from subtitles.clock.start import Clock, GIVEN, TimedPart
+from subtitles.clock.start import Clock, GIVEN, RECORDING, START, TCP, TimedPart
 from subtitles.common.checks import HOLE, JUMP, NO_VIDEO, STEADY, UNREAD
 from subtitles.common.times import TICKS
 from subtitles.judging.desync import find_desync
@@ -79,6 +79,19 @@ class Pictures(Case):
             unchecked = find_desync(survey, PID, TimedPart(1000, 4000, Clock(0, GIVEN)), 0, 1,
                                     SENT).unchecked
             self.check(f"{change}", sum(item.may_be_wrong for item in unchecked), doubts)
+
+    def test_does_not_judge_with_a_doubtful_first_picture(self) -> None:
+        for clock, at, expected in ((START, 900, 1), (START, 1020, 1), (START, 1100, 0),
+                                    (TCP, 900, 1), (GIVEN, 1020, 0), (RECORDING, 1020, 0)):
+            survey = Survey()
+            for line in [f"programme 1 {VIDEO}", f"stream {PID} 6", f"stream {VIDEO} 27",
+                         *make_leads(500, at), *make_leads(at, 4500, 5, number=-2)]:
+                survey.read_line(line)
+            unchecked = find_desync(survey, PID, TimedPart(1000, 4000, Clock(0, clock)), 0, 1,
+                                    SENT).unchecked
+            self.check(f"{clock} {at}", (len(unchecked), [
+                item.text.endswith(", so the clock of --start may be wrong")
+                for item in unchecked if item.may_be_wrong]), (1, [True] * expected))
 
     def test_decides(self) -> None:
         good, bad = CheckSummary(0, True), CheckSummary(1, False, 1, 1, [72])

@@ -55,7 +55,7 @@ def find_desync(survey: Survey, pid: int, alignment: TimedPart, within: int, num
         if departure_places is None:
             unchecked.append(make_irregular_video(number))
     unclear += find_departures(locate_changes_of_video(several), alignment)
-    unchecked += make_unclear_places(unclear, alignment.origin, number)
+    unchecked += make_unclear_places(unclear, alignment, number)
     return DesyncFindings(faults, notes, unchecked, any(by_video.values()))
 
 

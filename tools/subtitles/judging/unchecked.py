@@ -5,7 +5,7 @@ import bisect
 import statistics
 from typing import Collection, Iterator, Mapping, NamedTuple, Sequence
 
-from ..clock.start import NAMES, OTHER_STREAM_TYPES, TimedPart
+from ..clock.start import NAMES, OTHER_STREAM_TYPES, START, TCP, TimedPart
 from ..common.checks import (
     CHECKS, CLOCK, CheckState, DRIFT, HOLE, IRREGULAR, JUMP, LISTED, NO_VIDEO, PHRASES,
     PICTURE_KINDS, STEADY, UNREAD, decide_check)
@@ -32,7 +32,8 @@ MISSING_TEXTS = {CLOCK: "a delay of all subtitles, since the clock was estimated
 class Unchecked(NamedTuple):
     """An entry about a check that was not made: its kind, a text, the number of the part (`None`
     for the whole pair), the time codes between which the check was not made (`None` for
-    everywhere), and the least number of ticks by which the lead changes."""
+    everywhere), the least number of ticks by which the lead changes, and whether the clock of
+    --start may be wrong."""
 
     kind: str
     text: str
@@ -40,6 +41,7 @@ class Unchecked(NamedTuple):
     begin: str | None = None
     end: str | None = None
     change: int = 0
+    is_of_start: bool = False
 
     @property
     def has_video(self) -> bool:
@@ -47,8 +49,8 @@ class Unchecked(NamedTuple):
 
     @property
     def may_be_wrong(self) -> bool:
-        """Return whether the change is too large to judge the pair without looking at it."""
-        return self.change >= MIN_UNJUDGED_CHANGE
+        """Return whether the pair can't be judged without looking at the change."""
+        return self.is_of_start or self.change >= MIN_UNJUDGED_CHANGE
 
 
 def find_unread_video(survey: Survey, pid: int, number: int) -> Unchecked:
@@ -159,16 +161,23 @@ def find_unchecked(survey: Survey, pid: int, by_video: Mapping[int, Sequence[Vid
                             f"{abs(ticks) / TICKS:.1f} frames", number)
 
 
-def make_unclear_places(departures: Sequence[Departure], origin: int, number: int) \
+def make_unclear_places(departures: Sequence[Departure], alignment: TimedPart, number: int) \
         -> Iterator[Unchecked]:
-    """Yield the places where it is unclear whether the pictures drift."""
+    """Yield the places where it is unclear whether the pictures drift. If this is between the
+    picture that gives the clock and the first second of subtitles, the clock may be wrong."""
+    first = pts_of(alignment.begin, alignment.origin)
+    length = TICKS * (alignment.end - alignment.begin)
     for departure in departures:
-        begin, end = (compute_time(item, origin)
+        begin, end = (compute_time(item, alignment.origin)
                       for item in (departure.earlier_pts, departure.pts))
         more = f", and the subtitles are at least {departure.change / TICKS:.1f} frames earlier " \
             "or later after it" if departure.change >= TICKS else ""
+        is_of_start = alignment.clock.source in (START, TCP) and \
+            subtract_pts_within(first, length, departure.earlier_pts) < SECOND
+        more += ", so the clock of --start may be wrong" if is_of_start else ""
         yield Unchecked(JUMP, f"{DRIFT} between {begin} and {end}, where the video's "
-                        f"decoding times jump{more}", number, begin, end, departure.change)
+                        f"decoding times jump{more}", number, begin, end, departure.change,
+                        is_of_start)
 
 
 def make_irregular_video(number: int) -> Unchecked:
