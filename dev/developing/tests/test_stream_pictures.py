@@ -262,6 +262,7 @@ class Pairs(Case):
             *(("", [tco - ahead], frames, "refused")
               for ahead, frames in ((12, 10), (20, -0.5), (30, -10))),
             *(("", [tci - 3, tci + 3], frames, "refused") for frames in (10, -10, 0.5)),
+            *(("", [tci - 15, tci + 15], frames, "refused") for frames in (1, -1)),
             ("", [tco + 1], -10, "accepted")]
         for words, places, frames, word in rows:
             programme = Programme({TELETEXT_PID: pes}, TICKS * begin, later=[
@@ -273,8 +274,9 @@ class Pairs(Case):
             self.check(name, judged_pair.word, word)
             if frames and places[0] < tco:
                 last = f"to {format_frame(places[1] - 1)}" if places[1:] else "on"
+                count = f"{abs(frames)} frame{'s' * (abs(frames) != 1)}"
                 self.must(f"{name}: text", any(
-                    f"from {format_frame(places[0])} {last}, subtitles are {abs(frames)} frames "
+                    f"from {format_frame(places[0])} {last}, subtitles are {count} "
                     f"{'early' if frames > 0 else 'late'} for viewers: the video's timestamps jump"
                     in item for item in judged_pair.said), judged_pair.said)
 

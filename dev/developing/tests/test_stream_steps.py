@@ -1,10 +1,12 @@
 """Test stream/steps.py, and the places that its steps add to those of stream/pictures.py."""
 from __future__ import annotations
 
+import itertools
+
 from subtitles.common.times import CLOCK, TICKS, subtract_pts
 from subtitles.judging.desync import has_own_clock
 from subtitles.stream.pictures import (
-    Departure, VideoLead, locate_departures, separate_clock_jumps)
+    Departure, VideoLead, have_moved, locate_departures, separate_clock_jumps)
 from subtitles.stream.steps import (
     ALIKE_TICKS, MAX_REORDER_TICKS, StepRange, UnusualStep, find_unusual_steps, measure_reordering)
 from .bench import Case
@@ -67,7 +69,11 @@ class Steps(Case):
                             [(content(203), -36000), (content(263), 36000)]),
             "two pictures": ({210: 36000, 212: -36000}, [(content(212), None)]),
             "one picture": ({210: 36000, 211: -36000}, [(content(211), None)]),
-            "one frame": ({203: 3600, 223: -3600}, [(content(223), None)]),
+            "one frame, no lead between": ({203: 3600, 223: -3600}, [(content(223), None)]),
+            "one frame, a lead between": ({203: 3600, 233: -3600},
+                                          [(content(203), 3600), (content(233), -3600)]),
+            "back by one frame, a lead between": ({203: -3600, 233: 3600}, [
+                (content(203), -3600), (content(233), 3600)]),
             "a step between": ({203: 36000, 213: 7200, 223: -36000},
                                [(content(226) + 6 * TICKS, 7200)]),
             "after the last lead": ({490: 36000}, [(content(490), None)]),
@@ -101,7 +107,7 @@ class Steps(Case):
     def test_needs_few_leads_if_lost_pictures_do_not_explain_a_step(self) -> None:
         for ticks, sure in ((-10800, -10800), (-1800, -1800), (-5400, -5400), (-3600, None),
                             (1800, 1800), (5400, 5400), (3600, None)):
-            leads, unusual, _ = survey_times(make_times({450: ticks}), jitter=2)
+            leads, unusual, _ = survey_times(make_times({450: ticks}), jitter=3)
             for has_clock in (True, False):
                 self.check(f"{ticks} {has_clock}", [size for _, size in self.locate(
                     leads, unusual, has_clock)], [sure if has_clock else None])
@@ -110,6 +116,37 @@ class Steps(Case):
             leads, unusual, _ = survey_times(make_times(dict.fromkeys(places, -1800), 2000))
             self.check(name, separate_clock_jumps(
                 leads, unusual, 2000, lambda several: True).departures, [])
+
+    def test_few_leads_show_that_pictures_moved(self) -> None:
+        rows: dict[str, tuple[list[int], list[int], list[int], bool]] = {
+            # leads in frames before a step, between the steps if there are two, and after it
+            "they moved": ([6] * 30, [], [5], True),
+            "a picture was lost": ([6] * 30, [], [6], False),
+            "two frames, a picture was lost": ([6] * 30, [], [4], False),
+            "either lead is usual": ([6, 7] * 15, [], [5], True),
+            "one of them": ([6, 7] * 15, [], [6], False),
+            "few before": ([6] * 5, [], [5], False),
+            "few before and after": ([6] * 5, [], [5] * 2, True),
+            "one before": ([6], [], [5] * 30, True), "none before": ([], [], [5] * 30, False),
+            "another delay since 5 s": ([6] * 25 + [5] * 5, [], [5] * 3, False),
+            "the delay stays for 10 s": ([6] * 10 + [7] * 10 + [6] * 10, [], [5], False),
+            ".. and has no such value": ([6] * 10 + [7] * 10 + [6] * 10, [], [5] * 9, True),
+            "one has another delay, the first": ([9] + [6] * 20, [], [5], True),
+            "leads vary by more": ([0, 3] * 15, [], [-1] * 3, False),
+            "away and back": ([6] * 20, [5], [6] * 20, True),
+            "lost, then sent twice": ([6] * 20, [6], [6] * 20, False),
+            "away and back, no lead": ([6] * 20, [], [6] * 20, False),
+            "away and back, no lead around": ([], [6], [], False)}
+        for (name, (before, between, after, expected)), ticks in itertools.product(
+                rows.items(), (TICKS, -TICKS)):
+            frames = [*before, *between, *after]
+            leads = [VideoLead(0, ticks * ahead, 25 * at) for at, ahead in enumerate(frames, 1)]
+            step = UnusualStep(25 * len(before) + 9, ticks, TICKS)
+            back = UnusualStep(step.number + 30 * max(len(between), 1) - 10, -ticks, TICKS)
+            steps = [step, back] if "away" in name or between else [step]
+            self.check(f"{name}, {ticks}", have_moved(leads, steps, steps), expected)
+            self.check(f"{name}, {ticks}, another", have_moved(
+                leads, steps, [*steps, UnusualStep(25 * len(frames), TICKS, TICKS)]), False)
 
     def test_the_teletext_shows_its_own_clock(self) -> None:
         def departures(*places: int, ticks: int = -10 * TICKS) -> list[Departure]:

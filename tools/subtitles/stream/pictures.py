@@ -7,9 +7,9 @@ import math
 import statistics
 from typing import Callable, Iterable, Mapping, NamedTuple, Sequence
 
-from ..common.times import TICKS, subtract_pts, wrap_pts
+from ..common.times import CLOCK, TICKS, subtract_pts, wrap_pts
 from .steps import (
-    ALIKE_TICKS, MAX_REORDER_TICKS, MIN_PICTURES, UnusualStep, find_clock_steps)
+    ALIKE_TICKS, MAX_REORDER_TICKS, MIN_PICTURES, UnusualStep, find_clock_steps, may_keep_delay)
 
 
 # Once a second `survey` prints the lead of Teletext: its PTS minus the decoding time of the last
@@ -19,7 +19,9 @@ from .steps import (
 # or both clocks were reset. If the lead changes without a step, the multiplexer changes its delay.
 #
 # A step that lost pictures do not explain is enough, if the Teletext PTS do not jump too (see
-# steps.py). The leads are compared without these steps.
+# steps.py). So is the only step, or pair of steps away and back, that they may explain, if a few
+# leads show that the pictures moved: these leads are usual only if they are moved back by the step.
+# The other leads are compared without these steps.
 #
 # Leads vary, because a multiplexer sends Teletext before or after a picture. So the mean leads
 # before and after a step are compared, with their standard error. Where steps are close together,
@@ -29,6 +31,8 @@ from .steps import (
 SAMPLE_SIZE = 30  # number of leads to compare on each side of a step
 MIN_LEADS = 20  # minimum number of leads on each side of a step to compare their extremes
 SIGNIFICANT_ERRORS = 2.5  # number of standard errors that a difference of means must exceed
+MIN_RATIO = 15  # how much more likely leads must be if pictures moved than if they did not
+NEAR_SIZE = 5  # number of leads next to a step that must not show another delay than those before
 # A lead that changes steadily may mean that two clocks drift apart. A multiplexer changes its delay
 # in another way.
 MIN_TREND_LEADS = 60  # minimum number of leads without a step to look for a steady change
@@ -73,8 +77,8 @@ class ClockJumps(NamedTuple):
 
 def separate_clock_jumps(leads: Sequence[VideoLead], unusual: Sequence[UnusualStep], count: int,
                          has_own_clock: Callable[[Sequence[Departure]], bool]) -> ClockJumps:
-    """Find the unusual steps, in a video with `count` pictures, that only a jump of the video's
-    clock explains. `has_own_clock` returns whether the Teletext PTS show that only the video jumps.
+    """Find the unusual steps, in a video with `count` pictures, that are jumps of the video's clock
+    for sure. `has_own_clock` returns whether the Teletext PTS show that only the video jumps.
     """
     departures, rest = list[Departure](), [*unusual]
     numbers = [lead.number for lead in leads]
@@ -84,7 +88,10 @@ def separate_clock_jumps(leads: Sequence[VideoLead], unusual: Sequence[UnusualSt
         earlier, later = max(at - 1, 0), min(end, len(leads) - 1)
         if not are_all_steps_known(leads[earlier], leads[later], rest, steps[0].usual):
             continue
-        size = measure_jump(leads, at, steps[0], unusual) if len(steps) == 1 else steps[0].ticks
+        if may_keep_delay(steps):
+            size = steps[0].ticks if have_moved(leads, steps, rest) else None
+        else:
+            size = measure_jump(leads, at, steps[0], unusual) if len(steps) == 1 else steps[0].ticks
         if size is None:
             continue
         sizes = [*zip(steps, (size, steps[-1].ticks))]
@@ -96,6 +103,44 @@ def separate_clock_jumps(leads: Sequence[VideoLead], unusual: Sequence[UnusualSt
             rest = [step for step in rest if step not in steps]
             leads = steady
     return ClockJumps(departures, leads, rest)
+
+
+def have_moved(leads: Sequence[VideoLead], steps: Sequence[UnusualStep],
+               unusual: Sequence[UnusualStep]) -> bool:
+    """Return whether the leads show that pictures move at a step, or away and back at two steps,
+    that lost pictures may explain. It is unclear if there are more such steps among `unusual`."""
+    if any(step.may_keep_delay and step not in steps for step in unusual):
+        return False
+    begin, end, ticks = steps[0].number, steps[-1].number, steps[0].ticks
+    first = max((step.number for step in unusual if step.number < begin), default=0)
+    last = min((step.number for step in unusual if step.number > end), default=CLOCK)
+    before = [lead.ticks for lead in leads if first <= lead.number < begin][-SAMPLE_SIZE:]
+    between = [lead.ticks for lead in leads if begin <= lead.number < end]
+    after = [lead.ticks for lead in leads if end <= lead.number < last][:SAMPLE_SIZE]
+    if len(steps) > 1:
+        moved, around, near = between, [*before, *after], [*before[-NEAR_SIZE:], *after[:NEAR_SIZE]]
+    elif len(before) >= len(after):
+        moved, around, near = after, before, before[-NEAR_SIZE:]
+    else:
+        moved, around, near, ticks = before, after, after[:NEAR_SIZE], -ticks
+    if sum_squares(around) > ticks ** 2 * len(around):
+        return False  # the leads vary by more than the step
+    usual = steps[0].usual
+    return compare_moves(moved, around, ticks, 0) >= math.log(MIN_RATIO) \
+        and compare_moves(moved, near, ticks, 0) > 0 \
+        and all(compare_moves(moved, around, ticks, other) >= 0
+                for other in (ticks - usual, ticks + usual))
+
+
+def compare_moves(moved: Sequence[int], around: Sequence[int], ticks: int, other: int) -> float:
+    """Return the logarithm of how much more likely the leads in `moved` are if pictures moved by
+    `ticks` than if they moved by `other`. `around` has usual leads."""
+    def count(value: int) -> int:
+        return 1 + sum(abs(value - lead) < ALIKE_TICKS for lead in around)
+    total = 2 * sum_squares(around)
+    changes = sum((after - before) ** 2 for before, after in zip([*around[-1:], *around], around))
+    share = min(1, changes / total) if total else 1  # less if leads stay the same for some time
+    return share * sum(math.log(count(lead + ticks) / count(lead + other)) for lead in moved)
 
 
 def are_all_steps_known(before: VideoLead, after: VideoLead, unusual: Sequence[UnusualStep],
@@ -347,7 +392,7 @@ def compare_means(before: Sequence[int], after: Sequence[int],
 
 def sum_squares(row: Sequence[int]) -> float:
     """Return the sum of the squared distances from the mean."""
-    mean = statistics.fmean(row)
+    mean = statistics.fmean(row) if row else 0
     return sum((item - mean) ** 2 for item in row)
 
 

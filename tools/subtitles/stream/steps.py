@@ -82,8 +82,9 @@ def find_unusual_steps(several: Sequence[StepRange], count: int) -> list[Unusual
 
 
 def find_clock_steps(unusual: Sequence[UnusualStep], count: int) -> list[Sequence[UnusualStep]]:
-    """Return the steps that only a jump of the video's clock explains, in a video with `count`
-    pictures: single steps, and pairs that lead away and back. Return none if there are many."""
+    """Return the steps that may be jumps of the video's clock, in a video with `count` pictures:
+    single steps, and pairs that lead away and back. First come those that nothing else explains;
+    return none if there are many. The last may be explained otherwise, if it is the only one."""
     found, at = list[Sequence[UnusualStep]](), 0
     while at < len(unusual):
         step, length = unusual[at], 1
@@ -95,11 +96,17 @@ def find_clock_steps(unusual: Sequence[UnusualStep], count: int) -> list[Sequenc
         after = unusual[at + length].number - steps[-1].number if at + length < len(unusual) \
             else least
         if step.is_sure and min(before, after) >= least and MIN_PICTURES < step.number \
-                and steps[-1].number + MIN_PICTURES <= count \
-                and not all(item.may_keep_delay for item in steps):
+                and steps[-1].number + MIN_PICTURES <= count:
             found.append(steps)
         at += length
-    return found if len(found) <= MAX_CLOCK_JUMPS else []
+    sure = [steps for steps in found if not may_keep_delay(steps)]
+    others = [steps for steps in found if may_keep_delay(steps)]
+    return [] if len(sure) > MAX_CLOCK_JUMPS else [*sure, *others] if len(others) == 1 else sure
+
+
+def may_keep_delay(steps: Sequence[UnusualStep]) -> bool:
+    """Return whether lost pictures, or pictures sent twice, explain all steps."""
+    return all(step.may_keep_delay for step in steps)
 
 
 def is_return(steps: Sequence[UnusualStep]) -> bool:
