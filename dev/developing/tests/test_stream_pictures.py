@@ -82,6 +82,8 @@ class PictureDepartures(Case):
         for lost in (0, 1, 2, 5, 12):
             self.check(f"{lost} lost", self.measure_step_ticks(
                 make_video_leads([6.0] * 40 + [6.0 - 50] * 40, {40: 50 + lost})), [50 * TICKS])
+        self.check("none lost, but few leads that vary", self.measure_step_ticks(
+            make_video_leads([6.0, 7, 6, 7, 6] * 8 + [8.0] * 2, {40: -1})), [-TICKS])
         self.check("50 lost alone",
                    self.measure_step_ticks(make_video_leads([6.0] * 80, {40: 50})), [])
 

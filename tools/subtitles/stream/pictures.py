@@ -414,8 +414,10 @@ def measure_departure(before: Sequence[int], after: Sequence[int], step: int,
         if abs(mean_change + ticks) + (0 if is_significant else error) < limit:
             return ticks
     if step and abs(mean_change) - error >= limit:
-        if abs(step + mean_change) <= min(limit + error, abs(step) / 4):
+        rest = step + mean_change
+        if abs(rest) <= min(limit + error, abs(step) / 4):
             return step
-        if 0 <= step + mean_change <= abs(mean_change) / 2:
-            return leave_out_lost(step, mean_change, usual)
+        if 0 <= rest <= abs(mean_change) / 2:
+            return step if rest - error < usual / 2 else \
+                leave_out_lost(step, mean_change, usual)
     return None
