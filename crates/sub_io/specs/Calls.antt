@@ -27,8 +27,9 @@ FillingEnds IsPull old room true new =
     ((room ≡ 0) × (new ≡ old)) ⊎ ((0 < room) × IsPull old room (Some 0) new)
 FillingEnds IsPull old room false new = (0 < room) × IsPull old room None new
 
--- The calls of `fill`: each call except the last offers the unfilled part of the buffer, and reads
--- n > 0 bytes.
+-- The calls of `fill`: each call offers the unfilled part of the buffer. The list holds the numbers
+-- of bytes read, each greater than 0. If the buffer is not full then, one more call returned 0
+-- bytes or failed.
 abbrev pub PullsInOrder :
     {D : Type 0} → (D → ℕ → Option ℕ → D → Type 0) → D → ℕ → List ℕ → Bool → D → Type 0
 PullsInOrder IsPull old room [] ok new = FillingEnds IsPull old room ok new
@@ -38,7 +39,8 @@ PullsInOrder {D} IsPull old room (n ∷ ns) ok new =
     × IsPull old room (Some n) mid
     × PullsInOrder IsPull mid (room - n) ns ok new
 
--- The calls of a source by which `fill` fills a buffer of `room` bytes.
+-- The calls of a source by which `fill` reads into a buffer of `room` bytes, until the buffer is
+-- full, the source ends or a call fails. `ok` is false if a call failed.
 pub record FillsByPulls
     {D : Type 0} (IsPull : D → ℕ → Option ℕ → D → Type 0)
     (old : D) (room : ℕ) (ok : Bool) (new : D)
@@ -55,8 +57,8 @@ abbrev pub PuttingEnds :
 PuttingEnds IsPush old bytes true new = (bytes ≡ []) × (new ≡ old)
 PuttingEnds IsPush old bytes false new = (0 < length bytes) × IsPush old bytes None new
 
--- The calls of `put_all`: each call except the last offers all remaining bytes, of which the sink
--- takes n.
+-- The calls of `put_all`: each call offers all remaining bytes. The list holds the numbers of bytes
+-- that the sink took. If bytes remain then, one more call failed.
 abbrev pub PushesInOrder :
     {D : Type 0}
     → (D → List ℕ → Option ℕ → D → Type 0) → D → List ℕ → List ℕ → Bool → D → Type 0
@@ -67,7 +69,8 @@ PushesInOrder {D} IsPush old bytes (n ∷ ns) ok new =
     × IsPush old bytes (Some n) mid
     × PushesInOrder IsPush mid (drop n bytes) ns ok new
 
--- The calls of a sink by which `put_all` writes all of `bytes`.
+-- The calls of a sink by which `put_all` writes `bytes`. If `ok` is true, the sink took all bytes.
+-- Otherwise the last call failed, and the calls before it took a prefix of the bytes, not all.
 pub record PutsByPushes
     {D : Type 0} (IsPush : D → List ℕ → Option ℕ → D → Type 0)
     (old : D) (bytes : List ℕ) (ok : Bool) (new : D)

@@ -14,7 +14,7 @@ is_never_stored InvalidInput = true
 is_never_stored Unsupported = true
 is_never_stored _ = false
 
--- The result of `sync_all` guarantees that no written byte is lost.
+-- `sync_all` succeeded, or it failed with an error of a file that stores nothing.
 abbrev pub loses_nothing : {X : Type 0} → Result X Error → Bool
 loses_nothing (Ok done) = true
 loses_nothing (Err error) = is_never_stored (error_kind error)

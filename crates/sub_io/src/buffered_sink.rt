@@ -297,7 +297,7 @@ impl<K: Close> Close for BufferedSink<'_, K> {
         answer
     }
 
-    /// Closes the inner sink. Discards buffered bytes.
+    /// Closes the inner sink, without writing the buffered bytes to it.
     fn close(&mut self)
         ensures call { ClosesInner K.is_close self.old self.new }
         ensures closed { K.is_closed self.new.device ≡ true }

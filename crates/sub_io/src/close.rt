@@ -35,7 +35,7 @@ impl<T: OpenFile> Store for T {
     }
 }
 
-// Returns whether the result of `sync_all` guarantees that no byte was lost.
+// Returns whether `sync_all` succeeded, or failed with an error of a file that stores nothing.
 fn is_saved(answer: io::Result<()>) -> bool
     ensures { result ≡ loses_nothing answer }
 {
