@@ -277,7 +277,7 @@ impl Options {
         if self.within == 0 {
             exact_frame(self.origin, pts)
         } else {
-            nearest_frame(self.origin, pts)
+            frame_including_pts(self.origin, pts)
         }
     }
 }
@@ -303,7 +303,7 @@ fn exact_frame(origin: u64, pts: u64) -> Option<u32>
 
 // Returns the frame of the day whose ticks include this PTS; they begin 900 ticks before the
 // frame's own PTS.
-fn nearest_frame(origin: u64, pts: u64) -> Option<u32>
+fn frame_including_pts(origin: u64, pts: u64) -> Option<u32>
     requires { origin < 2 ^ 33 }
     ensures { result ≡ frame_with_tolerance origin pts }
 {

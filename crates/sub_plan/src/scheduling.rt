@@ -8,7 +8,7 @@ ghost use Rattle.sub_plan.specs.Fault.{is_plan_write_failure};
 ghost use Rattle.sub_plan.specs.declared.fault.PlanFault.TheVariants.{NoSubtitles};
 ghost use Rattle.stl_file.specs.TimeCode.{day};
 ghost use Rattle.sub_plan.specs.Schedule.{due_page_in, plan, plan_frames, sendings, sendings_at};
-ghost use Rattle.sub_plan.specs.Steps.{packets_at, steps};
+ghost use Rattle.sub_plan.specs.Steps.{pes_packet_bytes_at, steps};
 
 use crate::fault::PlanFault;
 use crate::options::Options;
@@ -30,15 +30,15 @@ fn put_at<K: Sink>(
     requires few { length packets.now ≤ 32 }
     requires count { CanFail (K.failure_count sink.old) }
     ensures bytes { Writes (K.contents sink.old) (K.contents sink.new)
-        (packets_at options.now.origin packets.now frame) result }
+        (pes_packet_bytes_at options.now.origin packets.now frame) result }
     ensures count { CountsFailure (K.failure_count sink.old) result (K.failure_count sink.new) }
 {
     let mut repeated_sending = RepeatedPacket::from_packets(packets);
-    repeat_at(sink, options, frame, &mut repeated_sending)
+    put_packet_at(sink, options, frame, &mut repeated_sending)
 }
 
 // Writes a page transmission at a frame, repeated from an earlier frame.
-fn repeat_at<K: Sink>(
+fn put_packet_at<K: Sink>(
     sink: &mut K,
     options: &Options,
     frame: u32,
@@ -48,7 +48,7 @@ fn repeat_at<K: Sink>(
     requires count { CanFail (K.failure_count sink.old) }
     ensures bytes { (packets : List (List ℕ)) → packet.old.units ≡ numbered_units 0 packets
         → Writes (K.contents sink.old) (K.contents sink.new)
-        (packets_at options.now.origin packets frame) result }
+        (pes_packet_bytes_at options.now.origin packets frame) result }
     ensures units { packet.new.units ≡ packet.old.units }
     ensures count { CountsFailure (K.failure_count sink.old) result (K.failure_count sink.new) }
 {
@@ -80,7 +80,8 @@ fn send_steps<K: Sink>(
     ensures few { IfOk result (λ n. n ≤ end - from) }
     ensures number { IfOk result (λ n. n ≡ length (steps options.now.every from end)) }
     ensures bytes { Writes (K.contents sink.old) (K.contents sink.new) (flat_map
-        (packets_at options.now.origin packets.now) (steps options.now.every from end)) result }
+        (pes_packet_bytes_at options.now.origin packets.now)
+        (steps options.now.every from end)) result }
     ensures count { CountsFailure (K.failure_count sink.old) result (K.failure_count sink.new) }
 {
     let every = repeat_interval(options);
@@ -88,7 +89,7 @@ fn send_steps<K: Sink>(
     let mut frame = from;
     let mut count = 0;
     while frame < end {
-        repeat_at(sink, options, frame, &mut packet)?;
+        put_packet_at(sink, options, frame, &mut packet)?;
         count += 1;
         frame += every;
     }

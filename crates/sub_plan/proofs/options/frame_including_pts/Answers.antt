@@ -3,7 +3,7 @@
 use Rattle.std.proofs.Common.{arith}
 use Rattle.std.proofs.lemmas.Bool.Decides.{nat_tests}
 use Rattle.sub_plan.specs.FrameTime.{frame_with_tolerance}
-use Rattle.sub_plan.proofs.options.nearest_frame.Goals as goal
+use Rattle.sub_plan.proofs.options.frame_including_pts.Goals as goal
 
 pub returns-then-pts-ge-PTS_END : goal.returns-then-pts-ge-PTS_END
 unfolding frame_with_tolerance
