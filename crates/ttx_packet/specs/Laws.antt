@@ -59,7 +59,8 @@ pub record IsEncodedHeader (magazine : ℕ) (h : Header) (packet : List ℕ) : T
   pub exact : HasExactCodeWords packet
   pub odd : HasOddHeaderText packet
 
--- Decoding a created header packet returns the original header.
+-- Decoding a packet that was created from a header returns that header, if a page header can carry
+-- all its bits (`IsHeader`). The coded bytes are code words, and the text bytes have odd parity.
 abbrev pub LawOfHeaderPacket : Type 0
 LawOfHeaderPacket =
     (magazine : ℕ) (h : Header)

@@ -108,14 +108,12 @@ header packet = do
   a ← address packet
   if a.packet_number == 0 then coded_header packet else None
 
--- The eight coded bytes of the page header, bytes 2 to 9, are Hamming 8/4 code words, so without a
--- wrong bit.
+-- The eight coded bytes of the page header, bytes 2 to 9, are Hamming 8/4 code words.
 abbrev pub HasExactHeader : List ℕ → Type 0
 HasExactHeader packet =
     (place : ℕ) → 2 ≤ place → place < 10 → IsCodeWord (slice_index packet place)
 
--- The two bytes of the page number, bytes 2 and 3 of a page header, are Hamming 8/4 code words, so
--- without a wrong bit.
+-- The two bytes of the page number, bytes 2 and 3 of a page header, are Hamming 8/4 code words.
 abbrev pub HasExactPage : List ℕ → Type 0
 HasExactPage packet = IsCodeWord (slice_index packet 2) × IsCodeWord (slice_index packet 3)
 
