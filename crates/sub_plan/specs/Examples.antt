@@ -18,8 +18,8 @@ abbrev pub header_of_888_with_last_coded_byte : ℕ → List ℕ
 header_of_888_with_last_coded_byte last =
     (0x15 ∷ 0x15 ∷ 0xD0 ∷ 0xD0 ∷ 0x15 ∷ 0xD0 ∷ 0x15 ∷ 0xD0 ∷ 0x02 ∷ last ∷ []) ++ replicate 32 0x20
 
--- The header of page 888 with a national option ends with these coded bytes in parallel and in
--- serial mode. The last coded byte has C11 to C14 as its four data bits.
+-- The last coded byte of the header of page 888 with a national option is `parallel` in parallel
+-- mode and `serial` in serial mode. Its four data bits are C11 to C14.
 abbrev pub HasLastCodedByte : National → ℕ → ℕ → Type 0
 HasLastCodedByte national parallel serial =
     (header_packet 0 (watched_header page_888 national false)

@@ -36,9 +36,9 @@ LawOfSending =
     → IsCell row column
     → shown w (before ++ sending w national serial page) row column ≡ cell page row column
 
--- A packet of a page transmission: 42 bytes; all code words without a wrong bit; in each header,
--- C11 as the transmission mode requires; and any header of the page is the header of this
--- transmission.
+-- A packet of a page transmission: 42 bytes; in the address bytes and in the coded bytes of a
+-- header, code words without a wrong bit; in each header, C11 as the transmission mode requires;
+-- and any header of the page is the header of this transmission.
 pub record IsSentPacket
     (w : PageIdValue) (national : National) (serial : Bool) (packet : List ℕ) : Type 0 where
   pub whole : IsPacket packet

@@ -15,8 +15,9 @@ pub fn law_of_sending()
     ensures { LawOfSending }
 {}
 
-/// Each packet of a page transmission is complete, consists of code words, and has C11 as the
-/// transmission mode requires. Its only header of the page is the header of the transmission.
+/// Each packet of a page transmission has 42 bytes, its address bytes and the coded bytes of a
+/// header are code words without a wrong bit, and each header has C11 as the transmission mode
+/// requires. Its only header of the page is the header of the transmission.
 pub fn law_of_sent_packets()
     ensures { LawOfSentPackets }
 {}

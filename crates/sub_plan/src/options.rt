@@ -135,7 +135,7 @@ impl Options {
     }
 
     /// Also requires complete pages: at the end of each frame, a later header has ended the page,
-    /// since decoders show a page only after that header.
+    /// since some decoders show a page only after that header.
     pub fn asking_complete(self) -> Options
         ensures { result ≡ record self { asks_complete = true } }
     {
@@ -182,7 +182,8 @@ impl Options {
     }
 
     /// Also requires that PES packets are at most this many frames apart, 1 to 2,160,000, a day. So
-    /// every loss of PES packets is detected, even a long one.
+    /// a loss that leaves two PES packets further apart is detected, even if so many TS packets are
+    /// missing that their continuity counter shows no gap.
     ///
     /// # Errors
     ///

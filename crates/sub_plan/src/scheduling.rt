@@ -37,7 +37,7 @@ fn put_at<K: Sink>(
     put_packet_at(sink, options, frame, &mut repeated_sending)
 }
 
-// Writes a page transmission at a frame, repeated from an earlier frame.
+// Writes a page transmission as a PES packet with the PTS of a frame.
 fn put_packet_at<K: Sink>(
     sink: &mut K,
     options: &Options,
