@@ -44,8 +44,8 @@ use Rattle.sub_rules.specs.declared.active_faults.ActiveFaults.{ActiveFaults}
 unfoldable pub end_rules : List EndRule
 end_rules = end.Content ∷ end.Gap ∷ end.Incomplete ∷ end.Undecided ∷ end.Silent ∷ []
 
--- The place of a broken rule that concerns the entire page: (0, 0), which is no cell. `None` if the
--- rule is not broken.
+-- The place of a broken rule that concerns the entire frame instead of one cell of the page: (0,
+-- 0), which is no cell. `None` if the rule is not broken.
 abbrev pub entire_frame_place : Bool → Option (ℕ × ℕ)
 entire_frame_place true = Some (0, 0)
 entire_frame_place false = None
@@ -76,8 +76,8 @@ first_cell test =
     (λ above. option_map (λ column. (above + 1, column)) (first_below 40 (test (above + 1))))
     (first_below 24 (λ above. is_some (first_below 40 (test (above + 1)))))
 
--- After these packets, the cell is right: `IsRight` as a test. A cell with the expected printing
--- code is wrong if its row was not sent since the last header.
+-- After these packets, the cell is right: `IsRight` as a test. A cell whose expected code is not a
+-- space is wrong if its row was not sent since the last header of the page.
 abbrev pub is_right_cell : Bool → PageIdValue → List (List ℕ) → Rows → ℕ → ℕ → Bool
 is_right_cell keeps page packets due row column =
     kept keeps page packets row column == cell due row column

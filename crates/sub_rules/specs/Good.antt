@@ -105,7 +105,8 @@ ShowsDuePages programme page transmission =
     → shown page (on_air_until transmission f) row column ≡ cell (due_page_in programme f) row
     column
 
--- Rules 1 to 6 of a good transmission, which concern everything except the displayed text.
+-- Rules 1 to 6 of a good transmission, which concern everything except the displayed text, and the
+-- limit for the interval between PES packets, if the options have one.
 pub record KeepsRules
     (programme : ProgrammeValue) (transmission : Transmission) (options : OptionsValue)
     : Type 0 where
@@ -135,11 +136,12 @@ pub record KeepsRules
   -- The interval between PES packets is within the limit of the options, if they have one.
   pub paced : KeepsPace options.pace transmission
 
--- A transmission of these subtitles is good if it keeps all seven rules.
+-- A transmission of these subtitles is good if it keeps all seven rules and the limit for the
+-- interval between PES packets, if the options have one.
 pub record Good
     (programme : ProgrammeValue) (transmission : Transmission) (options : OptionsValue)
     : Type 0 where
-  -- Rules 1 to 6 of a good transmission.
+  -- Rules 1 to 6 of a good transmission, and the limit for the interval between PES packets.
   pub rules : KeepsRules programme transmission options
   -- Rule 7: at the end of each frame, the expected page is shown.
   pub content : ShowsDuePages programme options.page transmission

@@ -35,8 +35,8 @@ pub record IsRight
   pub kept_eq : kept keeps page packets row column ≡ cell due row column
   pub again : cell due row column ≢ space → IsTrue (has_row page packets row)
 
--- If each header of the page has C4 (erase page) set, a cell is correct if and only if it shows the
--- expected code, as `Good` requires.
+-- If each header of the page must have C4 (erase page) set, a cell is correct if and only if it
+-- shows the expected code, as `Good` requires.
 abbrev pub LawOfRightCells : Type 0
 LawOfRightCells =
     (page : PageIdValue) (packets : List (List ℕ)) (due : Rows) (row column : ℕ)

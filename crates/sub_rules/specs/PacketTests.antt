@@ -68,7 +68,9 @@ abbrev pub is_same_subcode : Option Header → Header → Bool
 is_same_subcode None h = true
 is_same_subcode (Some last) h = h.subcode == last.subcode
 
--- The header h of the page repeats the page that was sent before: `IsRepeat` as a test.
+-- The header h counts as a repeat of the page, `IsRepeat` as a test: it has the sub-code of the
+-- page's previous header, if there is one; and if complete pages are required, the page is not
+-- open.
 abbrev pub repeats_page : Bool → PageIdValue → List (List ℕ) → Header → Bool
 repeats_page complete page before h =
     is_same_subcode (last_header page before) h

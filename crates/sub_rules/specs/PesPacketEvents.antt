@@ -129,7 +129,8 @@ steps_of_each g sent pes (Skipped u ∷ pes_packets) =
     AtPes pes ∷ Emits (Reported (unread_fault pes (Some u)))
     ∷ steps_of_each g sent (suc pes) pes_packets
 
--- The events of a file without frames: the reason why the rest of the file cannot be read.
+-- The events at the end of a file that has PES packets but no frames: the reason why the rest of
+-- the file cannot be read, if it cannot.
 abbrev pub unread_fault_events : ℕ → Option UnreadReason → List Event
 unread_fault_events pes None = []
 unread_fault_events pes (Some u) = Reported (unread_fault pes (Some u)) ∷ []

@@ -64,7 +64,8 @@ KeepsDueCodes keeps programme transmission options a b =
 
 -- ---- good transmissions if repeats may have C4 (erase page) clear
 
--- Rules 1 to 6 of a good transmission. `keeps` says whether repeats may have C4 (erase page) clear.
+-- Rules 1 to 6 of a good transmission, and the limit for the interval between PES packets, if the
+-- options have one. `keeps` says whether repeats may have C4 (erase page) clear.
 pub record KeepsRulesWithRepeats
     (keeps : Bool) (programme : ProgrammeValue) (transmission : Transmission)
     (options : OptionsValue)

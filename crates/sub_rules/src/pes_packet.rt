@@ -38,8 +38,9 @@ pub enum NextPesPacket {
 ///
 /// # Errors
 ///
-/// Returns `Pes` with `Truncated`, `Start`, `Length` or `TooMany` if the next bytes are no PES
-/// packet, and with `Read` if the source fails.
+/// Returns `Pes` with `Truncated`, `Start` or `Length` if the next bytes are no PES packet, with
+/// `TooMany` if bytes follow after as many PES packets as a day has frames, and with `Read` if the
+/// source fails.
 #[inline(always)]
 pub fn next_pes_packet<P: PesPackets>(
     reader: &mut ComparingReader,
