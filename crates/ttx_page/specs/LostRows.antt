@@ -46,8 +46,8 @@ IsHitOrLost w sent arrivals row column =
 
 -- The law of noise if packets other than page headers are lost, and the other packets have at most
 -- one wrong bit in each byte. A cell of a lost row counts as hit. In receivers that drop rows, one
--- hit byte counts as a hit of all cells of its row. So noise never puts a wrong character on the
--- screen, even if packets are lost.
+-- hit byte counts as a hit of all cells of its row. So noise never puts a wrong character into the
+-- decoded page, even if packets are lost.
 abbrev pub LawOfLostRows : Type 0
 LawOfLostRows =
     (class : ReceiverClass) (w : PageIdValue) (sent : List (List ℕ)) (arrived : List Bool)
@@ -63,8 +63,8 @@ LawOfLostRows =
 
 -- ---- the law of noise as a special case
 
--- If every packet arrives, the received packets and the hit cells are the same as in the law of
--- noise.
+-- The received packets and the hit cells are the same as in the law of noise, as they are if every
+-- packet arrives.
 pub record LosesNothing (w : PageIdValue) (sent : List (List ℕ)) (arrived : List Bool)
     : Type 0 where
   pub kept : items_where_true arrived sent ≡ sent

@@ -39,7 +39,7 @@ HasSameCodes w first second =
 
 -- The sent packets are well-formed, as the law of noise requires.
 pub record IsSound (w : PageIdValue) (sent : List (List ℕ)) : Type 0 where
-  -- Addresses and page headers consist of code words, so without a wrong bit.
+  -- Addresses and page headers consist of code words.
   pub exact : All HasExactCodeWords sent
   -- Each header of the page has C4, erase page, set.
   pub erases : All (ErasesPage w) sent
@@ -67,9 +67,10 @@ pub record EndsWithShownText
       → (cell new.page row column ≡ shown w sent row column)
       ⊎ ((cell new.page row column ≡ space) × IsExcused row column)
 
--- If each byte has at most one wrong bit, every receiver receives the page if a header of the page
--- was sent. Each cell then has the sent code, or a space if its byte had a wrong bit. So noise
--- never puts a wrong character on the screen.
+-- The law of noise, for well-formed packets with at most one wrong bit in each byte and every
+-- receiver that had received no header of the page before. If a header of the page was sent, each
+-- cell has the sent code, or is a space if its byte had a wrong bit. So noise never puts a wrong
+-- character into the decoded page.
 abbrev pub LawOfNoise : Type 0
 LawOfNoise =
     (w : PageIdValue) (sent got : List (List ℕ)) (old new : State)
@@ -80,8 +81,10 @@ LawOfNoise =
     → Hears w old got new
     → EndsWithShownText w sent (IsHit w sent got) new
 
--- Without wrong bits, each cell of a receiver has the code that the packets show, whatever the page
--- contained before and whatever the receiver does at bytes of even parity.
+-- If well-formed packets arrive without wrong bits at a receiver that had received no header of the
+-- page before, and one of them is a header of the page, each cell has the code that the packets
+-- show. What the page contained before and what the receiver does at bytes of even parity has no
+-- effect.
 abbrev pub LawWithoutNoise : Type 0
 LawWithoutNoise =
     (w : PageIdValue) (sent : List (List ℕ)) (old new : State)

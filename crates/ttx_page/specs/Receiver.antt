@@ -100,8 +100,8 @@ HearsLeaving leaves w old packets new = RunsBy (StepLeaving leaves w) old packet
 
 -- ---- two classes of receivers
 
--- The two classes of receivers in the laws: receivers that store the odd bytes of each row, and
--- receivers that drop a row with a byte of even parity.
+-- The two classes of receivers in the laws: receivers that store the bytes of odd parity of each
+-- row, and receivers that drop a row with a byte of even parity.
 pub data ReceiverClass : Type 0 where
   Storing : ReceiverClass
   Dropping : ReceiverClass

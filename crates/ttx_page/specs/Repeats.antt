@@ -98,11 +98,12 @@ HasCodes w text packet =
     → column < 40
     → character_code (text_byte packet column) ≡ text row column
 
--- The packets send this text, in the form that the law of repeats requires.
+-- The packets have the form that the law of repeats requires, and each row of the page sent in the
+-- transmissions of the current text has the codes of the text. Rows may be missing.
 pub record SendsText
     (keeps : Bool) (w : PageIdValue) (sent : List (List ℕ)) (text : ℕ → ℕ → ℕ)
     : Type 0 where
-  -- Addresses and page headers consist of code words, so without a wrong bit.
+  -- Addresses and page headers consist of code words.
   pub exact : All HasExactCodeWords sent
   -- If repeats must not keep earlier text, each header of the page has C4, erase page, set.
   pub erases : IsFalse keeps → All (ErasesPage w) sent
@@ -154,9 +155,9 @@ pub record EndsAfterRepeats
   pub is_open :
       IsTrue (has_page_header (kind w) sent || not old.is_open)
       → new.is_open ≡ is_open_after (kind w) sent
-  -- If the page does not depend on its earlier contents, each cell has the code of the text, or is
-  -- a space if `IsExcused` is true for it or the last transmission of the page has no packet of its
-  -- row.
+  -- If a header of the page was sent and the page does not depend on its earlier contents, each
+  -- cell has the code of the text, or is a space if `IsExcused` is true for it or the last
+  -- transmission of the page has no packet of its row.
   pub cells :
       IsTrue (has_page_header (kind w) sent)
       → IsFresh keeps anew w sent old
@@ -168,7 +169,7 @@ pub record EndsAfterRepeats
 -- The law of repeats: the final state of every receiver that may blank cells at a repeat, if
 -- packets other than page headers are lost, and the other packets have at most one wrong bit in
 -- each byte. So a repeat without C4, erase page, repairs cells that noise has hit, and puts no
--- wrong character on the screen.
+-- wrong character into the decoded page.
 abbrev pub LawOfRepeats : Type 0
 LawOfRepeats =
     (keeps anew : Bool) (class : ReceiverClass) (w : PageIdValue) (sent : List (List ℕ))
@@ -180,8 +181,9 @@ LawOfRepeats =
     → EndsAfterRepeats keeps anew w sent text
     (ExcusedBy class (IsHitOrLost w sent (arrivals_from_flags arrived got))) old new
 
--- Without wrong bits, a receiver that keeps its page at repeats has the codes of `kept`, if the
--- page does not depend on its earlier contents.
+-- If packets of the form that the law of repeats requires arrive without wrong bits, a receiver
+-- that keeps its page at repeats has the codes of `kept`, if the page does not depend on its
+-- earlier contents.
 abbrev pub LawOfKeptText : Type 0
 LawOfKeptText =
     (keeps : Bool) (w : PageIdValue) (sent : List (List ℕ)) (old new : State)

@@ -36,7 +36,7 @@ impl Model for Page {
 }
 
 impl Page {
-    /// Returns the blank page, to which C4, erase page, sets a page: each cell has code 20, a
+    /// Returns the blank page, to which C4, erase page, sets a page: each cell has code 0x20, a
     /// space.
     #[tactic(auto, unfolding(crate::specs::Page::blank, crate::specs::Page::blank_row))]
     pub fn blank() -> Page
