@@ -1,7 +1,7 @@
 -- The end of a run of the program: with the answer to a request, or with a fault of the arguments.
 use Rattle.std.specs.Prelude.{◌≡◌, ◌⊎◌, ℕ, List, [], Option, None, Result, Ok, Err, false}
 use Rattle.clap.specs.Words.{Text}
-use Rattle.sub_io.specs.Buffered.{BufferState}
+use Rattle.sub_io.specs.Buffered.{BufferedSinkValue}
 use Rattle.sub_files.specs.FileCalls.{FileCall}
 use Rattle.sub_files.specs.Opening.{OpensWithCalls}
 use Rattle.sub_request.specs.Files.{files_of_request}
@@ -74,13 +74,13 @@ pub record RunsProgram
     (IsPush : K → List ℕ → Option ℕ → K → Type 0) (output left : K) (code : ℕ)
     : Type 0 where
   pub room : ℕ
-  pub new : BufferState K
+  pub new : BufferedSinkValue K
   pub left_eq : left ≡ new.device
   pub status : Status
   pub code_eq : code ≡ exit_code status
   -- The program answers its arguments, unless memory runs out before they are read.
   pub ends :
-      (let old : BufferState K =
+      (let old : BufferedSinkValue K =
       record { device = output; buffered = []; room = room; failed = false; refused = 0 } in
       let EndsSo = RunEnds AreMade known IsClose given
       (BufferHoldsOneLineOnly contents failure_count IsPush) (state_of_buffer contents failure_count

@@ -4,7 +4,7 @@
 use Rattle.std.specs.Prelude.{◌≡◌, ◌≢◌, ℕ, ◌-◌, ◌<◌, ◌≤◌, ◌⊎◌, Bool, true, false, min}
 use Rattle.std.specs.Prelude.{List, [], ◌∷◌, ◌++◌, length, take, drop}
 use Rattle.std.specs.Prelude.{Option, Some, None, option_map, Result, Ok, Err}
-use Rattle.sub_io.specs.Buffered.{BufferState, ReadAhead}
+use Rattle.sub_io.specs.Buffered.{BufferedSinkValue, BufferedSourceValue}
 use Rattle.sub_io.specs.Countdown.{CountingDown, fails_next, countdown_after}
 
 -- The number of bytes transferred by a call of a device; `None` if the call failed.
@@ -82,7 +82,7 @@ pub record PutsByPushes
 
 -- A call of a test device that makes one call fail: the failing call is not forwarded to the inner
 -- device, and every other call is forwarded unchanged.
-pub record Forwards
+pub record ForwardsUnlessFailing
     {D L : Type 0} (IsCall : D → L → Option ℕ → D → Type 0)
     (old : CountingDown D) (call_argument : L) (answer : Option ℕ) (new : CountingDown D)
     : Type 0 where
@@ -91,9 +91,9 @@ pub record Forwards
   pub left : new.left ≡ countdown_after old.left
 
 -- A pull of `count` bytes from a buffered source.
-pub record ReadsAhead
+pub record PullsBuffered
     {D : Type 0} (IsPull : D → ℕ → Option ℕ → D → Type 0)
-    (old : ReadAhead D) (count : ℕ) (answer : Option ℕ) (new : ReadAhead D)
+    (old : BufferedSourceValue D) (count : ℕ) (answer : Option ℕ) (new : BufferedSourceValue D)
     : Type 0 where
   -- If bytes are buffered, the pull does not call the inner source.
   pub buffered : old.buffered ≢ [] → new.device ≡ old.device
@@ -112,8 +112,8 @@ pub record ReadsAhead
       × (answer ≡ option_map (λ n. min n count) got)
 
 -- `left` is `bytes` without some prefix.
-abbrev pub AreRemainderOf : List ℕ → List ℕ → Type 0
-AreRemainderOf bytes left = (taken : List ℕ) × (bytes ≡ taken ++ left)
+abbrev pub HasRemainder : List ℕ → List ℕ → Type 0
+HasRemainder bytes left = (taken : List ℕ) × (bytes ≡ taken ++ left)
 
 -- The bytes written by a push: a prefix of the offered bytes, or none if the push failed.
 abbrev pub accepted_prefix : List ℕ → Option ℕ → List ℕ
@@ -125,13 +125,13 @@ accepted_prefix bytes (Some n) = take n bytes
 -- is forwarded to the inner sink, and a shorter push is buffered.
 pub record FlushesFull
     {D : Type 0} (IsPush : D → List ℕ → Option ℕ → D → Type 0)
-    (old : BufferState D) (bytes : List ℕ) (answer : Option ℕ) (new : BufferState D)
+    (old : BufferedSinkValue D) (bytes : List ℕ) (answer : Option ℕ) (new : BufferedSinkValue D)
     : Type 0 where
   pub ok : Bool
   pub mid : D
   pub flushed : PutsByPushes IsPush old.device old.buffered ok mid
   pub failed :
-      ok ≡ false → (answer ≡ None) × (new.device ≡ mid) × AreRemainderOf old.buffered new.buffered
+      ok ≡ false → (answer ≡ None) × (new.device ≡ mid) × HasRemainder old.buffered new.buffered
   pub writes_device_directly :
       ok ≡ true
       → old.room ≤ length bytes
@@ -145,7 +145,7 @@ pub record FlushesFull
 -- afterwards.
 pub record PushesBuffered
     {D : Type 0} (IsPush : D → List ℕ → Option ℕ → D → Type 0)
-    (old : BufferState D) (bytes : List ℕ) (answer : Option ℕ) (new : BufferState D)
+    (old : BufferedSinkValue D) (bytes : List ℕ) (answer : Option ℕ) (new : BufferedSinkValue D)
     : Type 0 where
   -- After a failure of the inner sink, a push does not call it and does not change the buffer.
   pub refused :

@@ -8,7 +8,7 @@ mod arguments;
 mod in_memory;
 
 ghost use Rattle.std.specs.Prelude.{◌≡◌, IfErr, IfOk};
-ghost use Rattle.sub_io.specs.Buffered.{failures_with_refused_writes};
+ghost use Rattle.sub_io.specs.Buffered.{failures_with_refused_calls};
 ghost use Rattle.sub_answer.specs.Ending.{BufferHoldsOneLineOnly, file_observations};
 ghost use Rattle.sub_answer.specs.Ending.{state_of_buffer};
 ghost use Rattle.sub_files.specs.FileCalls.{CallsInOrder};
@@ -201,7 +201,7 @@ fn answer_or_print_fault<D: FileSystem, K: Sink>(
     files: &mut D,
     out: &mut BufferedSink<'_, K>,
 ) -> Status
-    requires { failures_with_refused_writes (K.failure_count out.old.device) out.old.refused ≡ 0 }
+    requires { failures_with_refused_calls (K.failure_count out.old.device) out.old.refused ≡ 0 }
     ensures { RunEnds (CallsInOrder D.is_call files.old files.new)
         (file_observations D.Input.remaining D.Input.failure_count
         D.Output.contents D.Output.failure_count D.Output.is_stored)
@@ -227,7 +227,7 @@ fn answer_parsed_arguments<D: FileSystem, K: Sink>(
     files: &mut D,
     out: &mut BufferedSink<'_, K>,
 ) -> Result<Status, UsageFault>
-    requires { failures_with_refused_writes (K.failure_count out.old.device) out.old.refused ≡ 0 }
+    requires { failures_with_refused_calls (K.failure_count out.old.device) out.old.refused ≡ 0 }
     ensures ends { IfOk result (RunAnswers (CallsInOrder D.is_call files.old files.new)
         (file_observations D.Input.remaining D.Input.failure_count
         D.Output.contents D.Output.failure_count D.Output.is_stored)

@@ -27,13 +27,13 @@ use denote.Triple.Spec.{Meets, triple_of}
 use denote.Triple.Table.{entered}
 use denote.Triple.Walked.{says, stay_none_ref, Stays, walk_of, Walks, ends_at, walked}
 use denote.Triple.Walked.{Goes-none_ref, walk_Meets}
-use Rattle.sub_io.specs.contracts.taken.ConsumedBytes.and.Key.{name as key}
-use Rattle.sub_io.specs.contracts.taken.ConsumedBytes.and as f
-use Rattle.sub_io.proofs.taken.ConsumedBytes.and.Statement as stated
-use Rattle.sub_io.proofs.taken.ConsumedBytes.and.Code as code
-use Rattle.sub_io.specs.contracts.taken.ConsumedBytes as trail
-use Rattle.sub_io.specs.contracts.taken.BorrowedChunk as name
-use Rattle.sub_io.specs.declared.taken.ConsumedBytes.{ConsumedBytes}
+use Rattle.sub_io.specs.contracts.taken.WrittenBytes.and.Key.{name as key}
+use Rattle.sub_io.specs.contracts.taken.WrittenBytes.and as f
+use Rattle.sub_io.proofs.taken.WrittenBytes.and.Statement as stated
+use Rattle.sub_io.proofs.taken.WrittenBytes.and.Code as code
+use Rattle.sub_io.specs.contracts.taken.WrittenBytes as trail
+use Rattle.sub_io.specs.contracts.taken.WrittenChunk as name
+use Rattle.sub_io.specs.declared.taken.WrittenBytes.{WrittenBytes}
 
 abbrev stayed : Stays (f.ended).signature.params (f.ended).kept
 stayed = (
@@ -62,7 +62,7 @@ module _
     abbrev skipped : Fml
     skipped = owns (types_at f.signature.params κs) a (before ∷ [], (appended_value ∷ [], tt))
 
-    abbrev joined : ConsumedBytes
+    abbrev joined : WrittenBytes
     joined = record { bytes = a.0.now.bytes ++ a.1.0.now.bytes.now }
 
     walk : ent 𝓤 (on_entry 𝓛 f.signature κs qs a (before ∷ [], (appended_value ∷ [], tt)))

@@ -20,11 +20,11 @@ use denote.Triple.Entry.{on_entry, alive}
 use denote.Triple.Spec.{Meets, triple_of}
 use denote.Triple.Table.{entered}
 use denote.Triple.Walked.{says, Stays, walk_of, Walks, ends_at, walked, walk_Meets}
-use Rattle.sub_io.specs.contracts.taken.ConsumedBytes.nothing.Key.{name as key}
-use Rattle.sub_io.specs.contracts.taken.ConsumedBytes.nothing as f
-use Rattle.sub_io.proofs.taken.ConsumedBytes.nothing.Statement as stated
-use Rattle.sub_io.proofs.taken.ConsumedBytes.nothing.Code as code
-use Rattle.sub_io.specs.contracts.taken.ConsumedBytes as made
+use Rattle.sub_io.specs.contracts.taken.WrittenBytes.nothing.Key.{name as key}
+use Rattle.sub_io.specs.contracts.taken.WrittenBytes.nothing as f
+use Rattle.sub_io.proofs.taken.WrittenBytes.nothing.Statement as stated
+use Rattle.sub_io.proofs.taken.WrittenBytes.nothing.Code as code
+use Rattle.sub_io.specs.contracts.taken.WrittenBytes as made
 
 abbrev stayed : Stays (f.ended).signature.params (f.ended).kept
 stayed = tt
