@@ -18,17 +18,17 @@ use ttx_page::{Page, count_differing_columns};
 
 /// The page that the packets show, the expected page, and the number of wrong cells.
 ///
-/// After the expected page has changed, the number is unknown until the next header. From then on,
-/// each row updates it.
+/// After the expected page has changed, the number is unknown until the next header that erases the
+/// page. From then on, each row updates it.
 #[derive(Drop)]
 pub struct Comparison {
     page: Page,
     due: Page,
     // The number of wrong cells, 0 to 960. `None` if the expected page has changed since the last
-    // header; usually a header comes before the number is needed.
+    // header that erased the page; usually such a header comes before the number is needed.
     wrong: Option<u16>,
     // The number of cells in which a blank page differs from the expected page, which is the value
-    // of `wrong` after a header.
+    // of `wrong` after a header that erases the page.
     blank_page_difference_count: u16,
 }
 
