@@ -62,7 +62,8 @@ sent_frame_of sending units = record { frame = sending.frame; packets = packets_
 --   within            the number of frames within which the page must become correct
 --   pace              the longest interval between PES packets in frames, if it is limited
 --   listener          the page that the packets show, and the expected page of `frame`
---   first, latest     the frame of the first PES packet, and the greatest frame number so far
+--   first             the frame of the first PES packet
+--   latest_frame      the greatest frame number so far
 --   frame             the current frame
 --   last              the frame that was ended last
 --   active_faults     the faults that were active at its end
@@ -108,7 +109,7 @@ checker_at_first f c = record (at_frame f c) {
 abbrev pub checker_at_next : ℕ → CheckerValue → CheckerValue
 checker_at_next f c = record (at_frame f c) { latest_frame = max c.latest_frame f }
 
--- The frame comes before the next change of the expected page.
+-- The frame comes before the next cue, or there is no next cue.
 abbrev pub is_before : ℕ → Option ℕ → Bool
 is_before frame None = true
 is_before frame (Some edge) = nat_lt frame edge
@@ -222,7 +223,8 @@ checker_after_end c = record c {
   first_unfinished = if c.within == 0 then c.first_unfinished else current_run_start c;
 }
 
--- No fault is active at the end of the current frame, and none was active at the end before.
+-- No fault is active at the end of the current frame, where the page is finished, and none was
+-- active at the end before.
 pub record IsFaultFreeEnd (c : CheckerValue) : Type 0 where
   pub no_faults_before : c.active_faults ≡ no_active_faults
   pub no_faults_now : active_faults_of c ≡ no_active_faults
@@ -238,8 +240,8 @@ is_currently_pending c =
 
 -- ---- the invariant of the checker
 
--- `first_known_from` decides, up to the next change of the expected page, whether the expected page
--- was unknown in the last `within` frames: exactly for the frames before `first_known_from`.
+-- For each frame from `frame` up to the next cue, the expected page is unknown at that frame or at
+-- one of the `within` frames before it exactly if it comes before `first_known_from`.
 abbrev pub IsKnownFrom : (ℕ → Bool) → ℕ → ℕ → ℕ → Option ℕ → ℕ → Type 0
 IsKnownFrom undecided first within frame edge first_known_from =
     (f : ℕ)
@@ -248,8 +250,7 @@ IsKnownFrom undecided first within frame edge first_known_from =
     → is_before f edge ≡ true
     → nat_lt f first_known_from ≡ was_undecided undecided first f within
 
--- The subtitles and `first_known_from` agree with `judging`, up to the next change of the expected
--- page.
+-- The subtitles agree with `judging` and, up to the next cue, so does `first_known_from`.
 pub record IsJudged
     (judging : JudgedValue) (programme : ProgrammeValue) (any_unreliable : Bool)
     (first within frame : ℕ) (edge : Option ℕ) (first_known_from : ℕ)
@@ -259,7 +260,7 @@ pub record IsJudged
   pub known_from_is_exact : IsKnownFrom (is_due_undecided judging) first within frame edge
       first_known_from
 
--- The expected page and its next change are those of `frame`, and no frame number can overflow.
+-- The expected page and the next cue are those of `frame`, and no frame number can overflow.
 pub record IsAtFrame
     (programme : ProgrammeValue) (every : ℕ) (listener : Listener) (first latest_frame last frame :
     ℕ)

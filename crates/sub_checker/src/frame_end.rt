@@ -288,8 +288,8 @@ impl<'a> Checker<'a> {
         self.end_with_faults(reporter);
     }
 
-    // Ends a frame with an active fault, or any frame if `within` is not 0. Not inlined into
-    // `end_of_frame`, which is inlined into each loop over frames.
+    // Ends a frame with or without faults, for any `within`. Not inlined into `end_of_frame`, which
+    // is inlined into each loop over frames and ends most frames without this function.
     #[inline(never)]
     fn end_with_faults<A: ReportSink<Event>>(&mut self, reporter: &mut Reporter<'_, A>)
         ensures reported { ReporterRelays A.is_reported reporter.old (end_steps self.old)

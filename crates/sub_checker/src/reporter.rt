@@ -135,8 +135,8 @@ fn announce_if_present<T: Taker>(event: Option<Event>, run: &mut SkippedPesPacke
     }
 }
 
-// Reports an event. If it ends a run of skipped PES packets, reports the last packet of the run
-// first.
+// Reports an event, unless it continues a run of skipped PES packets. If it ends such a run,
+// reports the last packet of the run first.
 #[tactic(auto, unfolding(sub_rules::specs::PesPacketEvents::announced))]
 fn announce<T: Taker>(event: Event, run: &mut SkippedPesPackets, taker: &mut T)
     ensures reported { Reports T.is_reported taker.old taker.new (announced (skipped_run_of run.old)

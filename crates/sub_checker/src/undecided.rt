@@ -8,10 +8,10 @@ ghost use Rattle.sub_checker.specs.Checker.{IsKnownFrom};
 
 use stl_rows::Judging;
 
-/// Returns the first frame, before the next change of the expected page, whose expected page and
-/// those of the `within` frames before it are known. Frames before `first` do not count. Returns 0
-/// if no expected page was unknown, and a number above all frames if the expected page of `frame`
-/// is unknown.
+/// Returns the frame from which on, up to the next cue after `frame`, the expected page of a frame
+/// and those of the `within` frames before it are known. Frames before `first` do not count.
+/// Returns 0 if none of these pages is unknown, and a number above all frames if the expected page
+/// of `frame` is unknown.
 pub(crate) fn first_known_from(
     judging: &Judging<'_>,
     any_unreliable: bool,
