@@ -6,8 +6,8 @@ use Rattle.ttx_pes.specs.Reading.{is_start, stated_size}
 use Rattle.ts_survey.specs.InStep.{saturating_count}
 
 -- The bytes begin with a start code other than the start code of a PES packet with private data.
-abbrev pub has_other_start_code : List ℕ → Bool
-has_other_start_code bytes = nat_le 6 (length bytes) && not (is_start bytes)
+abbrev pub has_wrong_start_code : List ℕ → Bool
+has_wrong_start_code bytes = nat_le 6 (length bytes) && not (is_start bytes)
 
 -- The size in bytes of the complete PES packet at the front of the bytes, or `None` if they begin
 -- with no complete PES packet.

@@ -84,7 +84,7 @@ impl Carrier {
         self.packets = self.packets.saturating_add(1);
         self.count_if_scrambled(packet);
         let begun = self.note(packet);
-        self.pid_packets_state.to.go_on();
+        self.pid_packets_state.to.begin_packet();
         self.pid_packets_state.take(packet, text);
         begun
     }

@@ -46,15 +46,15 @@ fn corrected_data_bits(word: u32) -> Option<u32>
 fn wrong_bit_position(word: u32) -> u32
     ensures { result ≡ specs.wrong_bit_position word }
 {
-    failed(word, 0x55_5555, 1)
-        + failed(word, 0x66_6666, 2)
-        + failed(word, 0x78_7878, 4)
-        + failed(word, 0x00_7F80, 8)
-        + failed(word, 0x7F_8000, 16)
+    digit_if_failed(word, 0x55_5555, 1)
+        + digit_if_failed(word, 0x66_6666, 2)
+        + digit_if_failed(word, 0x78_7878, 4)
+        + digit_if_failed(word, 0x00_7F80, 8)
+        + digit_if_failed(word, 0x7F_8000, 16)
 }
 
 // Returns `digit` if the Hamming 24/18 test of these bits fails, and otherwise 0.
-fn failed(word: u32, bits: u32, digit: u32) -> u32
+fn digit_if_failed(word: u32, bits: u32, digit: u32) -> u32
     ensures value { result ≡ specs.digit_of_failed_test word bits digit }
     ensures range { result ≤ digit }
 {
@@ -127,10 +127,10 @@ fn set_line_index(number: u8, designation: u8, set: Option<u32>) -> usize
     ensures range { result < 1024 }
 {
     let packet = if number == 28 { 0 } else { 512 };
-    let following = if designation == 0 { 0 } else { 256 };
+    let designation_offset = if designation == 0 { 0 } else { 256 };
     match set {
-        Some(set) => packet + following + (set % 0x80) as usize,
-        None => packet + following + 0x80,
+        Some(set) => packet + designation_offset + (set % 0x80) as usize,
+        None => packet + designation_offset + 0x80,
     }
 }
 

@@ -187,12 +187,12 @@ impl Multiplex {
         let Some(pts) = carrier.take(packet, text) else {
             return;
         };
-        self.begin(state, pts, text);
+        self.process_begun_pts(state, pts, text);
     }
 
     // Processes a PTS that began in a packet of a PID with Teletext.
     #[tactic(auto, using(crate::proofs::RequestedLemmas::one_changed))]
-    fn begin(&mut self, state: &PidState, pts: u64, text: &mut Text)
+    fn process_begun_pts(&mut self, state: &PidState, pts: u64, text: &mut Text)
         ensures requested { KeepsRequested self.old self.new }
     {
         let number = self.number;
@@ -214,7 +214,7 @@ impl Multiplex {
 
     // Processes a packet of a PID with pictures.
     #[inline(always)]
-    fn show(&mut self, state: &PidState, packet: &[u8; PACKET], text: &mut Text)
+    fn process_video_packet(&mut self, state: &PidState, packet: &[u8; PACKET], text: &mut Text)
         ensures requested { KeepsRequested self.old self.new }
     {
         let Some(pictures) = self.videos.get(state.video as usize) else {
@@ -341,7 +341,13 @@ impl Multiplex {
     // Reads a packet in which data begins or whose PID is followed, and processes the packet if its
     // PID has pictures or Teletext.
     #[inline(always)]
-    fn read_ahead(&mut self, pid: u16, state: &PidState, packet: &[u8; PACKET], text: &mut Text)
+    fn read_and_process(
+        &mut self,
+        pid: u16,
+        state: &PidState,
+        packet: &[u8; PACKET],
+        text: &mut Text,
+    )
         ensures requested { KeepsRequested self.old self.new }
     {
         self.read(pid, state, packet, text);
@@ -355,7 +361,7 @@ impl Multiplex {
         ensures requested { KeepsRequested self.old self.new }
     {
         if state.video != NO_INDEX {
-            self.show(state, packet, text);
+            self.process_video_packet(state, packet, text);
         }
         if state.carrier != NO_INDEX {
             self.process_teletext_packet(state, packet, text);
@@ -419,7 +425,7 @@ impl Multiplex {
         if !self.tables.next(table, &mut section) {
             return false;
         }
-        if self.tables.is_new_section(section.as_slice()) {
+        if self.tables.store_if_new(section.as_slice()) {
             self.read_section(table, section.as_slice(), text);
         }
         true
@@ -547,11 +553,11 @@ impl TakesPackets for Multiplex {
         if pid == NULL_PID {
             return;
         }
-        self.pids.count(pid, packet, number);
+        self.pids.update_pid_state(pid, packet, number);
         let state = self.pids.get(pid);
         // Most packets of a recording begin no payload unit and belong to no followed PID.
         if begins(packet) || is_followed(&state) {
-            self.read_ahead(pid, &state, packet, text);
+            self.read_and_process(pid, &state, packet, text);
         }
         if number >= self.next_settle_packet {
             self.report_settled_pcrs(number, text);

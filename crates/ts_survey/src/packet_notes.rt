@@ -39,10 +39,10 @@ impl Notes {
             return None;
         };
         Some(Notes {
-            rows: Rows::none(),
+            rows: Rows::blank_rows(),
             reported: None,
-            strays: Rows::none(),
-            reported_strays: Rows::none(),
+            strays: Rows::blank_rows(),
+            reported_strays: Rows::blank_rows(),
             has_stray: false,
             is_opened: false,
             is_requested_page: false,
@@ -56,7 +56,7 @@ impl Notes {
         self.is_opened = false;
         if self.has_stray {
             self.has_stray = false;
-            self.strays = Rows::none();
+            self.strays = Rows::blank_rows();
         }
     }
 
@@ -139,7 +139,7 @@ impl Notes {
         heard.add(b'h');
         if header.control.contains(Control::C4) {
             heard.add(b'e');
-            self.rows = Rows::none();
+            self.rows = Rows::blank_rows();
         }
         heard.begin_header();
         let (_, coded) = packet.bytes().split_at(2);
@@ -155,7 +155,7 @@ impl Notes {
             return;
         }
         let place = magazine as usize * 256 + header.page as usize;
-        let before = count_at(&mut self.subtitles, place);
+        let before = increment_count_at(&mut self.subtitles, place);
         report_first(before, pid, magazine, header.page, text);
     }
 
@@ -175,7 +175,7 @@ impl Notes {
     /// Prints the decoded page of the receiver.
     pub fn report_rows(&mut self, receiver: &Blank, text: &mut Text) {
         self.reported = Some(self.rows);
-        self.rows.report_buffered(receiver.page(), text);
+        self.rows.report_received_page(receiver.page(), text);
     }
 
     /// Prints the rows that were received after the end of the page.
@@ -200,7 +200,7 @@ fn is_blank(page: &Page) -> bool {
 
 // Adds one to the count at an index, and returns the count before. Returns `None` if the index is
 // out of range.
-fn count_at(counts: &mut Vec<u64>, place: usize) -> Option<u64> {
+fn increment_count_at(counts: &mut Vec<u64>, place: usize) -> Option<u64> {
     let count = counts.get_mut(place)?;
     let before = *count;
     *count = before.saturating_add(1);

@@ -167,7 +167,7 @@ impl PacketsInStep {
         ensures all { TakesAll M.is_taken self.old to.old bytes.now is_end result self.new to.new }
         ensures kept { length bytes.now ≤ result + max_retained_bytes }
     {
-        let at = self.find(bytes, is_end, to, text);
+        let at = self.find_and_process(bytes, is_end, to, text);
         self.lead = at.saturating_sub(bytes.len());
         let used = at.min(bytes.len());
         if is_end {
@@ -179,7 +179,7 @@ impl PacketsInStep {
 
     // Processes the packets in the bytes, and returns the offset after them.
     #[inline(always)]
-    fn find<M: TakesPackets>(
+    fn find_and_process<M: TakesPackets>(
         &mut self,
         bytes: &[u8],
         is_end: bool,

@@ -30,8 +30,8 @@ fn is_start(bytes: &[u8]) -> bool
 
 // Returns whether the bytes begin with a start code other than the start code of a PES packet with
 // private data.
-fn has_other_start_code(bytes: &[u8]) -> bool
-    ensures { result ≡ pes_packets.has_other_start_code bytes.now }
+fn has_wrong_start_code(bytes: &[u8]) -> bool
+    ensures { result ≡ pes_packets.has_wrong_start_code bytes.now }
 {
     bytes.len() >= 6 && !is_start(bytes)
 }
@@ -42,7 +42,7 @@ fn has_other_start_code(bytes: &[u8]) -> bool
 fn complete_packet_size(bytes: &[u8]) -> Option<usize>
     ensures value { result ≡ pes_packets.complete_packet_size bytes.now }
     ensures some { IfSome result (λ size. (6 ≤ size) × (size ≤ length bytes.now)) }
-    ensures unfinished { IfNone result (pes_packets.has_other_start_code bytes.now ≡ false
+    ensures unfinished { IfNone result (pes_packets.has_wrong_start_code bytes.now ≡ false
         → length bytes.now < max_retained_bytes) }
 {
     if bytes.len() < 6 {
@@ -77,16 +77,16 @@ impl PesFile {
             return bytes.len();
         }
         let rest = self.take_complete(bytes, text);
-        if has_other_start_code(rest) {
+        if has_wrong_start_code(rest) {
             self.report_damage(b" start\n", text);
             return bytes.len();
         }
-        self.end_at(rest, is_end, text);
+        self.report_damage_at_end(rest, is_end, text);
         bytes.len() - rest.len()
     }
 
     // Prints that the rest of the file cannot be read, if bytes are left at its end.
-    fn end_at(&mut self, rest: &[u8], is_end: bool, text: &mut Text) {
+    fn report_damage_at_end(&mut self, rest: &[u8], is_end: bool, text: &mut Text) {
         if is_end && !rest.is_empty() {
             self.report_damage(b" cut\n", text);
         }
@@ -96,7 +96,7 @@ impl PesFile {
     // bytes.
     #[tactic(auto, using(crate::proofs::FilePesPacketsLemmas::counted_one_by_one))]
     fn take_complete<'a>(&mut self, bytes: &'a [u8], text: &mut Text) -> &'a [u8]
-        ensures unfinished { pes_packets.has_other_start_code result.now ≡ false
+        ensures unfinished { pes_packets.has_wrong_start_code result.now ≡ false
             → length result.now < max_retained_bytes }
         ensures within { length result.now ≤ length bytes.now }
         // The PES packets of the file are counted in order, each once.

@@ -95,19 +95,19 @@ impl PesLines {
     {
         let pts = pts_of_pes_packet(pes);
         self.hear(pes, pts, text);
-        let is_changed = self.reports_rows(pts);
-        let has_strays = self.reports_strays(pts);
+        let is_changed = self.must_report_rows(pts);
+        let has_strays = self.must_report_strays(pts);
         self.put(pts, is_changed, has_strays, text);
         self.last = pts.or(self.last);
     }
 
     // Returns whether the decoded rows have to be printed after a PES packet with this PTS.
-    fn reports_rows(&self, pts: Option<u64>) -> bool {
+    fn must_report_rows(&self, pts: Option<u64>) -> bool {
         pts.is_some() && self.page.is_changed()
     }
 
     // Returns whether rows that were received after the end of the page have to be printed.
-    fn reports_strays(&self, pts: Option<u64>) -> bool {
+    fn must_report_strays(&self, pts: Option<u64>) -> bool {
         pts.is_some() && self.page.packet_notes().has_new_strays()
     }
 

@@ -163,7 +163,7 @@ impl Tables {
 
     /// Returns whether a complete section is new and current (current_next_indicator), and stores
     /// it if so.
-    pub fn is_new_section(&mut self, section: &[u8]) -> bool {
+    pub fn store_if_new(&mut self, section: &[u8]) -> bool {
         let Some(name) = section_name_of(section) else {
             return false;
         };

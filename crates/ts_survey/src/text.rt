@@ -78,11 +78,11 @@ impl Text {
     pub fn number(&mut self, number: u64)
         ensures { AddsBytes self.old (0x20 ∷ decimal number) self.new }
     {
-        self.signed_number(b' ', number);
+        self.separated_number(b' ', number);
     }
 
     /// Adds a sign and a number in decimal.
-    pub fn signed_number(&mut self, separator: u8, number: u64)
+    pub fn separated_number(&mut self, separator: u8, number: u64)
         ensures { AddsBytes self.old (separator ∷ decimal number) self.new }
     {
         let mut digits = itoa::Buffer::new();

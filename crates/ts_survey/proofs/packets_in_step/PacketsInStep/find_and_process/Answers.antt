@@ -1,12 +1,12 @@
--- `find` begins without items and finds one item after another.
+-- `find_and_process` begins without items and finds one item after another.
 use Rattle.std.proofs.Common.{◌≡◌, ◌≤◌, ◌∙◌, ap, arith, drop, length-drop, rules}
 use Rattle.mpeg_ts.specs.PacketSize.{bytes_of}
 use Rattle.ts_survey.proofs.InStepLemmas.{found_none, found_packet, found_skips}
 use Rattle.ts_survey.proofs.InStepLemmas.{short_bytes_have_no_items}
 use Rattle.ts_survey.proofs.InStepLemmas.{packet_size_at_least_188}
-use Rattle.ts_survey.proofs.packets_in_step.PacketsInStep.find.Goals.{in-Yes, in-No}
+use Rattle.ts_survey.proofs.packets_in_step.PacketsInStep.find_and_process.Goals.{in-Yes, in-No}
 use Rattle.ts_survey.specs.declared.packets_in_step.PacketsInStep.{PacketsInStep}
-use Rattle.ts_survey.proofs.packets_in_step.PacketsInStep.find.Goals as goal
+use Rattle.ts_survey.proofs.packets_in_step.PacketsInStep.find_and_process.Goals as goal
 
 pub loop-init : goal.loop-init
 loop-init g c = record {

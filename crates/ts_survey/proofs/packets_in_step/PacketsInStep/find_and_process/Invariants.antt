@@ -1,8 +1,8 @@
--- In each iteration of `find`, the items up to `place` were found; each iteration processes at
--- least one more byte.
+-- In each iteration of `find_and_process`, the items up to `place` were found; each iteration
+-- processes at least one more byte.
 use Rattle.std.proofs.Common.{◌≤◌}
 use Rattle.ts_survey.specs.InStep.{ItemsFound}
-use Rattle.ts_survey.proofs.packets_in_step.PacketsInStep.find.Given as goal
+use Rattle.ts_survey.proofs.packets_in_step.PacketsInStep.find_and_process.Given as goal
 
 abbrev pub invariant-loop : goal.invariant-loop
 invariant-loop g l = record {
