@@ -56,7 +56,8 @@ HaveSameUnitHeaders a b =
     (k : ℕ) → data_unit_size * k + 1 + data_unit_size ≤ length a
     → HasSameUnitHeader a b (data_unit_size * k + 1)
 
--- The number is a possible size of a data field, bytes 45 to the end of a PES packet.
+-- The number is the size of the data field, bytes 45 to the end, of a PES packet of n times 184
+-- bytes, for any n from 1 on.
 pub record IsDataFieldSize (count : ℕ) : Type 0 where
   pub long : 139 ≤ count
   pub whole : (count + 45) % payload_size ≡ 0

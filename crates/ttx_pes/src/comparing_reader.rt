@@ -31,8 +31,8 @@ pub enum Compared {
     /// A valid PES packet with the same data field (bytes 45 to the end) as the packet before. It
     /// has the same units; its PTS may differ.
     Same,
-    /// A valid PES packet with a different data field from the packet before, or the first packet
-    /// of the file.
+    /// A valid PES packet whose data field differs from that of the packet before, or which follows
+    /// no valid packet: the first packet of the file, or the packet after a fault.
     Other,
 }
 
@@ -159,8 +159,9 @@ impl ComparingReader {
     ///
     /// # Errors
     ///
-    /// Returns the same errors as `PesReader::next`. After the faults `Flags` to `LineOrder`,
-    /// exactly the packet's bytes were consumed, and `skip_packet` allows reading to continue.
+    /// Returns the same errors as `PesReader::next`. After the faults `Flags` to `LineOrder` and
+    /// `Lost`, exactly the packet's bytes were consumed, and `skip_packet` allows reading to
+    /// continue.
     #[inline(always)]
     pub fn next<P: PesPackets>(&mut self, pes_packets: &mut P) -> Result<Compared, PesFault>
         requires { CanFail (P.failure_count pes_packets.old) }

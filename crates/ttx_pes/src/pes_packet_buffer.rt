@@ -83,8 +83,9 @@ fn fill_buffer<S: Source>(
     (at, false)
 }
 
-// Reads the rest of the PES packet whose first bytes are in the buffer. Checks the bytes for faults
-// before each pull. Returns the number of bytes in the buffer, and the result.
+// Reads the rest of the PES packet whose first bytes are in the buffer: up to byte 5, then, if
+// these six bytes have no fault, up to the size that its length field states. Returns the number of
+// bytes in the buffer, and the result.
 fn read_pes_packet<S: Source>(
     source: &mut S,
     room: &mut PacketBuffer,
