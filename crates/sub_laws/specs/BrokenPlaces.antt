@@ -100,8 +100,8 @@ pub record ReportsBrokenPlaces (g : Criteria) (frames : Transmission) : Type 0 w
       → first_reported_fault (all_events_of_pes_packets g (map Sent frames)) ≡ None
       → all_events_of_pes_packets g (map Sent frames) ≡ []
 
--- If `within` is 0, the events of a transmission report each broken rule at its place, in order,
--- and nothing else. So the first fault is at the first broken place.
+-- If `within` is 0, a fault is reported at a place of a transmission if and only if a rule is
+-- broken there. For wrong text, the fault gives the first wrong cell.
 abbrev pub LawOfBrokenPlaces : Type 0
 LawOfBrokenPlaces = (g : Criteria) (frames : Transmission) → g.within ≡ 0 → ReportsBrokenPlaces g
     frames

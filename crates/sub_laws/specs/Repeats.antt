@@ -28,9 +28,9 @@ use Rattle.sub_laws.specs.Robust.{HoldsDuePage}
 
 -- ---- receivers that may erase the page at any header
 
--- The guarantee to a receiver that may erase its page at any header of the page (`anew`: it always
--- does). It listened from frame g to the end of frame f, the packets `sent` were sent, and its
--- state changed from `old` to `new`.
+-- The guarantee to a receiver that may blank any cells of its page at each header of the page with
+-- C4 (erase page) clear (`anew`: it always blanks them all). It listened from frame g to the end of
+-- frame f, the packets `sent` were sent, and its state changed from `old` to `new`.
 pub record IsServedIfForgetful
     (keeps anew : Bool) (programme : ProgrammeValue) (transmission : Transmission)
     (options : OptionsValue) (g f : ℕ) (sent : List (List ℕ)) (IsExcused : ℕ → ℕ → Type 0)
@@ -217,8 +217,9 @@ pub record IsFollowedStretch
       × (f < start + options.every)
       × HoldsHeader options.page transmission f
 
--- If each packet in a range of frames is allowed after the packets before it, receivers recover in
--- the range. So recovery can be decided packet by packet.
+-- If each packet in a range of frames is allowed after the packets before it, and a header of the
+-- page is sent within the repeat bound, the range meets the conditions for recovery, apart from the
+-- text. So these conditions can be decided packet by packet.
 abbrev pub LawOfFollowedStretch : Type 0
 LawOfFollowedStretch =
     (keeps : Bool) (transmission : Transmission) (options : OptionsValue) (a b : ℕ)

@@ -27,10 +27,10 @@ pub record IsSufficientRepeats
       → f ≤ b
       → IsCorrectPage keeps programme options.page transmission f
 
--- A range of frames without faults that affect receivers meets the sufficient conditions. If its
--- pages have ended at each frame end, its frames are finished in time. So the report on a rejected
--- transmission shows which part of it is correct for receivers: from the first header that erases
--- the page on.
+-- A range of frames without faults that affect receivers meets the sufficient conditions. If
+-- `Incomplete` is not active at the end of any of its frames, they are finished in time. So the
+-- report on a rejected transmission shows which part of it is correct for receivers: from the first
+-- header that erases the page on.
 abbrev pub LawOfUnreportedRepeats : Type 0
 LawOfUnreportedRepeats =
     (programme : ProgrammeValue) (transmission : Transmission) (options : OptionsValue)

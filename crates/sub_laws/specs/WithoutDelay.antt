@@ -10,8 +10,8 @@ use Rattle.sub_laws.specs.OnScreen.{Complete}
 use Rattle.sub_laws.specs.Repeats.{MayBeTrustedWithRepeats}
 use Rattle.sub_laws.specs.Stretch.{MayBeTrusted}
 
--- If `within` is 0, a transmission is good under the options if and only if it is good and, if
--- complete pages are required, its pages are complete.
+-- If `within` is 0 and each header must have C4 (erase page) set, a transmission is good under the
+-- options if and only if it is good and, if complete pages are required, its pages are complete.
 abbrev pub LawOfNoDelay : Type 0
 LawOfNoDelay =
     (programme : ProgrammeValue) (transmission : Transmission) (options : OptionsValue)

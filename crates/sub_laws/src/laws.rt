@@ -1,7 +1,8 @@
 //! Laws of transmissions: a good transmission is received without errors, and further laws about
 //! the rules.
 //!
-//! The functions have no body: the contract of each states a law.
+//! The contract of each function states a law. Only `law_of_judged_parts` has a body, which calls
+//! the law of `stl_file` that it needs.
 ghost use Rattle.sub_laws.specs.WithoutDelay.{LawOfNoDelay, LawOfTrustWithoutDelay};
 ghost use Rattle.sub_laws.specs.BrokenPlaces.{LawOfBrokenPlaces, LawOfEmptyReport};
 ghost use Rattle.sub_laws.specs.BrokenPlaces.{LawOfEmptyReportRepeats};
@@ -79,14 +80,15 @@ pub fn law_of_longer_delay_of_files()
 {}
 
 /// A range of frames without faults that affect receivers meets the sufficient conditions for
-/// repeats. If its pages have ended at each frame end, its frames are finished in time.
+/// repeats. If `Incomplete` is not active at the end of any of its frames, they are finished in
+/// time.
 pub fn law_of_unreported_repeats()
     ensures { LawOfUnreportedRepeats }
 {}
 
-/// If each header must have C4 (erase page) set, a range of frames without faults that affect
-/// receivers meets the sufficient conditions. If its pages have ended at each frame end, they are
-/// complete.
+/// If each header must have C4 (erase page) set and `within` is 0, a range of frames without faults
+/// that affect receivers meets the sufficient conditions. If complete pages are required, and
+/// `Incomplete` is not active at the end of any of its frames, its pages are complete.
 pub fn law_of_unreported_stretch()
     ensures { LawOfUnreportedStretch }
 {}
@@ -109,7 +111,7 @@ pub fn law_of_lossless_reception()
 {}
 
 /// The schedule of a subtitle file with at least one subtitle is a good transmission, in serial and
-/// parallel mode and for every national option.
+/// parallel mode and for every national option, unless the pace is less than the repeat bound.
 pub fn law_of_plan()
     ensures { LawOfPlan }
 {}
@@ -133,14 +135,14 @@ pub fn law_of_exact_frames()
     ensures { LawOfExactFrames }
 {}
 
-/// The events of a transmission report each broken rule at its place, in order, and nothing else.
-/// So the first fault is at the first broken place.
+/// If `within` is 0, a fault is reported at a place of a transmission if and only if a rule is
+/// broken there. For wrong text, the fault gives the first wrong cell.
 pub fn law_of_broken_places()
     ensures { LawOfBrokenPlaces }
 {}
 
-/// The first fault is the same whether reading stops at the first skipped PES packet or continues
-/// after it.
+/// If `within` is 0, the first fault is the same whether reading stops at the first skipped PES
+/// packet or continues after it.
 #[tactic(auto, using(sub_rules::proofs::PesPacketEventLemmas::first_reported_fault_is_exact))]
 pub fn law_of_first_reported()
     ensures { LawOfFirstReported }
@@ -160,10 +162,12 @@ pub fn law_of_empty_report()
     ensures { LawOfEmptyReport }
 {}
 
-/// If each repeat in a range of frames sends the same text as before, receivers recover, whatever
-/// they do at a header with C4 (erase page) clear: from any header if their page was blank or they
-/// erase it at each header, and otherwise from the next header with C4 set. Then the expected page
-/// is on their screens.
+/// Suppose that each repeat in a range of frames sends the same text as before, and that at each
+/// frame end each cell has a space or a code that was expected within the last `within` frames.
+/// Then receivers recover, whether they keep their page at a header with C4 (erase page) clear or
+/// blank any of its cells: from any header if their page was blank or they erase it at each header,
+/// and otherwise from the next header with C4 set. At each frame end with a correct page that has
+/// ended, the expected page is on their screens.
 pub fn law_of_repeated_stretch()
     ensures { LawOfRepeatedStretch }
 {}
@@ -193,8 +197,8 @@ pub fn law_of_may_keep()
 {}
 
 /// A transmission that is good if repeats may have C4 (erase page) clear, and in which every header
-/// has C4 set, is good if each header must have C4 set. So all guarantees of a good transmission
-/// hold for it.
+/// has C4 set, is good if each header must have C4 set. So if `within` is 0, all guarantees of a
+/// good transmission hold for it.
 pub fn law_of_erasing_headers()
     ensures { LawOfErasingHeaders }
 {}
@@ -205,13 +209,14 @@ pub fn law_of_longer_repeats()
 {}
 
 /// The schedule of a subtitle file with at least one subtitle is good for any `within`, whether or
-/// not repeats may have C4 (erase page) clear.
+/// not repeats may have C4 (erase page) clear, unless the pace is less than the repeat bound.
 pub fn law_of_plan_repeats()
     ensures { LawOfPlanRepeats }
 {}
 
-/// If each packet in a range of frames is allowed after the packets before it, receivers recover in
-/// that range.
+/// If each packet in a range of frames is allowed after the packets before it, and a header of the
+/// page is sent within the repeat bound, the range meets the conditions under which receivers
+/// recover, apart from those for the text.
 pub fn law_of_followed_stretch()
     ensures { LawOfFollowedStretch }
 {}
@@ -222,22 +227,23 @@ pub fn law_of_kept_codes()
     ensures { LawOfKeptCodes }
 {}
 
-/// If text ends or changes at a frame, a header that erases the page is sent at most `within`
-/// frames before or after it. So a receiver's old text is gone by then.
+/// If text ends or changes at a frame of a good transmission, a header that erases the page is sent
+/// at most `within` frames before or after it. So a receiver's old text is gone by then.
 pub fn law_of_old_text()
     ensures { LawOfOldText }
 {}
 
 /// A check against a range of a subtitle file gives the same result as a check against the file
-/// without the other subtitles.
+/// without the other subtitles, if the file can be read to its end.
 pub fn law_of_judged_parts()
     ensures { LawOfJudgedParts }
 {
     law_of_scope();
 }
 
-/// Two subtitle files with the same reliable subtitles, and the same frames with an unknown
-/// expected page, give the same events for a PES file.
+/// Two subtitle files give the same events for a PES file if they have the same reliable subtitles
+/// and the same frames with an unknown expected page, and both or neither have unreliable
+/// subtitles.
 pub fn law_of_equal_reports()
     ensures { LawOfEqualReports }
 {}
