@@ -36,7 +36,7 @@ use Rattle.sub_laws.specs.Stretch.{HasPromises}
 use Rattle.sub_laws.specs.UnexpectedContent.{IsNotRightOnAir}
 use Rattle.sub_rules.specs.PesPacketEvents.{all_events_of_pes_packets, events_of_pes_packets}
 use Rattle.sub_rules.specs.PesPackets.{frames_of, joined, pes_packet_file_of}
-use Rattle.sub_rules.specs.WrongContent.{IsWrongEverywhere}
+use Rattle.sub_rules.specs.WrongContent.{IsWrongForEveryReceiver}
 use Rattle.sub_checker.specs.ReadCounts.{AreCountsOfFrames}
 use Rattle.sub_checker.specs.declared.accepted.Accepted.{Accepted}
 use Rattle.sub_rules.specs.declared.fault.CheckFault.{CheckFault}
@@ -256,8 +256,8 @@ pub record IsChecked
   pub content :
       (frame row column : ℕ)
       → answer ≡ Err (fault.Content frame row column)
-      → IsWrongEverywhere programme options (pes_file_of (clock_of options) bytes).frames frame row
-      column
+      → IsWrongForEveryReceiver programme options (pes_file_of (clock_of options) bytes).frames
+      frame row column
 
 -- The result for the bytes of a subtitle file, and for the bytes of a PES file if these are known.
 pub record AreChecked

@@ -15,11 +15,11 @@ use Rattle.sub_rules.specs.PacketRules.{header_count, packets_of_units}
 use Rattle.sub_rules.specs.Transmission.{SentFrame}
 use Rattle.sub_rules.specs.Trusted.{CheckStep}
 use Rattle.sub_rules.specs.Trusted.CheckStep.{AtEnd, GoesBack, Emits}
-use Rattle.sub_rules.specs.declared.sending.Sending.{Sending}
+use Rattle.sub_rules.specs.declared.valid_pes_packet.ValidPesPacket.{ValidPesPacket}
 use Rattle.sub_rules.specs.declared.active_faults.ActiveFaults.{ActiveFaults}
 use Rattle.sub_packets.specs.StoredPage.{is_kept_page_incomplete, first_unexpected_kept_cell}
 use Rattle.sub_packets.specs.StoredPage.{first_wrong_kept_cell}
-use Rattle.sub_packets.specs.Listener.{KnowsLast, begins_frame_with_header}
+use Rattle.sub_packets.specs.Listener.{KnowsLast, frame_has_text_beginning}
 use Rattle.sub_packets.specs.declared.listener.Listener.{Listener}
 use Rattle.sub_checker.specs.declared.counts.Counts.{Counts}
 use Rattle.sub_plan.specs.Schedule.{due_page_in}
@@ -48,7 +48,7 @@ pub record AreCountsBounded (pes : ℕ) (n : Counts) : Type 0 where
   pub packets : n.packets ≤ 255 * pes
 
 -- The frame of a valid PES packet with these data units.
-abbrev pub sent_frame_of : Sending → List UnitValue → SentFrame
+abbrev pub sent_frame_of : ValidPesPacket → List UnitValue → SentFrame
 sent_frame_of sending units = record { frame = sending.frame; packets = packets_of_units units }
 
 -- ---- the state of the checker
@@ -140,7 +140,7 @@ pub record HasHeard
   pub knows : KnowsLast (heard ++ packets) packets listener
   pub count : headers ≡ header_count old.listener.watched.page packets
   pub begins :
-      listener.begun ≡ begins_frame_with_header old.listener.watched from old.listener.begun packets
+      listener.begun ≡ frame_has_text_beginning old.listener.watched from old.listener.begun packets
 
 -- ---- the end of the current frame
 

@@ -21,7 +21,7 @@ ghost use Rattle.sub_checker.specs.Relay.{ReporterRelays};
 use crate::checker::Checker;
 use crate::reporter::Reporter;
 use sub_io::ReportSink;
-use sub_rules::{Event, Sending};
+use sub_rules::{Event, ValidPesPacket};
 use ttx_pes::SentUnits;
 
 impl<'a> Checker<'a> {
@@ -30,7 +30,7 @@ impl<'a> Checker<'a> {
     pub fn check_pes_packet<A: ReportSink<Event>>(
         &mut self,
         pes: u32,
-        sending: Sending,
+        sending: ValidPesPacket,
         units: &SentUnits<'_>,
         reporter: &mut Reporter<'_, A>,
     )
@@ -69,7 +69,7 @@ impl<'a> Checker<'a> {
     fn begin_next_frame<A: ReportSink<Event>>(
         &mut self,
         pes: u32,
-        sending: Sending,
+        sending: ValidPesPacket,
         units: &SentUnits<'_>,
         reporter: &mut Reporter<'_, A>,
     )
@@ -153,7 +153,7 @@ impl<'a> Checker<'a> {
     {
         let headers = self
             .listener
-            .hear_frame_packets(units, again, self.frame, from, reporter);
+            .hear_pes_packet(units, again, self.frame, from, reporter);
         self.count(headers);
         headers
     }

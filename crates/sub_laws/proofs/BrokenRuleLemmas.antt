@@ -39,9 +39,9 @@ use Rattle.sub_rules.specs.PacketRules.{AreClean, KeepsAllRules, KeepsRule, code
 use Rattle.sub_rules.specs.PacketTests.{are_code_words, breaks, is_header_address}
 use Rattle.sub_rules.specs.PacketTests.{is_enhancement_address}
 use Rattle.sub_rules.specs.PacketTests.{has_different_mode, has_different_row, has_different_text}
-use Rattle.sub_rules.specs.PacketTests.{first_packet_of_row, has_subtitle_bits, repeats_page}
-use Rattle.sub_rules.specs.PacketTests.{is_same_subcode, is_subtitle_header, is_wrong_header}
-use Rattle.sub_rules.specs.PacketTests.{is_allowed_header}
+use Rattle.sub_rules.specs.PacketTests.{first_packet_of_row, has_subtitle_bits, counts_as_repeat}
+use Rattle.sub_rules.specs.PacketTests.{is_same_subcode, is_allowed_page_header, is_wrong_header}
+use Rattle.sub_rules.specs.PacketTests.{erases_or_may_repeat}
 use Rattle.sub_rules.specs.declared.packet_rule.PacketRule.{PacketRule}
 use Rattle.sub_rules.specs.declared.packet_rule.PacketRule.TheVariants as rule
 use Rattle.sub_rules.specs.declared.packet_rule.Watched.{Watched}
@@ -91,7 +91,7 @@ complete_page_test_is_exact : (asks opened : Bool) → Decides (not (asks && ope
 complete_page_test_is_exact asks opened = grind (arith, nat_tests, true≢false)
 
 repeat_test_is_exact : (complete : Bool) (page : PageIdValue) (before : List (List ℕ)) (h : Header)
-    → Decides (repeats_page complete page before h) (IsRepeat complete page before h)
+    → Decides (counts_as_repeat complete page before h) (IsRepeat complete page before h)
 repeat_test_is_exact complete page before h = grind (
   arith,
   nat_tests,
@@ -104,14 +104,14 @@ erase_or_repeat_test_is_exact : (keeps erases repeats : Bool) (P : Type 0) → D
     ((IsFalse keeps → IsTrue erases) × (IsTrue erases ⊎ P))
 erase_or_repeat_test_is_exact keeps erases repeats P h1 = grind (arith, nat_tests)
 
-header_is_subtitle_header : (w : Watched) (before : List (List ℕ)) (h : Header)
-    → Decides (is_subtitle_header w before h)
+header_is_allowed_page_header : (w : Watched) (before : List (List ℕ)) (h : Header)
+    → Decides (is_allowed_page_header w before h)
     (((IsFalse w.keeps → IsTrue (c4 h))
     × (IsTrue (c4 h) ⊎ IsRepeat w.complete w.page before h))
     × HasSubtitleBits w.national h)
-header_is_subtitle_header w before h =
-    Decides-and (is_allowed_header w before h) (has_subtitle_bits w.national h)
-    (erase_or_repeat_test_is_exact w.keeps (c4 h) (repeats_page w.complete w.page before h)
+header_is_allowed_page_header w before h =
+    Decides-and (erases_or_may_repeat w before h) (has_subtitle_bits w.national h)
+    (erase_or_repeat_test_is_exact w.keeps (c4 h) (counts_as_repeat w.complete w.page before h)
     (IsRepeat w.complete w.page before h) (repeat_test_is_exact w.complete w.page before h))
     (subtitle_bits_test_is_exact w.national h)
 
@@ -125,7 +125,7 @@ pub control_test_is_exact : (w : Watched) (before : List (List ℕ)) (p : List �
     → kind w.page p ≡ k
     → Refutes (is_wrong_header w before k) (HasAllowedHeader w before p)
 control_test_is_exact w before p (ThisPage h) is =
-    Decides-at _ _ (double_negation_cancels (is_subtitle_header w before h))
+    Decides-at _ _ (double_negation_cancels (is_allowed_page_header w before h))
     (Decides-like _
     (λ requested. record {
       control = λ k e.
@@ -137,7 +137,7 @@ control_test_is_exact w before p (ThisPage h) is =
           (page_headers_are_equal h k (sym is ∙ e)) requested.0.1;
     })
     (λ rule. ((λ none. rule.erases none h is, rule.keeping h is), rule.control h is))
-    (header_is_subtitle_header w before h))
+    (header_is_allowed_page_header w before h))
 control_test_is_exact w before p k is = (
   λ e. record { control = λ h this. cc; erases = λ none h this. cc; keeping = λ h this. cc },
   λ rule. refl,

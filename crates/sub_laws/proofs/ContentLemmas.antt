@@ -28,7 +28,7 @@ use Rattle.sub_rules.specs.Kept.{IsRight}
 use Rattle.sub_rules.specs.PacketRules.{KeepsAllRules}
 use Rattle.sub_rules.specs.Repeats.{IsDueWithin}
 use Rattle.sub_rules.specs.Transmission.{Transmission, on_air_until}
-use Rattle.sub_rules.specs.WrongContent.{AreReadUpTo, IsWrongEverywhere}
+use Rattle.sub_rules.specs.WrongContent.{AreReadUpTo, IsWrongForEveryReceiver}
 use Rattle.sub_rules.specs.declared.packet_rule.Watched.{Watched}
 use Rattle.sub_rules.proofs.PrefixEventLemmas.{is_late-prefix}
 use Rattle.sub_laws.specs.UnexpectedContent.{IsNotRightOnAir}
@@ -247,8 +247,9 @@ module _ (programme : ProgrammeValue) (options : OptionsValue) (frames : Transmi
       ∙ ap (λ k. kept k options.page sent row column) (sym none)
       ∙ same))
 
-  pub wrong_cell_is_wrong_everywhere : IsWrongEverywhere programme options frames f row column
-  wrong_cell_is_wrong_everywhere = record {
+  pub wrong_cell_is_wrong_for_every_receiver :
+      IsWrongForEveryReceiver programme options frames f row column
+  wrong_cell_is_wrong_for_every_receiver = record {
     read = different.read;
     are_read = different.are_read;
     wrong = λ old new unheard shut hears same.

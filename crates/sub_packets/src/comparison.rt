@@ -90,7 +90,7 @@ impl Comparison {
         } }
         ensures page { IsPage self.old.page }
     {
-        let before = wrong_columns_in_row(&self.page, &self.due, row);
+        let before = count_wrong_cells_in_row(&self.page, &self.due, row);
         let after = count_differing_columns(codes, self.due.row(row));
         self.page.set_row(row, codes);
         self.wrong = updated_wrong_count(self.wrong, before, after);
@@ -169,7 +169,7 @@ fn is_zero(count: Option<u16>) -> bool
 }
 
 // Returns the number of cells of a row in which two pages differ.
-fn wrong_columns_in_row(page: &Page, due: &Page, row: u8) -> u16
+fn count_wrong_cells_in_row(page: &Page, due: &Page, row: u8) -> u16
     requires { IsRow row }
     ensures value { result ≡ row_difference (row_at page.now row) (row_at due.now row) }
     ensures range { result ≤ 40 }

@@ -241,14 +241,14 @@ events_of_pes_packets g pes_packets = announced_events no_run
     (events_reported_after [] (steps_of_each g [] 0 pes_packets))
 
 -- The events of a PES file, with each skipped packet.
-unfoldable pub reported_of_pes_packets : Criteria → List PesPacket → List Event
-reported_of_pes_packets g pes_packets = events_reported_after []
+unfoldable pub ungrouped_events_of_pes_packets : Criteria → List PesPacket → List Event
+ungrouped_events_of_pes_packets g pes_packets = events_reported_after []
     (steps_of_pes_packets g pes_packets)
 
 -- All events of a PES file, with runs of skipped PES packets grouped.
 unfoldable pub all_events_of_pes_packets : Criteria → List PesPacket → List Event
 all_events_of_pes_packets g pes_packets =
-    let reported = reported_of_pes_packets g pes_packets in
+    let reported = ungrouped_events_of_pes_packets g pes_packets in
     announced_events no_run reported ++ run_ending_events (skipped_run_after_events no_run reported)
 
 -- ---- the first fault of a PES file

@@ -20,7 +20,7 @@ use Rattle.sub_rules.specs.Transmission.{SentFrame, Transmission}
 use Rattle.sub_rules.specs.declared.fault.CheckFault.{CheckFault}
 use Rattle.sub_rules.specs.declared.pes_packet.NextPesPacket.{NextPesPacket}
 use Rattle.sub_rules.specs.declared.pes_packet.NextPesPacket.TheVariants as next
-use Rattle.sub_rules.specs.declared.sending.Sending.{Sending}
+use Rattle.sub_rules.specs.declared.valid_pes_packet.ValidPesPacket.{ValidPesPacket}
 
 -- A PES packet of a file: it carries a frame, or is skipped for this reason.
 pub data PesPacket : Type 0 where
@@ -34,13 +34,13 @@ pub record PesPacketFileValue : Type 0 where
 
 -- The PES packet with this frame and these Teletext packets. It is skipped if its PTS belongs to no
 -- frame.
-abbrev pub sent_pes_packet : Option ℕ → List (List ℕ) → PesPacket
-sent_pes_packet None packets = Skipped NoFrame
-sent_pes_packet (Some frame) packets = Sent (record { frame = frame; packets = packets })
+abbrev pub pes_packet_at_frame : Option ℕ → List (List ℕ) → PesPacket
+pes_packet_at_frame None packets = Skipped NoFrame
+pes_packet_at_frame (Some frame) packets = Sent (record { frame = frame; packets = packets })
 
 -- The PES packet for a result of the reader. `clock` converts the PTS to a frame.
 unfoldable pub pes_packet_of : Clock → Result PesValue PesFault → PesPacket
-pes_packet_of clock (Ok v) = sent_pes_packet (clock v.pts) (packets_of_units v.units)
+pes_packet_of clock (Ok v) = pes_packet_at_frame (clock v.pts) (packets_of_units v.units)
 pes_packet_of clock (Err f) = Skipped (BadPacket f)
 
 -- Why the rest of the file cannot be read, given the reader's fault; `None` if the entire file was
@@ -84,8 +84,9 @@ abbrev pub OnPesPacket : Result (Option NextPesPacket) CheckFault → Type 0 →
 OnPesPacket answer IsSo = IfOk answer (λ pes_packet. IsSome pes_packet → IsSo)
 
 -- The property `IsSo` holds for the frame of the result, if the result is a packet that is sent.
-abbrev pub IfSent : Result (Option NextPesPacket) CheckFault → (Sending → Type 0) → Type 0
-IfSent answer IsSo = (sending : Sending) → answer ≡ Ok (Some (next.Sent sending)) → IsSo sending
+abbrev pub IfSent : Result (Option NextPesPacket) CheckFault → (ValidPesPacket → Type 0) → Type 0
+IfSent answer IsSo =
+    (sending : ValidPesPacket) → answer ≡ Ok (Some (next.Sent sending)) → IsSo sending
 
 -- A result of `next_pes_packet` agrees with the bytes after n PES packets: it is the first of
 -- `pes_packets`, with the value v; or no packet is left, for the reason `unread`.

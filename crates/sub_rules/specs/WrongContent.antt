@@ -22,7 +22,7 @@ pub record AreReadUpTo (frames : Transmission) (f : ℕ) (read : Transmission) :
 
 -- In this cell, every receiver that starts at the first packet and receives without errors shows a
 -- code other than the expected one at the end of frame f, whatever page it showed before.
-pub record IsWrongEverywhere
+pub record IsWrongForEveryReceiver
     (programme : ProgrammeValue) (options : OptionsValue) (frames : Transmission)
     (f row column : ℕ)
     : Type 0 where

@@ -17,7 +17,7 @@ ghost use Rattle.sub_rules.specs.PesPackets.{TakesOnePesPacket};
 ghost use Rattle.sub_rules.specs.PesPackets.{ReportsPesPacket};
 
 use crate::fault::CheckFault;
-use crate::sending::Sending;
+use crate::valid_pes_packet::ValidPesPacket;
 use sub_plan::Options;
 use ttx_pes::{Compared, ComparingReader, PesFault, PesPackets};
 
@@ -25,7 +25,7 @@ use ttx_pes::{Compared, ComparingReader, PesFault, PesPackets};
 #[derive(Clone, Copy, Debug, PartialEq, Eq)]
 pub enum NextPesPacket {
     /// The PES packet is valid, and its PTS belongs to a frame of the day.
-    Sent(Sending),
+    Sent(ValidPesPacket),
     /// The PES packet is skipped: it is invalid (`Pes`), or its PTS belongs to no frame
     /// (`OffFrame`).
     Skipped(CheckFault),
@@ -113,14 +113,15 @@ fn pes_packet_of(pts: u64, options: &Options, pes: u32, again: bool) -> NextPesP
         → ReadsPesPackets (clock_of options.now) pes bytes pes_packets unread
         → ReportsPesPacket (clock_of options.now) pes bytes pes_packets unread v
         (Ok (Some result)) }
-    ensures again { (sending : Sending) → result ≡ NextPesPacket.Sent sending
+    ensures again { (sending : ValidPesPacket) → result ≡ NextPesPacket.Sent sending
         → sending.again ≡ again }
-    ensures day { (sending : Sending) → result ≡ NextPesPacket.Sent sending → sending.frame < day }
+    ensures day { (sending : ValidPesPacket) → result ≡ NextPesPacket.Sent sending
+        → sending.frame < day }
     ensures skipped { (fault : CheckFault) → result ≡ NextPesPacket.Skipped fault
         → (is_pes_read_failure fault ≡ false) × (is_subtitle_fault fault ≡ false) }
 {
     match options.frame_of(pts) {
-        Some(frame) => NextPesPacket::Sent(Sending { frame, again }),
+        Some(frame) => NextPesPacket::Sent(ValidPesPacket { frame, again }),
         None => NextPesPacket::Skipped(CheckFault::OffFrame { pes }),
     }
 }

@@ -3,7 +3,7 @@ use Rattle.sub_io.proofs.ReportingLemmas.{Reports-none}
 use Rattle.sub_rules.specs.PacketRules.{packets_of_units}
 use Rattle.sub_packets.proofs.PacketEventLemmas.{numbered_packet_events-none}
 use Rattle.sub_packets.proofs.RepeatedPacketLemmas.{received_again}
-use Rattle.sub_packets.proofs.listener.Listener.hear_frame_packets.Goals as goal
+use Rattle.sub_packets.proofs.listener.Listener.hear_pes_packet.Goals as goal
 
 pub returns-in-Some-clause-knows : goal.returns-in-Some-clause-knows
 returns-in-Some-clause-knows g c heard last known same =

@@ -1,7 +1,7 @@
 -- The expected page stays the same between two of its changes.
 use Rattle.std.proofs.Common.{arith}
 use Rattle.sub_packets.proofs.UnexpectedLemmas.{due_page_is_constant_between_cues}
-use Rattle.sub_packets.proofs.unexpected.last_edge_before.Goals as goal
+use Rattle.sub_packets.proofs.unexpected.frame_before_last_edge.Goals as goal
 
 pub returns-in_default : goal.returns-in_default
 returns-in_default c f low until =

@@ -6,7 +6,7 @@ use ttx_pes::{ComparingReader, SentUnits};
 
 /// A valid PES packet, with its frame.
 #[derive(Clone, Copy, Debug, PartialEq, Eq)]
-pub struct Sending {
+pub struct ValidPesPacket {
     /// The frame of the day to which the PTS belongs.
     pub frame: u32,
     /// Whether the Teletext packets are the same as those of the previous PES packet, byte for
