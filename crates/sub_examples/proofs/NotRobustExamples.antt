@@ -6,7 +6,7 @@ use lib.Count.{ones_in}
 use Rattle.ttx_packet.specs.Hamming84.{decoded_nibble}
 use Rattle.ttx_packet.specs.OneBit.{is_near}
 use Rattle.ttx_packet.specs.PacketAddress.{address}
-use Rattle.ttx_packet.specs.PageHeader.{header, coded_header}
+use Rattle.ttx_packet.specs.PageHeader.{header, decoded_header}
 use Rattle.ttx_packet.specs.Parity.{is_odd}
 use Rattle.ttx_page.specs.Page.{blank, blank_row}
 use Rattle.sub_rules.specs.PacketTests.{are_code_words, breaks, is_word_below, packet_rules}
@@ -38,7 +38,7 @@ header_with_two_wrong_bits =
 pub examples_of_needed_parts : ExamplesOfNeededParts
 unfolding are_code_words is_word_below first_even_parity_byte breaks differing_column_count is_gap
     packet_rules active_faults_at is_late first_wrong_cell_after first_cell is_incomplete
-    kind address header coded_header decoded_nibble is_near is_odd count_ones ones_in due blank
+    kind address header decoded_header decoded_nibble is_near is_odd count_ones ones_in due blank
     blank_row sub_set
 examples_of_needed_parts = record {
   -- The receiver receives frames 900000 and 900001 unchanged.

@@ -18,7 +18,7 @@ use Rattle.ttx_packet.specs.PacketAddress.{HasExactAddress, IsPacket, PacketAddr
 use Rattle.ttx_packet.specs.PageHeader.{HasExactHeader, c4, c11, header}
 use Rattle.ttx_packet.specs.PageId.{PageIdValue}
 use Rattle.ttx_packet.specs.Parity.{is_odd}
-use Rattle.ttx_packet.specs.RowPacket.{HasOddText, first_even_parity_byte, text_byte}
+use Rattle.ttx_packet.specs.RowPacket.{HasOddParityText, first_even_parity_byte, text_byte}
 use Rattle.ttx_packet.specs.declared.header.Header.{Header}
 use Rattle.ttx_packet.proofs.OneBitLemmas.{first_below_satisfies_test}
 use Rattle.ttx_page.specs.Differing.{differing_column_count, row_difference}
@@ -144,13 +144,13 @@ control_test_is_exact w before p k is = (
 )
 
 pub parity_test_of_text_is_exact : (p : List ℕ) → Refutes (is_some (first_even_parity_byte p))
-    (HasOddText p)
+    (HasOddParityText p)
 unfolding first_even_parity_byte
 parity_test_of_text_is_exact p = go (first_below 40 (λ column. not (is_odd (text_byte p column))))
     refl
   where
     go : (o : Option ℕ) → first_below 40 (λ column. not (is_odd (text_byte p column))) ≡ o
-        → Refutes (is_some o) (HasOddText p)
+        → Refutes (is_some o) (HasOddParityText p)
     go None e = (
       λ _ column l.
           let odd = no_first_below_fails_each 40 (λ column. not (is_odd (text_byte p column))) e
@@ -168,7 +168,7 @@ parity_test_of_text_is_exact p = go (first_below 40 (λ column. not (is_odd (tex
 
 pub row_has_odd_parity : (p : List ℕ) (k : PacketKind)
     → Refutes (is_page_row k && is_some (first_even_parity_byte p))
-    ((row : ℕ) → k ≡ Row row → HasOddText p)
+    ((row : ℕ) → k ≡ Row row → HasOddParityText p)
 row_has_odd_parity p k = grind (arith, nat_tests, parity_test_of_text_is_exact)
 
 pub packet_is_no_enhancement : (page : PageIdValue) (p : List ℕ) (o : Option PacketAddress) →
@@ -221,7 +221,7 @@ address-row w p row e = grind (arith, nat_tests)
 
 module _ (w : Watched) (packets : List (List ℕ)) (s : IsSoundSpan w packets) (p : List ℕ) (row : ℕ)
     (is_row_of : kind w.page p ≡ Row row) (whole : IsPacket p) (exact : HasExactAddress p)
-    (odd : HasOddText p) where
+    (odd : HasOddParityText p) where
   abbrev IsSameAsEachRow : Type 0
   IsSameAsEachRow = AllByRecursion (λ q. kind w.page q ≡ Row row → q ≡ p) packets
 
@@ -329,7 +329,7 @@ module _ (w : Watched) (before : List (List ℕ)) (p : List ℕ) where
       (grind (arith, nat_tests))
       (opened (is_open_after (kind w.page) before)
       (is_page_row (kind w.page p) && is_some (first_even_parity_byte p))
-      ((row : ℕ) → kind w.page p ≡ Row row → HasOddText p) (λ t. row_has_odd_parity p
+      ((row : ℕ) → kind w.page p ≡ Row row → HasOddParityText p) (λ t. row_has_odd_parity p
       (kind w.page p)))
   rule_test_is_exact rule.RowChanged comparable = grind
       (arith, nat_tests, opened, rows_are_the_same)

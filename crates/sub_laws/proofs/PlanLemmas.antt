@@ -16,7 +16,7 @@ use Rattle.ttx_packet.specs.declared.header.Header.{Header}
 use Rattle.ttx_packet.specs.PacketAddress.{IsPacket}
 use Rattle.ttx_packet.specs.PageHeader.{c11, header, HasExactCodeWords}
 use Rattle.ttx_packet.specs.PageId.{PageIdValue}
-use Rattle.ttx_packet.specs.RowPacket.{HasOddText}
+use Rattle.ttx_packet.specs.RowPacket.{HasOddParityText}
 use Rattle.ttx_page.specs.Page.{Rows, cell, IsCell, IsPage}
 use Rattle.ttx_page.specs.Noise.{IsOddRow, AreEqualInRow}
 use Rattle.ttx_page.specs.declared.packet_kind.PacketKind.TheVariants.{Row}
@@ -87,7 +87,7 @@ module _ (w : PageIdValue) (ok : IsWatchable w) where
 
   row_has_odd_parity : (page : Rows) → IsPage page → (p : List ℕ) → IsRowOf w page p → IsOddRow w p
   row_has_odd_parity page shape p is row k =
-      subst HasOddText (sym is.is) (row_packet_is_made_row w page is.row ok shape is.low
+      subst HasOddParityText (sym is.is) (row_packet_is_made_row w page is.row ok shape is.low
       is.high).odd
 
   packet_is_no_enhancement : (page : Rows) → IsPage page → (p : List ℕ) → IsRowOf w page p →

@@ -6,7 +6,7 @@ ghost use Rattle.std.specs.Prelude.{◌&&◌, ◌==◌, not, Some};
 ghost use Rattle.std.specs.Prelude.{slice_index_or, slice_set};
 ghost use Rattle.std.specs.List.{filter};
 ghost use Rattle.sub_io.specs.Reporting.{Reports};
-ghost use Rattle.ttx_packet.specs.PageHeader.{HasExactHeader, coded_header, header};
+ghost use Rattle.ttx_packet.specs.PageHeader.{HasExactHeader, decoded_header, header};
 ghost use Rattle.ttx_page.specs.Page.{AreCodes, IsPage, IsRow, blank};
 ghost use Rattle.ttx_page.specs.PacketKind.{begins_text, is_this_page, kind};
 ghost use Rattle.ttx_page.specs.Span.{is_open_after};
@@ -274,7 +274,7 @@ impl Listener {
     #[inline(never)]
     fn is_skippable_header(&self, magazine: u8, packet: &SentPacket<'_>) -> bool
         ensures { IsTrue result → HasExactHeader packet.now × ((h : Header)
-            × (coded_header packet.now ≡ Some h)
+            × (decoded_header packet.now ≡ Some h)
             × (can_skip_header magazine h self.now ≡ true)) }
     {
         match packet.exact_header() {

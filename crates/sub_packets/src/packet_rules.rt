@@ -184,7 +184,7 @@ pub(crate) fn is_enhancement(page: PageId, packet: &Packet) -> bool
 pub(crate) fn has_even_byte(packet: &Packet) -> bool
     ensures { result ≡ is_some (first_even_parity_byte packet.now) }
 {
-    packet.first_even().is_some()
+    packet.first_even_parity_column().is_some()
 }
 
 /// Returns the 40 codes of a row: its bytes without their parity bits.

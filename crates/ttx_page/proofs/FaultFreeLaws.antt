@@ -11,7 +11,7 @@ use Rattle.std.proofs.lemmas.List.Elements.{recursion_from_All}
 use Rattle.std.proofs.lemmas.List.Folds.{list_any-append}
 use Rattle.ttx_packet.specs.PageId.{PageIdValue}
 use Rattle.ttx_packet.specs.Parity.{character_code}
-use Rattle.ttx_packet.specs.RowPacket.{HasOddText, text_byte}
+use Rattle.ttx_packet.specs.RowPacket.{HasOddParityText, text_byte}
 use Rattle.ttx_page.specs.Noise.{ErasesPage, IsOddRow, LawWithoutNoise}
 use Rattle.ttx_page.specs.Page.{IsCell, cell, space}
 use Rattle.ttx_page.specs.PacketKind.{begins_text, ends_page, is_row, is_this_page, kind}
@@ -43,7 +43,7 @@ record CellAfterPacket
       → cell new.page row column ≡ cell old.page row column
   row_stores_code : kind w packet ≡ Row row
       → old.is_open ≡ true
-      → HasOddText packet
+      → HasOddParityText packet
       → cell new.page row column ≡ character_code (text_byte packet column)
 
 packet_updates_cell : (keeps : Bool) (w : PageIdValue) (row column : ℕ) (packet : List ℕ)
@@ -61,7 +61,7 @@ module _ (keeps : Bool) (w : PageIdValue) (row column code : ℕ) where
       (packet : List ℕ)
       → Contains (text_span keeps (kind w) packets) packet
       → kind w packet ≡ Row row
-      → HasOddText packet × (character_code (text_byte packet column) ≡ code)
+      → HasOddParityText packet × (character_code (text_byte packet column) ≡ code)
 
   abbrev IsFreshCell : State → List (List ℕ) → Type 0
   IsFreshCell start packets =

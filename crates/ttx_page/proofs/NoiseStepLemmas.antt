@@ -13,7 +13,7 @@ use Rattle.ttx_packet.specs.OneBit.{AreNear}
 use Rattle.ttx_packet.specs.Parity.{character_code, is_odd}
 use Rattle.ttx_packet.specs.PageHeader.{HasExactCodeWords}
 use Rattle.ttx_packet.specs.PageId.{PageIdValue}
-use Rattle.ttx_packet.specs.RowPacket.{HasOddText, first_even_parity_byte, text_byte}
+use Rattle.ttx_packet.specs.RowPacket.{HasOddParityText, first_even_parity_byte, text_byte}
 use Rattle.ttx_packet.proofs.OneBitLemmas.{first_below_satisfies_test}
 use Rattle.ttx_packet.proofs.ParityLemmas.{single_error_breaks_parity}
 use Rattle.ttx_packet.proofs.NearPacketLemmas.{address-near, header-near}
@@ -92,7 +92,7 @@ even_parity_byte_exists packet some = go (first_even_parity_byte packet) refl so
 
 -- If a row is sent with odd parity and a receiver drops it, one of its bytes had a wrong bit.
 dropped_row_has_byte_error : (w : PageIdValue) (sent got : List ℕ) (row column : ℕ)
-    → HasOddText sent
+    → HasOddParityText sent
     → is_dropped w got ≡ true
     → ExcusedBy Dropping (LosesByteAt sent (Some got)) row column
 dropped_row_has_byte_error w sent got row column odd drop = grind
@@ -135,7 +135,7 @@ record CellAfterItem
   -- rows: any of its bytes), the cell may also keep its code or become a space.
   row_stores_code : kind w sent ≡ Row row
       → old.is_open ≡ true
-      → HasOddText sent
+      → HasOddParityText sent
       → StoresCode class row column sent arrival old new
 
 pub cell-blank : (row column : ℕ) → IsCell row column → cell blank row column ≡ space
@@ -187,7 +187,7 @@ received_item_updates_cell keeps anew Dropping w row column sent got old new nam
           let stays = rw drop at goes in
           let same = kind-near w sent got exact near in
           let header = text_begins_at_header keeps (kind w sent) in
-          let excused : HasOddText sent → ExcusedBy Dropping (LosesByteAt sent (Some got)) row
+          let excused : HasOddParityText sent → ExcusedBy Dropping (LosesByteAt sent (Some got)) row
           column =
           λ odd. dropped_row_has_byte_error w sent got row column odd drop in
           grind (arith, nat_tests)
@@ -223,7 +223,7 @@ module _ (keeps anew : Bool) (class : ReceiverClass) (w : PageIdValue) (row colu
       (item : Item)
       → Contains (text_span keeps (kind_of_item w) items) item
       → kind w item.0 ≡ Row row
-      → HasOddText item.0 × (character_code (text_byte item.0 column) ≡ code)
+      → HasOddParityText item.0 × (character_code (text_byte item.0 column) ≡ code)
 
   -- The cell may be a space if a packet of its row, in the last transmission of the page, is lost
   -- or has a wrong byte for the cell (in receivers that drop rows: any wrong byte).

@@ -7,7 +7,7 @@ use Rattle.ttx_packet.specs.OneBit.{AreNear}
 use Rattle.ttx_packet.specs.PageHeader.{c4, HasExactCodeWords}
 use Rattle.ttx_packet.specs.PageId.{PageIdValue}
 use Rattle.ttx_packet.specs.Parity.{character_code}
-use Rattle.ttx_packet.specs.RowPacket.{HasOddText, text_byte}
+use Rattle.ttx_packet.specs.RowPacket.{HasOddParityText, text_byte}
 use Rattle.ttx_page.specs.declared.packet_kind.PacketKind.TheVariants.{ThisPage, Row}
 use Rattle.ttx_page.specs.Page.{space, cell, IsCell}
 use Rattle.ttx_page.specs.PacketKind.{kind}
@@ -21,7 +21,7 @@ ErasesPage w packet = (h : Header) → kind w packet ≡ ThisPage h → IsTrue (
 
 -- If the packet is a row of page w, its 40 data bytes have odd parity.
 abbrev pub IsOddRow : PageIdValue → List ℕ → Type 0
-IsOddRow w packet = (row : ℕ) → kind w packet ≡ Row row → HasOddText packet
+IsOddRow w packet = (row : ℕ) → kind w packet ≡ Row row → HasOddParityText packet
 
 -- If both packets are packets of the same row of page w, they are equal.
 abbrev pub AreEqualInRow : PageIdValue → List ℕ → List ℕ → Type 0

@@ -99,7 +99,7 @@ pub fn is_dropped(page_id: PageId, packet: &Packet) -> bool
     ensures { result ≡ is_dropped page_id packet.now }
 {
     match PacketKind::of(page_id, packet) {
-        PacketKind::Row(_) => packet.first_even().is_some(),
+        PacketKind::Row(_) => packet.first_even_parity_column().is_some(),
         _ => false,
     }
 }
