@@ -121,7 +121,8 @@ joining_starts_with_outcomes wrong (g ∷ more) cut all =
     ∙ sym (ap (output given.Nothing) (outcomes-from wrong (single_packet_part g) more))
     ∙ sym (with_gap_markers-nothing false (outcomes wrong (parts (g ∷ more)))))
 
--- Reading a recording from its start returns what the transport packets of the PID carry.
+-- The output for a recording, read from its start, is the PES packets that the transport packets of
+-- the PID carry, with gap markers where data is missing.
 pub stream_outputs_carried_bytes : (number distance : ℕ) (recording : List ℕ)
     → output_of (start_of_stream number distance) recording ≡ carried_bytes number distance
     recording

@@ -148,8 +148,8 @@ nothing_changes_no_output before reported u v w takes same only =
     (sym (only ∙ ap (λ (j : JoiningValue). record v { joining = j }) same))
     (record { given = []; takes = takes })
 
--- If further reading made an item pending, and this item was returned, the consumed bytes contain
--- it.
+-- If further reading made an item pending, and this item was returned, it is part of the output
+-- that the consumed bytes determine.
 pub next_item_is_output : (before reported : Option (List ℕ)) (u v w : StreamValue) (n : Next)
     → TakesPrefix (output_of u) (output_of v) before reported
     → TakesNext v.joining n w.joining

@@ -276,8 +276,8 @@ tail-whole wrong part size (g ∷ more) all begins w =
     less_than_test_is_true : (m n : ℕ) → m < n → nat_lt m n ≡ true
     less_than_test_is_true m n lt = grind (arith, nat_tests)
 
--- The bytes of a part with a wrong start code or length are returned unchanged, whatever packets
--- follow.
+-- The output for a part with a wrong start code or length is its first payloads, up to the one with
+-- which they have six bytes, whatever packets follow.
 pub output-other : (g : Given) (wrong : Bool) (part : Part) (goods : List GoodPacket)
     → part.begins ≡ true
     → HasWrongStartOrLength (part_bytes part)

@@ -1,6 +1,6 @@
 -- The good transport packets of a PID, each with its link to the good packet before it. A good
--- packet is usable, has a payload, and does not repeat the packet before it (ISO/IEC 13818-1,
--- 2.4.3.3: continuity_counter, by which a packet may be sent twice; 2.4.3.5:
+-- packet is usable, has a payload, and is not the first repeat of the good packet before it
+-- (ISO/IEC 13818-1, 2.4.3.3: continuity_counter, by which a packet may be sent twice; 2.4.3.5:
 -- discontinuity_indicator).
 use Rattle.std.specs.Prelude.{ℕ, ◌+◌, ◌*◌, ◌%◌, ◌==◌, ◌&&◌, ◌||◌, not, Bool, true, false}
 use Rattle.std.specs.Prelude.{if◌then◌else◌, List, [], ◌∷◌, Option, Some, None, bytes_eq}
@@ -17,8 +17,8 @@ pub data PidEvent : Type 0 where
   Wrong : PidEvent
   Loss : PidEvent
 
--- The number of skipped bytes that counts as a loss: the size of 15 transport packets, after which
--- the continuity_counter could continue by chance.
+-- The number of skipped bytes that counts as a loss: the size of 15 transport packets. After 15
+-- lost packets of a PID, its continuity_counter has the same value again, as in a repeat.
 abbrev pub loss_size : ℕ → ℕ
 loss_size distance = 15 * distance
 

@@ -30,21 +30,21 @@ pub(crate) enum PartState {
     WithoutStart,
     /// A PES packet has begun and is incomplete.
     Open,
-    /// The current PES packet is complete and was returned.
+    /// The current PES packet is complete. It was returned or is pending.
     Complete,
-    /// The start code or length is not that of a Teletext PES packet. The bytes were returned
-    /// unchanged, and nothing more is returned.
+    /// The start code or length is not that of a Teletext PES packet. The bytes were returned or
+    /// are pending, unchanged, and nothing is returned after them.
     Ended,
 }
 
-/// The kind of the item that was returned last.
+/// The kind of the item that became pending last. It may still be pending.
 #[derive(Drop)]
 pub(crate) enum Given {
-    /// No PES packet was returned yet.
+    /// No PES packet has become pending yet.
     Nothing,
-    /// A PES packet was returned last.
+    /// A PES packet became pending last.
     Packet,
-    /// A gap marker after a PES packet was returned last.
+    /// A gap marker after a PES packet became pending last.
     GapMarker,
 }
 
@@ -226,8 +226,8 @@ impl Joining {
     }
 
     // Returns whether data was lost between the last good transport packet and `packet`. Returns
-    // `false` for the first packet, and after an announced discontinuity, where a loss cannot be
-    // detected.
+    // `false` for the first packet. If no loss was recorded, also returns `false` after an
+    // announced discontinuity, where a loss cannot be detected.
     fn is_break(&self, packet: &[u8; PACKET]) -> bool
         ensures { result ≡ is_break (link_after self.now self.now.last packet.now) }
     {
@@ -280,7 +280,7 @@ impl Joining {
         self.has_break = false;
     }
 
-    // Returns whether the current PES packet is complete and was returned.
+    // Returns whether the current PES packet is complete, so that it was returned or is pending.
     fn is_complete(&self) -> bool
         ensures { result ≡ is_complete self.now.part }
     {
@@ -290,7 +290,8 @@ impl Joining {
         }
     }
 
-    // Begins to collect a new PES packet with this payload.
+    // Begins to collect a new PES packet with this payload, if `begins` is true. Otherwise the
+    // first bytes of the PES packet are missing, and its payloads give no output.
     #[inline(always)]
     fn begin_part(&mut self, is_break: bool, begins: bool, payload: &[u8])
         requires idle { self.old.pending ≡ [] }
@@ -308,7 +309,9 @@ impl Joining {
         }
     }
 
-    // Continues the current PES packet with a payload.
+    // Appends a payload to the current PES packet if that is incomplete. After a complete PES
+    // packet, the payload counts as a gap. If the packet's first bytes are missing, it gives no
+    // output.
     #[inline(always)]
     fn continue_open_part(&mut self, payload: &[u8])
         requires idle { self.old.pending ≡ [] }
@@ -485,7 +488,8 @@ impl Joining {
     }
 }
 
-// Returns whether a gap needs a gap marker: only the first gap after a PES packet does.
+// Records a gap in `given`, and returns whether it needs a gap marker: only the first gap after a
+// PES packet does.
 #[inline(always)]
 fn needs_gap_marker(gap: bool, given: &mut Given) -> bool
     ensures given { given.new ≡ last_output_after gap given.old }

@@ -250,8 +250,8 @@ impl Stream {
         self.run < loss && loss <= self.run + count as u64
     }
 
-    // Skips the buffered bytes up to the next sync byte, without the byte with which they may
-    // become a loss; `skip` handles that byte.
+    // Skips the buffered bytes up to the next sync byte, unless these bytes may become a loss. Then
+    // `skip` handles them one by one.
     #[inline(never)]
     #[tactic(auto, using(crate::proofs::StreamLemmas::junk))]
     fn skip_junk(&mut self)
