@@ -214,7 +214,9 @@ impl Carrier {
         }
     }
 
-    /// Records the PTS of a PES packet that began after a picture of the same programme.
+    /// Processes the PTS of a PES packet that began after a picture of the same programme. Prints a
+    /// line if the PES packet is the first after that picture, and a second has passed since the
+    /// last line.
     pub fn take_lead(&mut self, pts: u64, picture: &Picture, text: &mut Text)
         ensures { self.new.pid ≡ self.old.pid }
     {

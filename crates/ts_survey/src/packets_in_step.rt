@@ -18,8 +18,8 @@ ghost use Rattle.ts_survey.specs.ReadBuffer.{max_retained_bytes};
 use crate::text::Text;
 use mpeg_ts::{PACKET, PacketSize, SYNC_BYTE};
 
-/// The number of packets that may be missing of any PID if this many packet sizes are skipped in a
-/// row.
+/// The number of packet sizes that, if skipped in a row, count as a loss: packets of any PID may be
+/// missing.
 const LOSS_SIZE_IN_PACKETS: u64 = 15;
 
 /// Processes the packets of a transport stream, one after another.

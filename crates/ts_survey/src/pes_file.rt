@@ -28,8 +28,8 @@ fn is_start(bytes: &[u8]) -> bool
     bytes[0] == 0 && bytes[1] == 0 && bytes[2] == 1 && bytes[3] == 0xBD
 }
 
-// Returns whether the bytes begin with a start code other than the start code of a PES packet with
-// private data.
+// Returns whether there are at least six bytes that do not begin with 00 00 01 BD, as a PES packet
+// of private_stream_1 does.
 fn has_wrong_start_code(bytes: &[u8]) -> bool
     ensures { result ≡ pes_packets.has_wrong_start_code bytes.now }
 {

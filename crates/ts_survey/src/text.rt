@@ -81,7 +81,7 @@ impl Text {
         self.separated_number(b' ', number);
     }
 
-    /// Adds a sign and a number in decimal.
+    /// Adds a separator, such as a space or a comma, and a number in decimal.
     pub fn separated_number(&mut self, separator: u8, number: u64)
         ensures { AddsBytes self.old (separator ∷ decimal number) self.new }
     {
