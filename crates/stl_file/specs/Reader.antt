@@ -149,8 +149,9 @@ FindsFrom block (breaks f at) = block ≤ at
 FindsFrom block (finds s at more) = (block ≤ at) × FindsFrom block more
 FindsFrom block (refuses f at more) = (block ≤ at) × FindsFrom block more
 
--- The source failed: `to` is the block of the first byte that could not be read. Whatever follows
--- the bytes consumed, the results have at least this block number, in the sense of `FindsFrom`.
+-- What is true if the source failed: `to` is the block of the first byte after the consumed bytes,
+-- and whatever follows these bytes, the results have at least this block number, in the sense of
+-- `FindsFrom`.
 pub record FailsReading
     (scope : Scope) (from to : ℕ) (refused : Option StartedSubtitle) (old new : Option (List ℕ))
     : Type 0 where

@@ -125,9 +125,10 @@ impl ResumingReader {
     /// Finds the next item of the file, and reads a subtitle into `subtitle`. After `End` or an
     /// error, do not call `next_into` again.
     ///
-    /// A returned subtitle is equal to the subtitle that `StlReader::next` would return. If no
-    /// subtitle is returned, the contents of `subtitle` are unspecified. The reader skips comments,
-    /// user data, subtitles outside the scope, and the later blocks of a rejected subtitle.
+    /// If no subtitle was rejected before it, a returned subtitle is equal to the subtitle that
+    /// `StlReader::next` would return. If no subtitle is returned, the contents of `subtitle` are
+    /// unspecified. The reader skips comments, user data, subtitles outside the scope, and the
+    /// later blocks of a rejected subtitle.
     ///
     /// # Errors
     ///
