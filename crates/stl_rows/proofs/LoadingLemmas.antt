@@ -235,7 +235,8 @@ module _ {D : Type 0} {IsReported : D → LoadFault → D → Type 0} {old mid n
         reported = stops.3;
       }
 
-  -- The fault that ends reading is in the bytes of the file, unless the source failed.
+  -- If reading ended with a fault of the file, not with a failed read of the source, the reported
+  -- faults are at least one, and all are in the bytes of the file.
   pub fault_is_in_file-end : (early : List LoadFault) (fault : StlFault) {from block : ℕ}
       → All (IsReportedUpToBlock from) early
       → is_file_read_failure fault ≡ false

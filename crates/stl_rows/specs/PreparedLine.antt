@@ -95,7 +95,7 @@ uncounted_cells items line =
     )
     else (0, 0)
 
--- The layout item `free_jc`: the JC to use for a subtitle whose JC is 0 (EBU Tech 3264, TTI block,
+-- The layout item `free`: the JC to use for a subtitle whose JC is 0 (EBU Tech 3264, TTI block,
 -- field JC).
 abbrev pub effective_jc : LayoutItems → ℕ → ℕ
 effective_jc items jc = if jc == 0 then items.free_jc else jc

@@ -4,7 +4,7 @@
 //! each frame and the next frame at which the expected page can change:
 //!
 //! ```text
-//! let programme = load(alloc, &mut source, National::English, Layout::default())?;
+//! let programme = load(alloc, &mut source, National::English, Layout::default(), Scope::whole())?;
 //! let page = programme.due_page(900_000);
 //! let edge = programme.next_edge(900_000);
 //! ```

@@ -25,7 +25,7 @@ use sub_io::{FirstReported, Source};
 /// Loads the subtitles of an STL file, to be drawn with a national option and a layout.
 ///
 /// Subtitles outside the scope are skipped. Each subtitle takes 24 bytes plus its text in memory.
-/// The source is read to its end.
+/// The source is read to its end, or to the first fault.
 ///
 /// # Errors
 ///
@@ -114,8 +114,8 @@ pub fn law_of_loading()
     law_of_files();
 }
 
-/// The faults and subtitles of a part of a file are the faults and subtitles of the file without
-/// the blocks of all other subtitles, apart from block numbers.
+/// If no fault ends reading, the faults and subtitles of a part of a file are the faults and
+/// subtitles of the file without the blocks of all other subtitles, apart from block numbers.
 pub fn law_of_parts()
     ensures { LawOfParts }
 {

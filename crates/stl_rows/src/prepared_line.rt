@@ -180,8 +180,8 @@ fn uncounted_cells(items: &LayoutItems, line: &[u8]) -> (usize, usize)
     (ahead, trailing(0, 0x1F, line))
 }
 
-// Returns the JC to use: the value of the layout item `free_jc` for JC 0, otherwise the subtitle's
-// own JC.
+// Returns the JC to use: the value of the layout item `free` for JC 0, otherwise the subtitle's own
+// JC.
 fn effective_jc(items: &LayoutItems, jc: u8) -> u8
     ensures { result ≡ effective_jc items.now jc }
 {

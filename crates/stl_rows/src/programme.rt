@@ -389,8 +389,8 @@ impl Programme {
     }
 }
 
-/// The expected page at a frame is the page of the subtitle whose TCI is at or before the frame and
-/// whose TCO is after it.
+/// If subtitles do not overlap, the expected page at a frame is the page of the subtitle whose TCI
+/// is at or before the frame and whose TCO is after it.
 #[tactic(auto, using(crate::proofs::DuePageLemmas::due_subtitle_is_drawn))]
 pub fn law_of_due_subtitles()
     ensures { LawOfDueSubtitles }
