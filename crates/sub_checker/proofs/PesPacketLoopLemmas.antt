@@ -45,7 +45,7 @@ use Rattle.sub_checker.specs.NextPesPackets.{frames_after_read, steps_of_read_pa
 use Rattle.sub_checker.specs.Relay.{initial_relay, relayed_events, relay_after}
 use Rattle.sub_checker.specs.PesFileEvents.{MatchesReadFile, ReportsPesPackets, events_with_run_end}
 use Rattle.sub_checker.specs.LastEvents.{FinishesReporting}
-use Rattle.sub_checker.specs.ReadCounts.{CarryFrames, AreComplete, AreCountsOfFrames}
+use Rattle.sub_checker.specs.ReadCounts.{CarryFrames, HaveCompletePackets, AreCountsOfFrames}
 use Rattle.sub_checker.specs.declared.reporter.Relay.{Relay}
 use Rattle.sub_checker.specs.declared.accepted.Accepted.{Accepted}
 use Rattle.sub_checker.proofs.RelayLemmas.{after-append, after-none, skipped-append}
@@ -370,7 +370,7 @@ module _ (judging : JudgedValue) {options : OptionsValue} {bytes : List ℕ}
             (subst (λ (l : List PesPacket). CarryFrames clock bytes (frames_of l) at.rest)
             no_packet_is_left
             taken);
-        whole = subst (λ (l : List PesPacket). AreComplete (frames_of l)) no_packet_is_left
+        whole = subst (λ (l : List PesPacket). HaveCompletePackets (frames_of l)) no_packet_is_left
             at.whole;
         counts = subst (λ (l : List PesPacket). AreCountsOfFrames options.page
             (sent_by_pes_packets g l) a)

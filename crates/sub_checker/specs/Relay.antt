@@ -6,7 +6,7 @@ use Rattle.sub_rules.specs.Trusted.{CheckStep}
 use Rattle.sub_rules.specs.Trusted.CheckStep.{Emits}
 use Rattle.sub_rules.specs.declared.event.Event.{Event}
 use Rattle.sub_checker.specs.FusedAudience.{ReportsUnlessStopped}
-use Rattle.sub_checker.specs.SkippedPesPackets.{skipped_run_of, stored_run}
+use Rattle.sub_checker.specs.StoredSkippedRun.{skipped_run_of, stored_run}
 use Rattle.sub_checker.specs.declared.reporter.Relay.{Relay}
 use Rattle.sub_checker.specs.declared.reporter.Reporter.{Reporter}
 use Rattle.sub_checker.specs.TrustTracker.{after_step, new_tracker, events_of_steps, tracker_after}

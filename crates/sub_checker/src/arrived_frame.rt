@@ -54,7 +54,7 @@ impl<'a> Checker<'a> {
         }
         self.end_pending_frame(reporter);
         reporter.go_to(pes);
-        self.begin_next_frame(pes, sending, units, reporter);
+        self.check_first_of_frame(pes, sending, units, reporter);
     }
 
     // Returns whether a PES packet of `frame` continues the last frame, which has not ended yet.
@@ -66,7 +66,7 @@ impl<'a> Checker<'a> {
     }
 
     // Checks a PES packet of a new frame.
-    fn begin_next_frame<A: ReportSink<Event>>(
+    fn check_first_of_frame<A: ReportSink<Event>>(
         &mut self,
         pes: u32,
         sending: ValidPesPacket,

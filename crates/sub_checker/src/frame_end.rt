@@ -6,7 +6,7 @@
 //!     end_sent_frame   a frame with PES packets; checks that the first frame has a header
 //! end_of_frame   any frame, also called by `end_sent_frame`
 //!   end_without_faults  no fault is active, and none was active before
-//!   end_with_faults
+//!   end_after_full_check
 //!     end_without_delay, end_with_delay   depending on whether `within` is 0
 //! ```
 ghost use Rattle.std.specs.Prelude.{◌≡◌, ◌==◌, ◌&&◌, ℕ, suc, ◌+◌, ◌<◌, List, IsTrue, None};
@@ -285,13 +285,13 @@ impl<'a> Checker<'a> {
             self.end_without_faults(reporter);
             return;
         }
-        self.end_with_faults(reporter);
+        self.end_after_full_check(reporter);
     }
 
     // Ends a frame with or without faults, for any `within`. Not inlined into `end_of_frame`, which
     // is inlined into each loop over frames and ends most frames without this function.
     #[inline(never)]
-    fn end_with_faults<A: ReportSink<Event>>(&mut self, reporter: &mut Reporter<'_, A>)
+    fn end_after_full_check<A: ReportSink<Event>>(&mut self, reporter: &mut Reporter<'_, A>)
         ensures reported { ReporterRelays A.is_reported reporter.old (end_steps self.old)
             reporter.new }
         ensures ended { self.new ≡ checker_after_end self.old }

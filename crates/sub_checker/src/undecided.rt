@@ -56,7 +56,7 @@ fn last_undecided(judging: &Judging<'_>, frame: u32, least: u32) -> Option<u32>
         × ((f : ℕ) → last < f → f ≤ frame → is_undecided_in judging.now f ≡ false)) }
 {
     let mut at = frame;
-    while let Some(before) = frame_before(judging, at, least) {
+    while let Some(before) = frame_before_last_edge(judging, at, least) {
         if judging.is_undecided(before) {
             return Some(before);
         }
@@ -67,7 +67,7 @@ fn last_undecided(judging: &Judging<'_>, frame: u32, least: u32) -> Option<u32>
 
 // Returns the last frame before the last cue at or before `at`; `None` if there is no such cue, or
 // if that frame is before `least`.
-fn frame_before(judging: &Judging<'_>, at: u32, least: u32) -> Option<u32>
+fn frame_before_last_edge(judging: &Judging<'_>, at: u32, least: u32) -> Option<u32>
     ensures { MatchOption result
         ((f : ℕ) → least ≤ f → f ≤ at
         → is_undecided_in judging.now f ≡ is_undecided_in judging.now at)

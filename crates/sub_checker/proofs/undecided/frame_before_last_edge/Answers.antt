@@ -3,7 +3,7 @@ use Rattle.std.proofs.Common.{◌≡◌, ℕ, arith, subst, sym}
 use Rattle.stl_rows.specs.DuePage.{IsEdge}
 use Rattle.stl_rows.specs.Programme.{ProgrammeValue}
 use Rattle.sub_checker.proofs.UndecidedLemmas.{undecided_is_constant_between_changes}
-use Rattle.sub_checker.proofs.undecided.frame_before.Goals as goal
+use Rattle.sub_checker.proofs.undecided.frame_before_last_edge.Goals as goal
 
 same_cues : (p q : ProgrammeValue) (e : ℕ) → p ≡ q → IsEdge q.records e → IsEdge p.records e
 same_cues p q e same edge = subst (λ (r : ProgrammeValue). IsEdge r.records e) (sym same) edge

@@ -16,7 +16,7 @@ use Rattle.sub_checker.proofs.BetweenPesPacketsLemmas.{undelayed_frame_steps, ne
 use Rattle.sub_checker.proofs.BetweenPesPacketsLemmas.{new_frame_stays_open}
 use Rattle.sub_checker.proofs.BetweenPesPacketsLemmas.{delayed_frame_steps}
 use Rattle.sub_checker.proofs.BetweenPesPacketsLemmas.{within_is_positive}
-use Rattle.sub_checker.proofs.checker.Checker.begin_next_frame.Goals as goal
+use Rattle.sub_checker.proofs.checker.Checker.check_first_of_frame.Goals as goal
 
 pub returns-then-self-eq0-clause-reported : goal.returns-then-self-eq0-clause-reported
 returns-then-self-eq0-clause-reported g c = λ criteria frames n last follows long sent again.
