@@ -1,5 +1,4 @@
--- The guarantees for trusted frames, and that all frames with these guarantees are reported as
--- trusted.
+-- The guarantees for trusted frames, and the conditions under which frames are reported as trusted.
 use Rattle.std.specs.Prelude.{◌≡◌, ◌≢◌, ℕ, zero, suc, ◌+◌, ◌<◌, ◌≤◌, ◌==◌, ◌&&◌, nat_lt, Bool}
 use Rattle.std.specs.Prelude.{List, [], ◌∷◌, ◌++◌, ◌⊎◌, Contains, length, take, Option, Some}
 use Rattle.std.specs.Prelude.{IsFalse, IsTrue, if◌then◌else◌, true}
@@ -124,7 +123,7 @@ LawOfKnownPages =
     → from ≤ f + g.within
     → IsFalse (g.undecided f)
 
--- ---- all frames with the guarantees are reported
+-- ---- the frames that are reported as trusted
 
 -- The frames a to b could be reported as trusted: they have no fault that affects receivers, no
 -- fault is active at any of their ends, no skipped PES packet was sent in them, and if `within` is
@@ -154,9 +153,9 @@ IsAnythingReported g pes_packets = (all_events_of_pes_packets g pes_packets ≢ 
     g.any_unreliable
 
 -- If the PES file has any event, or a subtitle was rejected, each range of frames that could be
--- trusted is reported as trusted, in one event, from its first header that erases the page on. So
--- all frames with the guarantees are reported; if `within` is not 0, except those after the last
--- finished frame.
+-- trusted is reported as trusted, in one event, from its first header that erases the page on.
+-- Frames that have the guarantees without meeting the conditions of `MayBeReportedAsTrusted` need
+-- not be reported.
 abbrev pub LawOfAllTrusted : Type 0
 LawOfAllTrusted =
     (g : Criteria) (pes_packets : List PesPacket) (a b i : ℕ)
