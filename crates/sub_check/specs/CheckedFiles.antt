@@ -75,8 +75,9 @@ pub record FilesMean
   -- the PTS and the Teletext packets of that frame.
   pub carries : Carries origin pes transmission
 
--- Both files are accepted with the default options, without any delay: they contain some subtitles
--- and a good transmission of these, with complete pages if the options require them.
+-- Both files are accepted with options that allow no delay and require C4 (erase page) in each
+-- header of the page: they contain some subtitles and a good transmission of these, with complete
+-- pages if the options require them.
 pub record IsAccepted
     (drawing : Drawing) (options : OptionsValue) (stl pes : List ℕ) : Type 0 where
   pub subtitles : List SubtitleValue
@@ -85,8 +86,8 @@ pub record IsAccepted
   pub good : Good (record { drawing = drawing; records = subtitles }) transmission options
   pub complete : IsTrue options.asks_complete → Complete transmission options
 
--- `check_files` may return `answer` for the bytes of both files, with the default options, without
--- any delay.
+-- `check_files` may return `answer` for the bytes of both files, with options that allow no delay
+-- and require C4 (erase page) in each header of the page.
 pub record IsResultWithoutDelay
     (drawing : Drawing) (options : OptionsValue) (stl pes : List ℕ)
     (answer : Result Accepted CheckFault)
@@ -227,8 +228,8 @@ pub record IsCheckedBy
       → failed is_pes_read_failure answer ≡ false
       → IsOk answer
 
--- The result with the default options (each header erases the page, and no delay is allowed), in
--- terms of the seven rules. `IsCheckedBy` is true as well.
+-- The result with options that allow no delay and require C4 (erase page) in each header of the
+-- page, in terms of the seven rules. `IsCheckedBy` is true as well.
 pub record IsChecked
     (programme : ProgrammeValue) (options : OptionsValue) (bytes : List ℕ)
     (answer : Result Accepted CheckFault)

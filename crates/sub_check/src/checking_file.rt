@@ -25,24 +25,24 @@ use sub_plan::Options;
 use sub_rules::{CheckFault, Event};
 use ttx_pes::{FilePesPackets, PesFault};
 
-/// Checks a PES file against a programme. The file is accepted exactly if it carries a good
-/// transmission of the programme, with complete pages if the options require them. Otherwise the
-/// result is the first fault that `check_all` reports.
+/// Checks a PES file against a programme. The file is accepted exactly if it carries a transmission
+/// of the programme that is good by the options. Otherwise the result is the first fault that
+/// `check_all` reports.
 ///
 /// The check reads one PES packet at a time and allocates no memory. It stores one PES packet, one
-/// received page, the expected page, and a flag for each row received since the last header of the
-/// page. The expected page is drawn again only when a subtitle begins or ends. Packets that begin
-/// with a header of the page and equal those of the PES packet before, byte for byte, are not
-/// examined again.
+/// received page, the expected page, and for each row whether it was received since the last header
+/// of the page and since the last header that erased it. The expected page is drawn again only when
+/// a subtitle begins or ends. Packets that begin with a header that erases the page and equal those
+/// of the PES packet before, byte for byte, are not examined again.
 ///
 /// # Errors
 ///
 /// Returns the first fault in this order. For each PES packet: its own fault as `Pes`, `OffFrame`
-/// or `Order`; for the first PES packet `Early`; for each frame before it `Content`, then `Gap`;
-/// for its Teletext packets in order `Address` to `Enhancement`; for the first PES packet
-/// `NoFirstHeader`; then `Content`, `Gap`, and, if complete pages are required, `Incomplete`. At
-/// the end of the file: `Empty` or `Late`. Returns `Pes` with `Read` exactly if the source failed
-/// in this call.
+/// or `Order`; for the first PES packet `Early`; for each frame before it `Content`, then `Gap`
+/// and, if there is a pace, `Silent`; for its Teletext packets in order `Address` to `Enhancement`;
+/// for the first PES packet `NoFirstHeader`; then `Content`, `Gap`, and, if complete pages are
+/// required, `Incomplete`. At the end of the file: `Empty` or `Late`. Returns `Pes` with `Read`
+/// exactly if the source failed in this call.
 ///
 /// If `within` is not 0, a frame ends at the next PES packet of another frame or at the end of the
 /// file. `Incomplete` is then returned only when the allowed delay has passed. Before that,

@@ -2,13 +2,13 @@
 //! programme is robust.
 //!
 //! Combines `sub_checker`, which reports all faults, with `sub_laws` and `sub_trusted`, whose laws
-//! state what the reports mean, and re-exports their public names, those of `sub_rules`, and the
-//! law of `sub_packets`. `check` accepts exactly the good transmissions (`Good` in `sub_rules`),
-//! and returns the first fault for any other:
+//! state what the reports mean. Re-exports types and laws of these crates, of `sub_rules` and of
+//! `sub_packets`. `check` accepts exactly the transmissions that are good by the options
+//! (`GoodWithRepeats` in `sub_rules`), and returns the first fault for any other:
 //!
 //! ```text
 //! check(&programme, &mut source, &options)?; // Accepted { frames: 51, transmissions: 2 }
-//! check_all(&programme, &mut source, &options, &mut audience)?; // reports every fault
+//! check_all(&judging, &mut source, &options, &mut report_sink)?; // reports every fault
 //! law_of_good: Good programme transmission options → HasPromises programme transmission options
 //! ```
 #![tactic(auto)]
