@@ -29,10 +29,10 @@ pub use sub_checker::Accepted;
 pub use sub_laws::{
     law_of_broken_places, law_of_complete_plan, law_of_empty_report, law_of_empty_report_repeats,
     law_of_exact_frames, law_of_first_reported, law_of_full_recovery, law_of_full_stretch,
-    law_of_good, law_of_good_with_repeats, law_of_longer_delay_of_files, law_of_longer_repeats,
-    law_of_lossless_reception, law_of_no_delay, law_of_plan, law_of_plan_read, law_of_plan_repeats,
-    law_of_repeated_stretch, law_of_stretch, law_of_sufficient_parts, law_of_trust_without_delay,
-    law_of_unreported_stretch, law_of_window,
+    law_of_good, law_of_good_with_repeats, law_of_longer_delay_of_files,
+    law_of_longer_delay_with_repeats, law_of_lossless_reception, law_of_no_delay, law_of_plan,
+    law_of_plan_read, law_of_plan_repeats, law_of_repeated_stretch, law_of_stretch,
+    law_of_sufficient_parts, law_of_trust_without_delay, law_of_unreported_stretch, law_of_window,
 };
 pub use sub_packets::law_of_repeated_packets;
 pub use sub_rules::{CheckFault, EndRule, Event, FaultPlace, PacketRule, Watched};

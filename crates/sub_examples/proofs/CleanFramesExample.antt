@@ -26,7 +26,7 @@ use Rattle.stl_rows.specs.PreparedLine.{line_with_layout_codes, line_with_before
 use Rattle.stl_rows.specs.PreparedLine.{prepared_by_layout, row_starting_at, start_column_by_layout}
 use Rattle.stl_rows.specs.SubSets.{sub_set}
 use Rattle.stl_rows.specs.TextCode.{cell_of, cell_of_pair, is_common}
-use Rattle.sub_laws.specs.CleanStretch.{IsUnreported}
+use Rattle.sub_laws.specs.CleanStretch.{HasNoReceiverFault}
 use Rattle.sub_examples.specs.Examples.{ExampleOfCleanFrames, time_filling_header}
 use Rattle.sub_examples.specs.Examples.{transmission_damaged_first, options_with_bound}
 use Rattle.sub_examples.specs.Examples.{english_header, later_subtitle, row_22}
@@ -44,7 +44,7 @@ refused good =
     let control = good.rules.control 0 none (omega arith) 0 [] (omega arith) in
     grind (arith, nat_tests, control _ refl)
 
-clean : IsUnreported (criteria_of later_subtitle (options_with_bound 1) None)
+clean : HasNoReceiverFault (criteria_of later_subtitle (options_with_bound 1) None)
     transmission_damaged_first 900001
     900002
 unfolding are_code_words is_word_below first_even_parity_byte breaks differing_column_count is_gap

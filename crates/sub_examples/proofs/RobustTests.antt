@@ -27,7 +27,7 @@ use Rattle.sub_rules.specs.PacketTests.{breaks, is_same_bit, packet_rules}
 use Rattle.sub_rules.specs.Transmission.{IsRising, SentFrame, Transmission, first_frame}
 use Rattle.sub_rules.specs.Transmission.{last_frame, on_air, packets_of}
 use Rattle.sub_rules.specs.declared.packet_rule.PacketRule.{PacketRule}
-use Rattle.sub_laws.specs.CleanStretch.{HoldsAtFrameEnds, HoldsAtPackets, IsUnreported}
+use Rattle.sub_laws.specs.CleanStretch.{HoldsAtFrameEnds, HoldsAtPackets, HasNoReceiverFault}
 use Rattle.sub_laws.specs.CleanStretch.{is_needed_by_receivers}
 use Rattle.sub_laws.specs.Robust.{IsListening, Robust}
 use Rattle.sub_examples.specs.Examples.{IsRuleNeeded, IsUnreportedExcept, options_with_bound}
@@ -309,7 +309,7 @@ pub unreported_by_test :
     && (nat_lt 0 (length frames)
     && (nat_le (first_frame frames) a && (nat_le a b && nat_le b (last_frame frames))))
     ≡ true
-    → IsUnreported g frames a b
+    → HasNoReceiverFault g frames a b
 unreported_by_test g frames a b known e =
     let parts = and_parts (reports_only_rule 0 g frames a b) _ e in
     let unreported = unreported_but 0 g frames a b parts.0 in

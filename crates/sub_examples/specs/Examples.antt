@@ -19,7 +19,7 @@ use Rattle.sub_rules.specs.FrameRules.{Criteria, criteria_of}
 use Rattle.sub_rules.specs.Good.{Good}
 use Rattle.sub_rules.specs.PacketTests.{breaks}
 use Rattle.sub_rules.specs.declared.packet_rule.PacketRule.{PacketRule}
-use Rattle.sub_laws.specs.CleanStretch.{HoldsAtFrameEnds, HoldsAtPackets, IsUnreported}
+use Rattle.sub_laws.specs.CleanStretch.{HoldsAtFrameEnds, HoldsAtPackets, HasNoReceiverFault}
 use Rattle.sub_laws.specs.CleanStretch.{is_needed_by_receivers}
 use Rattle.sub_laws.specs.Recovery.{RecoversWithin}
 use Rattle.sub_laws.specs.Robust.{Robust}
@@ -247,7 +247,7 @@ transmission_damaged_first =
 -- in the right cell, or a space if its byte was received wrong.
 pub record ExampleOfCleanFrames : Type 0 where
   pub refused : Good later_subtitle transmission_damaged_first (options_with_bound 1) → ⊥
-  pub clean : IsUnreported (criteria_of later_subtitle (options_with_bound 1) None)
+  pub clean : HasNoReceiverFault (criteria_of later_subtitle (options_with_bound 1) None)
       transmission_damaged_first
       900001 900002
   pub receiver_state :

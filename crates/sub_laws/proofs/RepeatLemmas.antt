@@ -29,7 +29,8 @@ use Rattle.sub_rules.specs.Repeats.{KeepsRulesWithRepeats, LawOfMayKeep}
 use Rattle.sub_rules.specs.Repeats.{LawOfNoRepeats, LawOfErasingHeaders, HasFinishedFrame}
 use Rattle.sub_rules.specs.Transmission.{EachPacket, Transmission, first_frame, last_frame}
 use Rattle.sub_rules.specs.Transmission.{on_air_until}
-use Rattle.sub_laws.specs.Repeats.{IsRepeatedStretch, LawOfKeptCodes, LawOfLongerRepeats}
+use Rattle.sub_laws.specs.Repeats.{IsSoundStretchWithRepeats, LawOfKeptCodes}
+use Rattle.sub_laws.specs.Repeats.{LawOfLongerDelayWithRepeats}
 use Rattle.sub_laws.proofs.TransmissionLemmas.{packets_between-each}
 
 -- If the packets since the page was erased are clean, each row among them has the codes that the
@@ -47,7 +48,7 @@ pub repeated_stretch :
     (keeps : Bool) (programme : ProgrammeValue) (transmission : Transmission)
     (options : OptionsValue)
     → KeepsRulesWithRepeats keeps programme transmission options
-    → IsRepeatedStretch keeps transmission options (first_frame transmission)
+    → IsSoundStretchWithRepeats keeps transmission options (first_frame transmission)
     (last_frame transmission)
 repeated_stretch keeps programme transmission options rules = record {
   first = le_refl (first_frame transmission);
@@ -268,5 +269,5 @@ module _ (keeps : Bool) (programme : ProgrammeValue) (transmission : Transmissio
     ends = finished_longer (last_frame transmission) good.ends;
   }
 
-pub law_of_longer_repeats : LawOfLongerRepeats
-law_of_longer_repeats = good_longer
+pub law_of_longer_delay_with_repeats : LawOfLongerDelayWithRepeats
+law_of_longer_delay_with_repeats = good_longer

@@ -29,7 +29,7 @@ use Rattle.sub_rules.specs.Repeats.{HasEndedPage}
 use Rattle.sub_rules.specs.Transmission.{Transmission, first_frame, packets_between}
 use Rattle.sub_rules.specs.Transmission.{on_air, on_air_until, packets_of}
 use Rattle.sub_laws.specs.LostRows.{IsReceivedWithLosses}
-use Rattle.sub_laws.specs.Repeats.{IsRepeatedStretch}
+use Rattle.sub_laws.specs.Repeats.{IsSoundStretchWithRepeats}
 use Rattle.sub_laws.specs.Robust.{IsListening}
 use Rattle.sub_laws.specs.Sufficient.{IsSoundStretch}
 use Rattle.sub_laws.proofs.TransmissionLemmas.{packets_between-split}
@@ -59,12 +59,12 @@ module _ (transmission : Transmission) (options : OptionsValue) (a b : ℕ)
       a)
       (on_air_from_a f) (stretch.sound f low high))
 
-  pub sound_stretch_is_repeated : IsRepeatedStretch false transmission options a b
+  pub sound_stretch_is_repeated : IsSoundStretchWithRepeats false transmission options a b
   sound_stretch_is_repeated = assumption (sends_from, stretch)
 
 pub sound_of_repeated :
     (transmission : Transmission) (options : OptionsValue) (a b : ℕ)
-    → IsRepeatedStretch false transmission options a b
+    → IsSoundStretchWithRepeats false transmission options a b
     → IsSoundStretch transmission options a b
 sound_of_repeated transmission options a b stretch = record {
   first = stretch.first;
@@ -75,7 +75,7 @@ sound_of_repeated transmission options a b stretch = record {
 }
 
 module _ (keeps : Bool) (transmission : Transmission) (options : OptionsValue) (a b : ℕ)
-    (stretch : IsRepeatedStretch keeps transmission options a b)
+    (stretch : IsSoundStretchWithRepeats keeps transmission options a b)
     (g j f : ℕ) (listening : IsListening transmission a b g j f) where
   abbrev K : List ℕ → PacketKind
   K = kind options.page
@@ -163,7 +163,7 @@ holds-got w (p ∷ ps) arrived got exact may near =
     grind (arith, nat_tests, lost_packet_is_no_header, kind-near, holds-got w ps)
 
 module _ (keeps : Bool) (transmission : Transmission) (options : OptionsValue) (a b : ℕ)
-    (stretch : IsRepeatedStretch keeps transmission options a b)
+    (stretch : IsSoundStretchWithRepeats keeps transmission options a b)
     (g j f : ℕ) (arrived : List Bool) (got : List (List ℕ))
     (is : IsReceivedWithLosses transmission a b g j f arrived got) where
   pub got_as :

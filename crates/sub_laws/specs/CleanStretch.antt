@@ -64,7 +64,7 @@ is_needed_by_receivers r = (fault_row (packet_fault r 0 0)).invalidates
 -- transmission; no packet of the range breaks a rule that affects receivers; no wrong cell or
 -- missing header is active at the end of any of its frames; and the expected page of each frame,
 -- and of the `within` frames before it, is known.
-pub record IsUnreported (g : Criteria) (frames : Transmission) (a b : ℕ) : Type 0 where
+pub record HasNoReceiverFault (g : Criteria) (frames : Transmission) (a b : ℕ) : Type 0 where
   pub stretch : IsWithinTransmission frames a b
   pub rising : IsRising frames
   pub packets :
@@ -99,7 +99,7 @@ LawOfUnreportedStretch =
     → (unread : Option UnreadReason) (any_unreliable : Bool) (undecided : ℕ → Bool) (a b : ℕ)
     → IsFalse options.keeps
     → options.within ≡ 0
-    → IsUnreported (criteria_with_refusals programme options unread any_unreliable undecided)
+    → HasNoReceiverFault (criteria_with_refusals programme options unread any_unreliable undecided)
     transmission a b
     → IsSufficient programme transmission options a b
     × (IsTrue options.asks_complete

@@ -33,6 +33,6 @@ IsRobustWithLosses programme transmission options arrived =
     (IsHitOrLost options.page (on_air transmission g j f) (arrivals_from_flags arrived got)) old new
 
 -- The transmission is robust whichever rows are lost.
-abbrev pub RobustToAnyLoss : ProgrammeValue → Transmission → OptionsValue → Type 0
-RobustToAnyLoss programme transmission options =
+abbrev pub RobustToLostRows : ProgrammeValue → Transmission → OptionsValue → Type 0
+RobustToLostRows programme transmission options =
     (arrived : List Bool) → IsRobustWithLosses programme transmission options arrived

@@ -177,7 +177,7 @@ HasPromisesWithRepeats keeps programme transmission options =
 
 -- The conditions under which receivers recover in the frames from a to b, apart from the text.
 -- Earlier frames may have any packets, but frame numbers increase.
-pub record IsRepeatedStretch
+pub record IsSoundStretchWithRepeats
     (keeps : Bool) (transmission : Transmission) (options : OptionsValue) (a b : ℕ)
     : Type 0 where
   pub first : first_frame transmission ≤ a
@@ -202,7 +202,7 @@ pub record IsRepeatedStretch
 
 -- Each packet in the frames from a to b is allowed after the packets before it, whatever these are,
 -- and a header of the page is sent within the repeat bound.
-pub record IsFollowedStretch
+pub record HasAllowedPackets
     (keeps : Bool) (transmission : Transmission) (options : OptionsValue) (a b : ℕ)
     : Type 0 where
   pub stretch : IsWithinTransmission transmission a b
@@ -223,8 +223,8 @@ pub record IsFollowedStretch
 abbrev pub LawOfFollowedStretch : Type 0
 LawOfFollowedStretch =
     (keeps : Bool) (transmission : Transmission) (options : OptionsValue) (a b : ℕ)
-    → IsFollowedStretch keeps transmission options a b
-    → IsRepeatedStretch keeps transmission options a b
+    → HasAllowedPackets keeps transmission options a b
+    → IsSoundStretchWithRepeats keeps transmission options a b
 
 -- If a range of frames meets the conditions for recovery, and each cell has an allowed code at each
 -- frame end, receivers of both classes recover, and the expected page is on their screens at each
@@ -234,7 +234,7 @@ abbrev pub LawOfRepeatedStretch : Type 0
 LawOfRepeatedStretch =
     (keeps : Bool) (programme : ProgrammeValue) (transmission : Transmission)
     → (options : OptionsValue) (a b : ℕ)
-    → IsRepeatedStretch keeps transmission options a b
+    → IsSoundStretchWithRepeats keeps transmission options a b
     → KeepsDueCodes keeps programme transmission options a b
     → ((anew : Bool) (class : ReceiverClass)
     → RecoversIfForgetful keeps anew class programme transmission options a b
@@ -259,8 +259,8 @@ LawOfGoodWithRepeats =
     → HasPromisesWithRepeats keeps programme transmission options)
 
 -- A transmission that is good with some `within` is good with any greater `within`.
-abbrev pub LawOfLongerRepeats : Type 0
-LawOfLongerRepeats =
+abbrev pub LawOfLongerDelayWithRepeats : Type 0
+LawOfLongerDelayWithRepeats =
     (keeps : Bool) (programme : ProgrammeValue) (transmission : Transmission)
     → (options : OptionsValue) (more : ℕ)
     → options.within ≤ more

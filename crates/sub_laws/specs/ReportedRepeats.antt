@@ -6,16 +6,16 @@ use Rattle.sub_plan.specs.Options.{OptionsValue}
 use Rattle.sub_rules.specs.FrameRules.{UnreadReason}
 use Rattle.sub_rules.specs.Repeats.{IsCorrectPage, KeepsDueCodes}
 use Rattle.sub_rules.specs.Transmission.{Transmission}
-use Rattle.sub_laws.specs.CleanStretch.{IsUnreported, HasNoOpenEnd, criteria_with_refusals}
-use Rattle.sub_laws.specs.Repeats.{FinishesInTime, IsRepeatedStretch}
+use Rattle.sub_laws.specs.CleanStretch.{HasNoReceiverFault, HasNoOpenEnd, criteria_with_refusals}
+use Rattle.sub_laws.specs.Repeats.{FinishesInTime, IsSoundStretchWithRepeats}
 
 -- The conditions that suffice for the guarantees in the frames from a to b.
-pub record IsSufficientRepeats
+pub record IsSufficientWithRepeats
     (keeps : Bool) (programme : ProgrammeValue) (transmission : Transmission)
     (options : OptionsValue) (a b : ℕ)
     : Type 0 where
   -- Receivers recover in the range of frames (`LawOfRepeatedStretch`).
-  pub stretch : IsRepeatedStretch keeps transmission options a b
+  pub stretch : IsSoundStretchWithRepeats keeps transmission options a b
   -- At the end of each frame, each cell has a space, or a code that was expected in it within the
   -- last `within` frames.
   pub codes : KeepsDueCodes keeps programme transmission options a b
@@ -35,9 +35,9 @@ abbrev pub LawOfUnreportedRepeats : Type 0
 LawOfUnreportedRepeats =
     (programme : ProgrammeValue) (transmission : Transmission) (options : OptionsValue)
     → (unread : Option UnreadReason) (any_unreliable : Bool) (undecided : ℕ → Bool) (a b : ℕ)
-    → IsUnreported (criteria_with_refusals programme options unread any_unreliable undecided)
+    → HasNoReceiverFault (criteria_with_refusals programme options unread any_unreliable undecided)
     transmission a b
-    → IsSufficientRepeats options.keeps programme transmission options a b
+    → IsSufficientWithRepeats options.keeps programme transmission options a b
     × (IsProgramme programme.drawing programme.records
     → HasNoOpenEnd (criteria_with_refusals programme options unread any_unreliable undecided)
     transmission a b

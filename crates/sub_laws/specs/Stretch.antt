@@ -4,7 +4,7 @@ use Rattle.ttx_page.specs.Receiver.{ReceiverClass}
 use Rattle.ttx_page.specs.Receiver.ReceiverClass.{Storing}
 use Rattle.stl_rows.specs.Programme.{ProgrammeValue}
 use Rattle.sub_plan.specs.Options.{OptionsValue}
-use Rattle.sub_laws.specs.LostRows.{RobustToAnyLoss}
+use Rattle.sub_laws.specs.LostRows.{RobustToLostRows}
 use Rattle.sub_laws.specs.OnScreen.{CompleteWithin, ShownWithin}
 use Rattle.sub_laws.specs.Recovery.{RecoversWithin}
 use Rattle.sub_laws.specs.Robust.{Robust}
@@ -29,7 +29,7 @@ pub record HasPromises
   -- The main theorem: the transmission is robust.
   pub robust : Robust programme transmission options
   -- The transmission is robust even if rows are lost.
-  pub transmission_survives_any_loss : RobustToAnyLoss programme transmission options
+  pub transmission_survives_lost_rows : RobustToLostRows programme transmission options
   -- Receivers recover in all frames, whatever they received before. If pages are complete, the
   -- expected page is on their screens.
   pub trusted :
@@ -44,7 +44,7 @@ LawOfFullRecovery =
     → RecoversWithin Storing programme transmission options (first_frame transmission)
     (last_frame transmission)
     → Robust programme transmission options
-    × RobustToAnyLoss programme transmission options
+    × RobustToLostRows programme transmission options
 
 -- If the guarantees hold for the range of all frames of a transmission, they hold for the
 -- transmission.

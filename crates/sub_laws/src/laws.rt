@@ -18,7 +18,7 @@ ghost use Rattle.sub_rules.specs.PesPacketEvents.{LawOfFirstReported};
 ghost use Rattle.sub_laws.specs.Planned.{LawOfPlan, LawOfPlanRead};
 ghost use Rattle.sub_laws.specs.Repeats.{LawOfFollowedStretch, LawOfGoodWithRepeats};
 ghost use Rattle.sub_laws.specs.Repeats.{LawOfKeptCodes};
-ghost use Rattle.sub_laws.specs.Repeats.{LawOfLongerRepeats};
+ghost use Rattle.sub_laws.specs.Repeats.{LawOfLongerDelayWithRepeats};
 ghost use Rattle.sub_laws.specs.Repeats.{LawOfPlanRepeats, LawOfRepeatedStretch};
 ghost use Rattle.sub_rules.specs.Repeats.{LawOfMayKeep, LawOfNoRepeats, LawOfErasingHeaders};
 ghost use Rattle.sub_laws.specs.Stretch.{LawOfFullRecovery, LawOfFullStretch};
@@ -204,8 +204,8 @@ pub fn law_of_erasing_headers()
 {}
 
 /// A transmission that is good with some `within` is good with any greater `within`.
-pub fn law_of_longer_repeats()
-    ensures { LawOfLongerRepeats }
+pub fn law_of_longer_delay_with_repeats()
+    ensures { LawOfLongerDelayWithRepeats }
 {}
 
 /// The schedule of a subtitle file with at least one subtitle is good for any `within`, whether or

@@ -28,8 +28,8 @@ use Rattle.sub_rules.specs.Repeats.{IsDueWithin, IsCorrectPage, HasFinishedFrame
 use Rattle.sub_rules.specs.Transmission.{IsRising, Transmission, first_frame, on_air, on_air_until}
 use Rattle.sub_rules.specs.Transmission.{packets_between, packets_of}
 use Rattle.sub_laws.specs.OnScreen.{CompleteWithin}
-use Rattle.sub_laws.specs.Repeats.{FinishesInTime, IsRepeatedStretch}
-use Rattle.sub_laws.specs.ReportedRepeats.{IsSufficientRepeats}
+use Rattle.sub_laws.specs.Repeats.{FinishesInTime, IsSoundStretchWithRepeats}
+use Rattle.sub_laws.specs.ReportedRepeats.{IsSufficientWithRepeats}
 use Rattle.sub_trusted.specs.TrustedFrames.{MatchesReadPackets}
 use Rattle.sub_laws.proofs.TransmissionLemmas.{packets_between-split, packets_between-void}
 
@@ -197,8 +197,8 @@ module _ (keeps : Bool) (programme : ProgrammeValue) (options : OptionsValue) (t
           )
           page_is_unended_on_air
 
-    stretch_is_repeated_on_air : IsRepeatedStretch keeps t options a b → IsRepeatedStretch keeps u
-        options a b
+    stretch_is_repeated_on_air : IsSoundStretchWithRepeats keeps t options a b
+        → IsSoundStretchWithRepeats keeps u options a b
     stretch_is_repeated_on_air stretch = record {
       first = on_air_begins_early_enough;
       rising = is.rising;
@@ -221,8 +221,8 @@ module _ (keeps : Bool) (programme : ProgrammeValue) (options : OptionsValue) (t
         → IsDueWithin programme u options f row column code
     code_is_expected_on_air f row column code h1 = grind (arith, nat_tests)
 
-    pub repeats_are_sufficient_on_air : IsSufficientRepeats keeps programme t options a b
-        → IsSufficientRepeats keeps programme u options a b
+    pub repeats_are_sufficient_on_air : IsSufficientWithRepeats keeps programme t options a b
+        → IsSufficientWithRepeats keeps programme u options a b
     repeats_are_sufficient_on_air enough = record {
       stretch = stretch_is_repeated_on_air enough.stretch;
       codes = λ f row column low high named.

@@ -16,7 +16,8 @@ use Rattle.sub_rules.specs.Transmission.{IsRising, Transmission, first_frame, la
 use Rattle.sub_rules.specs.Transmission.{packets_of}
 use Rattle.sub_rules.specs.Trusted.{has_no_active_faults}
 use Rattle.sub_rules.specs.declared.event.Event.TheVariants.{Trusted}
-use Rattle.sub_laws.specs.CleanStretch.{HoldsAtFrameEnds, IsUnreported, criteria_with_refusals}
+use Rattle.sub_laws.specs.CleanStretch.{HoldsAtFrameEnds, HasNoReceiverFault}
+use Rattle.sub_laws.specs.CleanStretch.{criteria_with_refusals}
 use Rattle.sub_laws.specs.OnScreen.{CompleteWithin}
 use Rattle.sub_laws.specs.Stretch.{MayBeTrusted}
 
@@ -131,7 +132,7 @@ LawOfKnownPages =
 -- increase or before unreadable bytes.
 pub record MayBeReportedAsTrusted (g : Criteria) (pes_packets : List PesPacket) (a b : ℕ) : Type 0
   where
-    pub unreported : IsUnreported g (rising_frames_of g pes_packets) a b
+    pub unreported : HasNoReceiverFault g (rising_frames_of g pes_packets) a b
     pub fault_free :
         HoldsAtFrameEnds (λ n f. IsTrue
         (has_no_active_faults (active_faults_at g (rising_frames_of g pes_packets) n f)))
