@@ -113,7 +113,7 @@ fn take<R: Receiver + Drop>(
     if !is_packet_used(listening, packet) {
         return;
     }
-    if is_text_beginning(listening.receiver, receiver.watched(), packet) {
+    if restarts_at_packet(listening.receiver, receiver.watched(), packet) {
         // The header ends no page, so the screen does not change.
         restart_at_header(receiver, packet);
     } else if listening.options.asks_complete() {
@@ -137,7 +137,7 @@ fn is_packet_used(listening: &Listening, packet: &Packet) -> bool
 
 // Returns whether a receiver starts again at the packet: the user requests this kind of receiver,
 // and the packet is a header of its page.
-fn is_text_beginning(receiver: ReceiverKind, page_id: PageId, packet: &Packet) -> bool
+fn restarts_at_packet(receiver: ReceiverKind, page_id: PageId, packet: &Packet) -> bool
     ensures { result ≡ (restarts_at_header receiver && is_this_page (kind page_id packet.now)) }
 {
     match receiver {
