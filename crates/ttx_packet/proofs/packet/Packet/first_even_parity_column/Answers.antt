@@ -6,7 +6,8 @@ use Rattle.std.proofs.lemmas.List.{get_or-drop}
 use Rattle.ttx_packet.specs.Lanes.{has_even_parity, even_parity_flags}
 use Rattle.ttx_packet.proofs.BlockLemmas.{block_is_chunk, zero_mask_extends_search}
 use Rattle.ttx_packet.proofs.BlockLemmas.{nonzero_mask_gives_first}
-use Rattle.ttx_packet.proofs.RowPacketLemmas.{first_even_parity_byte-at, first_even_parity_byte-none}
+use Rattle.ttx_packet.proofs.RowPacketLemmas.{first_even_parity_byte-at}
+use Rattle.ttx_packet.proofs.RowPacketLemmas.{first_even_parity_byte-none}
 use Rattle.ttx_packet.proofs.packet.Packet.first_even_parity_column.Goals as goal
 
 pub loop-i-preserved : goal.loop-i-preserved
