@@ -22,7 +22,7 @@ use Rattle.ttx_packet.specs.RowPacket.{HasOddParityText, first_even_parity_byte,
 use Rattle.ttx_packet.specs.declared.header.Header.{Header}
 use Rattle.ttx_packet.proofs.OneBitLemmas.{first_below_satisfies_test}
 use Rattle.ttx_page.specs.Differing.{differing_column_count, row_difference}
-use Rattle.ttx_page.specs.Noise.{IsOddRow, AreEqualInRow}
+use Rattle.ttx_page.specs.Noise.{HasOddParityTextIfRow, AreEqualIfSameRow}
 use Rattle.ttx_page.proofs.NoiseStepLemmas.{is_row_implies_row}
 use Rattle.ttx_page.proofs.SpanListLemmas.{find_none}
 use Rattle.ttx_page.proofs.TextSpan.{text_span-push}
@@ -204,13 +204,15 @@ pub record IsSoundSpan (w : Watched) (packets : List (List ℕ)) : Type 0 where
 
 abbrev IsSoundPacket : Watched → List (List ℕ) → List ℕ → Type 0
 IsSoundPacket w packets q =
-    (IsPacket q × HasExactAddress q) × IsOddRow w.page q × All (AreEqualInRow w.page q) packets
+    (IsPacket q × HasExactAddress q) × HasOddParityTextIfRow w.page q
+    × All (AreEqualIfSameRow w.page q) packets
 
 each_packet_is_sound : (w : Watched) (packets : List (List ℕ)) → IsSoundSpan w packets
     → AllByRecursion (IsSoundPacket w packets) packets
 each_packet_is_sound w packets s =
     Each-join (λ q. IsPacket q × HasExactAddress q)
-    (λ q. IsOddRow w.page q × All (AreEqualInRow w.page q) packets) (IsSoundPacket w packets)
+    (λ q. HasOddParityTextIfRow w.page q × All (AreEqualIfSameRow w.page q) packets)
+    (IsSoundPacket w packets)
     (λ q a b. (a, b.0, b.1)) packets s.whole
     (grind (arith, nat_tests, Each-join, recursion_from_All))
 
@@ -248,9 +250,9 @@ module _ (w : Watched) (packets : List (List ℕ)) (s : IsSoundSpan w packets) (
             let k = is_row_implies_row row (kind w.page q.0) q.2 in
             subst (λ o. Refutes (has_different_text o (codes_of p)) IsSameAsEachRow) (sym q.1)
             (Decides-like _
-            (λ is. Each-map (AreEqualInRow w.page q.0) (λ x. kind w.page x ≡ Row row → x ≡ p)
+            (λ is. Each-map (AreEqualIfSameRow w.page q.0) (λ x. kind w.page x ≡ Row row → x ≡ p)
             (λ x same of. sym (same row k of) ∙ is) packets
-            (recursion_from_All (AreEqualInRow w.page q.0) packets q.3.2))
+            (recursion_from_All (AreEqualIfSameRow w.page q.0) packets q.3.2))
             (λ all. grind (arith, nat_tests, Each-find, same_Some, is_row_implies_row))
             (found q.0 k q.3))
         | inr e ↦

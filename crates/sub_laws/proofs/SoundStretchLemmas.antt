@@ -16,7 +16,7 @@ use Rattle.ttx_page.specs.DroppedRows.{ExcusedBy}
 use Rattle.ttx_page.specs.LostRows.{IsHitOrLost, LosesNoHeader, arrivals_from_flags}
 use Rattle.ttx_page.specs.PacketKind.{kind}
 use Rattle.ttx_page.specs.Receiver.{ReceiverClass, State}
-use Rattle.ttx_page.specs.Repeats.{EndsAfterRepeats, HearsRepeats, SendsText}
+use Rattle.ttx_page.specs.Repeats.{EndsAfterRepeats, HearsRepeats, SendsOnlyRowsOfText}
 use Rattle.ttx_page.specs.Shown.{kept}
 use Rattle.ttx_page.specs.Span.{has_page_header, is_open_after, has_no_page_end, span}
 use Rattle.ttx_page.proofs.LateStart.{sends-later, span-later, unended-later}
@@ -46,11 +46,11 @@ module _ (transmission : Transmission) (options : OptionsValue) (a b : ℕ)
       (f : ℕ)
       → a ≤ f
       → f ≤ b
-      → SendsText false options.page (on_air_from_a f)
+      → SendsOnlyRowsOfText false options.page (on_air_from_a f)
       (kept false options.page (on_air_until transmission f))
   sends_from f low high =
       subst
-      (λ (ps : List (List ℕ)). SendsText false options.page (on_air_from_a f)
+      (λ (ps : List (List ℕ)). SendsOnlyRowsOfText false options.page (on_air_from_a f)
       (kept false options.page ps))
       (sym
       (packets_between-split transmission (first_frame transmission) a (f + 1) stretch.rising
@@ -126,12 +126,14 @@ module _ (keeps : Bool) (transmission : Transmission) (options : OptionsValue) (
   so_far = on_air-split (first_frame transmission) (le_trans stretch.first listening.from)
 
   pub heard_text :
-      SendsText keeps options.page sent (kept keeps options.page (on_air_until transmission f))
+      SendsOnlyRowsOfText keeps options.page sent
+      (kept keeps options.page (on_air_until transmission f))
   heard_text =
       sends-later options.page (before a) sent keeps _
       (subst
       (λ (ps : List (List ℕ)).
-      SendsText keeps options.page ps (kept keeps options.page (on_air_until transmission f)))
+      SendsOnlyRowsOfText keeps options.page ps
+      (kept keeps options.page (on_air_until transmission f)))
       (on_air-split a listening.from)
       (stretch.sends f (le_trans listening.from listening.in_order) listening.to))
 

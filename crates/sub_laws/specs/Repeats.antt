@@ -8,7 +8,7 @@ use Rattle.ttx_page.specs.LostRows.{IsHitOrLost, arrivals_from_flags}
 use Rattle.ttx_page.specs.Page.{IsCell, Rows, cell}
 use Rattle.ttx_page.specs.PacketKind.{kind}
 use Rattle.ttx_page.specs.Receiver.{Hears, ReceiverClass, State}
-use Rattle.ttx_page.specs.Repeats.{HearsRepeats, IsFresh, MayFollow, SendsText}
+use Rattle.ttx_page.specs.Repeats.{HearsRepeats, IsFresh, MayFollow, SendsOnlyRowsOfText}
 use Rattle.ttx_page.specs.Repeats.{ShowsRepeats}
 use Rattle.ttx_page.specs.Screen.{Display}
 use Rattle.ttx_page.specs.Shown.{kept}
@@ -188,7 +188,7 @@ pub record IsSoundStretchWithRepeats
       (f : ℕ)
       → a ≤ f
       → f ≤ b
-      → SendsText keeps options.page (on_air transmission a 0 f)
+      → SendsOnlyRowsOfText keeps options.page (on_air transmission a 0 f)
       (kept keeps options.page (on_air_until transmission f))
   -- A header of the page is sent within the repeat bound.
   pub repeats :

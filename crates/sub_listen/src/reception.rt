@@ -18,7 +18,7 @@ ghost use Rattle.sub_request.specs.Flips.{with_flip, with_flips};
 
 use sub_request::{Flip, Listening, ReceiverKind};
 use ttx_packet::{Packet, PageId, SentPacket};
-use ttx_page::{PacketKind, Page, Receiver, is_dropped, show};
+use ttx_page::{PacketKind, Page, Receiver, hear_and_show, is_dropped};
 use ttx_pes::SentUnits;
 
 /// Returns the index of the first packet of a PES packet that is listed as lost but must not be
@@ -117,7 +117,7 @@ fn take<R: Receiver + Drop>(
         // The header ends no page, so the screen does not change.
         restart_at_header(receiver, packet);
     } else if listening.options.asks_complete() {
-        show(receiver, screen, packet);
+        hear_and_show(receiver, screen, packet);
     } else {
         // Complete pages are not required, so the screen does not change and no page is copied.
         receiver.hear(packet);

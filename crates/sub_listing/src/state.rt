@@ -54,7 +54,7 @@ pub fn print_state<R: Receiver, K: Sink>(
     let mut text = Text::new();
     if receiver.heard() {
         push_text(&mut text, b"heard yes\n");
-        if receiver.open() {
+        if receiver.is_page_open() {
             push_text(&mut text, b"open yes\n");
         } else {
             push_text(&mut text, b"open no\n");

@@ -8,7 +8,7 @@ use Rattle.std.specs.Option.{option_or}
 use Rattle.ttx_packet.specs.declared.header.Header.{Header}
 use Rattle.ttx_packet.specs.PageHeader.{c4, c5, c6, c7, c10}
 use Rattle.ttx_packet.specs.PageId.{PageIdValue}
-use Rattle.ttx_page.specs.Noise.{ErasesPage}
+use Rattle.ttx_page.specs.Noise.{ErasesPageIfHeader}
 use Rattle.ttx_page.specs.Page.{Rows, cell, space}
 use Rattle.ttx_page.specs.PacketKind.{is_row, kind}
 use Rattle.ttx_page.specs.Shown.{kept, shown}
@@ -86,5 +86,5 @@ HasSubtitleHeaderBits national page packet =
 -- bits of a subtitle page, and has C4 (erase page) set or, if that is allowed, repeats the page.
 pub record HasAllowedHeader (w : Watched) (before : List (List ℕ)) (packet : List ℕ) : Type 0 where
   pub control : HasSubtitleHeaderBits w.national w.page packet
-  pub erases : IsFalse w.keeps → ErasesPage w.page packet
+  pub erases : IsFalse w.keeps → ErasesPageIfHeader w.page packet
   pub keeping : ErasesOrRepeats w.complete w.page before packet

@@ -9,7 +9,7 @@ use Rattle.std.specs.Prelude.{◌≡◌, ◌↔◌, ℕ, ◌+◌, ◌-◌, ◌<�
 use Rattle.std.specs.Prelude.{length, take, slice_index_or, All, IfSome, IsTrue, IsFalse}
 use Rattle.ttx_packet.specs.PageHeader.{HasExactCodeWords}
 use Rattle.ttx_packet.specs.PageId.{PageIdValue}
-use Rattle.ttx_page.specs.Noise.{ErasesPage}
+use Rattle.ttx_page.specs.Noise.{ErasesPageIfHeader}
 use Rattle.ttx_page.specs.Page.{IsCell, cell, space}
 use Rattle.ttx_page.specs.PacketKind.{kind}
 use Rattle.ttx_page.specs.Shown.{kept}
@@ -82,7 +82,7 @@ pub record KeepsRulesWithRepeats
   -- page) set or, if `keeps` is true, repeats the page.
   pub control : EachPacket (HasSubtitleHeaderBits programme.drawing.national options.page)
       transmission
-  pub erases : IsFalse keeps → EachPacket (ErasesPage options.page) transmission
+  pub erases : IsFalse keeps → EachPacket (ErasesPageIfHeader options.page) transmission
   pub keeping :
       (f n : ℕ)
       → f ≤ last_frame transmission
@@ -168,6 +168,6 @@ LawOfMayKeep =
 abbrev pub LawOfErasingHeaders : Type 0
 LawOfErasingHeaders =
     (programme : ProgrammeValue) (transmission : Transmission) (options : OptionsValue)
-    → EachPacket (ErasesPage options.page) transmission
+    → EachPacket (ErasesPageIfHeader options.page) transmission
     → GoodWithRepeats true programme transmission options
     → GoodWithRepeats false programme transmission options

@@ -14,7 +14,7 @@ use Rattle.ttx_page.proofs.SpanListLemmas.{holds-append_right}
 use Rattle.ttx_page.proofs.TextSpan.{beginning_is_header}
 use Rattle.ttx_page.specs.Page.{space}
 use Rattle.ttx_page.specs.PacketKind.{begins_text, is_row, kind}
-use Rattle.ttx_page.specs.Repeats.{SendsText}
+use Rattle.ttx_page.specs.Repeats.{SendsOnlyRowsOfText}
 use Rattle.ttx_page.specs.Shown.{kept}
 use Rattle.ttx_page.specs.Span.{from_text_beginning, has_text_beginning, has_page_header}
 use Rattle.ttx_page.specs.Span.{is_open_after}
@@ -205,11 +205,11 @@ module _ (keeps : Bool) (programme : ProgrammeValue) (options : OptionsValue) (t
       sends = λ f low high.
           subst
           (λ (ps : List (List ℕ)).
-          SendsText keeps options.page ps (kept keeps options.page (on_air_until u f)))
+          SendsOnlyRowsOfText keeps options.page ps (kept keeps options.page (on_air_until u f)))
           (ap (drop 0) (both_have_same_packets t u a b rising is f low high))
           (subst
           (λ (ps : List (List ℕ)).
-          SendsText keeps options.page (on_air t a 0 f) (text_codes_of options.page ps))
+          SendsOnlyRowsOfText keeps options.page (on_air t a 0 f) (text_codes_of options.page ps))
           (same_text_is_on_air f low high) (stretch.sends f low high));
       repeats = λ start low high.
           let (f, after, before, found) = stretch.repeats start low high in

@@ -63,7 +63,7 @@ impl Notes {
     /// Ends a PES packet, and adds the state of the receiver after this packet to the events.
     pub fn end(&self, receiver: &Blank, heard: &mut Heard) {
         let is_blank = is_blank(receiver.page());
-        heard.add_if(receiver.open(), b'o');
+        heard.add_if(receiver.is_page_open(), b'o');
         heard.add_if(is_blank, b'b');
         heard.add_if(self.has_stray, b's');
     }
@@ -80,7 +80,7 @@ impl Notes {
         heard.add_unit();
         let watched = receiver.watched();
         let (kind, header) = PacketKind::classify_with_header(watched, packet);
-        self.note_kind(&kind, receiver.open(), packet, heard);
+        self.note_kind(&kind, receiver.is_page_open(), packet, heard);
         self.note_any_packet(watched, packet, header, pid, text);
     }
 

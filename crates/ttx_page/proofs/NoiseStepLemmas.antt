@@ -23,10 +23,11 @@ use Rattle.ttx_page.specs.declared.packet_kind.PacketKind.{PacketKind}
 use Rattle.ttx_page.specs.declared.packet_kind.PacketKind.TheVariants.{Row}
 use Rattle.ttx_page.specs.PacketKind.{begins_text, kind, is_this_page, ends_page, is_row}
 use Rattle.ttx_page.specs.DroppedRows.{ExcusedBy}
-use Rattle.ttx_page.specs.Receiver.{ReceiverClass, State, is_dropped}
+use Rattle.ttx_page.specs.Receiver.{ReceiverClass, State, is_row_with_even_parity}
 use Rattle.ttx_page.specs.Receiver.ReceiverClass.{Dropping, Storing}
-use Rattle.ttx_page.specs.Noise.{ErasesPage}
-use Rattle.ttx_page.specs.LostRows.{LosesByte, MayBeLost, LosesNoHeader, arrivals_from_flags}
+use Rattle.ttx_page.specs.Noise.{ErasesPageIfHeader}
+use Rattle.ttx_page.specs.LostRows.{LosesOrCorruptsByte, MayBeLost, LosesNoHeader}
+use Rattle.ttx_page.specs.LostRows.{arrivals_from_flags}
 use Rattle.ttx_page.specs.Repeats.{RestartsAtHeader, StepAtRepeat, HearsRepeats, StepWithRepeats}
 use Rattle.ttx_page.specs.Span.{has_text_beginning, has_page_header, is_open_after, span, text_span}
 use Rattle.ttx_page.proofs.SpanPushLemmas.{holds-push, span-push, open-this, open-other}
@@ -72,7 +73,7 @@ excuse_is_monotone Storing P Q row column gives excused = gives column excused
 excuse_is_monotone Dropping P Q row column gives excused = grind (arith, nat_tests)
 
 abbrev pub LosesByteAt : List ℕ → Option (List ℕ) → ℕ → ℕ → Type 0
-LosesByteAt sent arrival row column = LosesByte sent arrival column
+LosesByteAt sent arrival row column = LosesOrCorruptsByte sent arrival column
 
 even_parity_byte_exists : (packet : List ℕ)
     → is_some (first_even_parity_byte packet) ≡ true
@@ -93,7 +94,7 @@ even_parity_byte_exists packet some = go (first_even_parity_byte packet) refl so
 -- If a row is sent with odd parity and a receiver drops it, one of its bytes had a wrong bit.
 dropped_row_has_byte_error : (w : PageIdValue) (sent got : List ℕ) (row column : ℕ)
     → HasOddParityText sent
-    → is_dropped w got ≡ true
+    → is_row_with_even_parity w got ≡ true
     → ExcusedBy Dropping (LosesByteAt sent (Some got)) row column
 dropped_row_has_byte_error w sent got row column odd drop = grind
     (arith, nat_tests, even_parity_byte_exists)
@@ -147,7 +148,7 @@ step_updates_cell : (keeps anew : Bool) (w : PageIdValue) (row column : ℕ) (se
     (old new : State)
     → IsCell row column
     → HasExactCodeWords sent
-    → (IsFalse keeps → ErasesPage w sent)
+    → (IsFalse keeps → ErasesPageIfHeader w sent)
     → AreNear sent got
     → StepAtRepeat (kind w got) got old new
     → RestartsAtHeader anew w got new
@@ -173,7 +174,7 @@ received_item_updates_cell : (keeps anew : Bool) (class : ReceiverClass) (w : Pa
     (sent got : List ℕ) (old new : State)
     → IsCell row column
     → HasExactCodeWords sent
-    → (IsFalse keeps → ErasesPage w sent)
+    → (IsFalse keeps → ErasesPageIfHeader w sent)
     → AreNear sent got
     → StepWithRepeats class anew w old got new
     → CellAfterItem keeps anew class w row column sent (Some got) old new
@@ -182,7 +183,7 @@ received_item_updates_cell keeps anew Storing w row column sent got old new name
     step_updates_cell keeps anew w row column sent got old new named exact erases near goes.0 goes.1
 received_item_updates_cell keeps anew Dropping w row column sent got old new named exact erases near
     goes =
-    elim (cases_Bool (is_dropped w got)) [
+    elim (cases_Bool (is_row_with_even_parity w got)) [
       | inl drop ↦
           let stays = rw drop at goes in
           let same = kind-near w sent got exact near in
@@ -460,7 +461,7 @@ module _ (keeps anew : Bool) (class : ReceiverClass) (w : PageIdValue) (row colu
       (got : List (List ℕ)) (old new : State)
       → IsCell row column
       → AllByRecursion HasExactCodeWords sent
-      → AllByRecursion (λ packet. IsFalse keeps → ErasesPage w packet) sent
+      → AllByRecursion (λ packet. IsFalse keeps → ErasesPageIfHeader w packet) sent
       → AllZip LosesNoHeader sent arrived
       → AllZip AreNear (items_where_true arrived sent) got
       → HearsRepeats class anew w old got new

@@ -16,21 +16,21 @@ use Rattle.ttx_page.specs.Shown.{shown, IsHit}
 use Rattle.ttx_page.specs.Span.{has_page_header, is_open_after, span}
 
 -- If the packet is a header of page w, its control bit C4, erase page, is set.
-abbrev pub ErasesPage : PageIdValue → List ℕ → Type 0
-ErasesPage w packet = (h : Header) → kind w packet ≡ ThisPage h → IsTrue (c4 h)
+abbrev pub ErasesPageIfHeader : PageIdValue → List ℕ → Type 0
+ErasesPageIfHeader w packet = (h : Header) → kind w packet ≡ ThisPage h → IsTrue (c4 h)
 
 -- If the packet is a row of page w, its 40 data bytes have odd parity.
-abbrev pub IsOddRow : PageIdValue → List ℕ → Type 0
-IsOddRow w packet = (row : ℕ) → kind w packet ≡ Row row → HasOddParityText packet
+abbrev pub HasOddParityTextIfRow : PageIdValue → List ℕ → Type 0
+HasOddParityTextIfRow w packet = (row : ℕ) → kind w packet ≡ Row row → HasOddParityText packet
 
 -- If both packets are packets of the same row of page w, they are equal.
-abbrev pub AreEqualInRow : PageIdValue → List ℕ → List ℕ → Type 0
-AreEqualInRow w first second =
+abbrev pub AreEqualIfSameRow : PageIdValue → List ℕ → List ℕ → Type 0
+AreEqualIfSameRow w first second =
     (row : ℕ) → kind w first ≡ Row row → kind w second ≡ Row row → first ≡ second
 
 -- If both packets are packets of the same row of page w, they have the same character codes.
-abbrev pub HasSameCodes : PageIdValue → List ℕ → List ℕ → Type 0
-HasSameCodes w first second =
+abbrev pub HaveSameCodesIfSameRow : PageIdValue → List ℕ → List ℕ → Type 0
+HaveSameCodesIfSameRow w first second =
     (row column : ℕ)
     → kind w first ≡ Row row
     → kind w second ≡ Row row
@@ -42,11 +42,12 @@ pub record IsSound (w : PageIdValue) (sent : List (List ℕ)) : Type 0 where
   -- Addresses and page headers consist of code words.
   pub exact : All HasExactCodeWords sent
   -- Each header of the page has C4, erase page, set.
-  pub erases : All (ErasesPage w) sent
+  pub erases : All (ErasesPageIfHeader w) sent
   -- Each row packet in the last transmission of the page has 40 bytes of odd parity.
-  pub odd : All (IsOddRow w) (span (kind w) sent)
+  pub odd : All (HasOddParityTextIfRow w) (span (kind w) sent)
   -- Two packets of the same row in the last transmission of the page have the same character codes.
-  pub same : All (λ first. All (HasSameCodes w first) (span (kind w) sent)) (span (kind w) sent)
+  pub same : All (λ first. All (HaveSameCodesIfSameRow w first) (span (kind w) sent))
+      (span (kind w) sent)
 
 -- The final state of a receiver that had received no header of the page before, and whose page was
 -- not open.

@@ -7,7 +7,7 @@ use Rattle.ttx_packet.proofs.BlockLemmas.{zero_mask_extends_search, nonzero_mask
 use Rattle.ttx_page.specs.Lanes.{differ, differing_mask}
 use Rattle.ttx_page.proofs.LaneLemmas.{block_mask_is_correct, first_test_gives_column}
 use Rattle.ttx_page.proofs.LaneLemmas.{equal_tests_give_equal_rows}
-use Rattle.ttx_page.proofs.page.first_column.Goals as goal
+use Rattle.ttx_page.proofs.page.first_differing_column.Goals as goal
 
 pub loop-i-preserved : goal.loop-i-preserved
 loop-i-preserved c k l =
@@ -15,11 +15,12 @@ loop-i-preserved c k l =
     let ys = c.args.b.now in
     let i = c.loop-i.i in
     let mask =
-    c.differing-mask.ensures
+    c.mask_differing_cells-mask.ensures
     ∙ ap₂ differing_mask (block_is_chunk _ 16 xs i c.as_chunks.ensures.front (omega arith))
     (block_is_chunk _ 16 ys i c.as_chunks-2.ensures.front (omega arith))
     ∙ block_mask_is_correct xs ys (16 * i) (omega arith) (omega arith) in
-    zero_mask_extends_search (λ x. x) (zip2 differ xs ys) (16 * i) c.differing-mask.result false
+    zero_mask_extends_search (λ x. x) (zip2 differ xs ys) (16 * i)
+    c.mask_differing_cells-mask.result false
     (omega (arith, length-zip2 differ xs ys (omega arith))) mask c.if-mask-ne0.false
     c.loop-i.invariant k (omega arith)
 
@@ -29,12 +30,13 @@ returns-then-mask-ne0 c =
     let ys = c.args.b.now in
     let i = c.loop-i.i in
     let mask =
-    c.differing-mask.ensures
+    c.mask_differing_cells-mask.ensures
     ∙ ap₂ differing_mask (block_is_chunk _ 16 xs i c.as_chunks.ensures.front (omega arith))
     (block_is_chunk _ 16 ys i c.as_chunks-2.ensures.front (omega arith))
     ∙ block_mask_is_correct xs ys (16 * i) (omega arith) (omega arith) in
     let found =
-    nonzero_mask_gives_first (λ x. x) (zip2 differ xs ys) (16 * i) c.differing-mask.result false
+    nonzero_mask_gives_first (λ x. x) (zip2 differ xs ys) (16 * i)
+    c.mask_differing_cells-mask.result false
     (omega (arith, length-zip2 differ xs ys (omega arith))) mask c.if-mask-ne0.true
     c.loop-i.invariant in
     first_test_gives_column xs ys _ c.told-a c.told-b (omega (arith, found.0)) found.1
@@ -46,12 +48,13 @@ returns-then-last-ne0 c =
     let back : c.unwrap.result.now ≡ drop 24 xs = search rules in
     let back-2 : c.unwrap-2.result.now ≡ drop 24 ys = search rules in
     let mask =
-    c.differing-last.ensures
+    c.mask_differing_cells-last.ensures
     ∙ ap₂ differing_mask (suffix_is_last_chunk 24 16 xs _ c.told-a back)
     (suffix_is_last_chunk 24 16 ys _ c.told-b back-2)
     ∙ block_mask_is_correct xs ys 24 (omega arith) (omega arith) in
     let found =
-    nonzero_mask_gives_first (λ x. x) (zip2 differ xs ys) 24 c.differing-last.result false
+    nonzero_mask_gives_first (λ x. x) (zip2 differ xs ys) 24 c.mask_differing_cells-last.result
+    false
     (omega (arith, length-zip2 differ xs ys (omega arith))) mask c.if-last-ne0.true
     (λ k l. c.loop-i.invariant k (omega arith)) in
     first_test_gives_column xs ys _ c.told-a c.told-b (omega (arith, found.0)) found.1
@@ -63,12 +66,13 @@ returns c =
     let back : c.unwrap.result.now ≡ drop 24 xs = search rules in
     let back-2 : c.unwrap-2.result.now ≡ drop 24 ys = search rules in
     let mask =
-    c.differing-last.ensures
+    c.mask_differing_cells-last.ensures
     ∙ ap₂ differing_mask (suffix_is_last_chunk 24 16 xs _ c.told-a back)
     (suffix_is_last_chunk 24 16 ys _ c.told-b back-2)
     ∙ block_mask_is_correct xs ys 24 (omega arith) (omega arith) in
     equal_tests_give_equal_rows xs ys (omega arith)
     (λ k l.
-    zero_mask_extends_search (λ x. x) (zip2 differ xs ys) 24 c.differing-last.result false
+    zero_mask_extends_search (λ x. x) (zip2 differ xs ys) 24 c.mask_differing_cells-last.result
+    false
     (omega (arith, length-zip2 differ xs ys (omega arith))) mask c.if-last-ne0.false
     (λ k l. c.loop-i.invariant k (omega arith)) k (omega arith))
