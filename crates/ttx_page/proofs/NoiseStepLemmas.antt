@@ -50,8 +50,8 @@ pub lost_packet_is_no_header : (w : PageIdValue) (packet : List ℕ)
 unfolding kind
 lost_packet_is_no_header w packet may = grind (arith, nat_tests)
 
--- One wrong bit in each byte does not change the kind of a packet whose address and header are code
--- words.
+-- At most one wrong bit in each byte does not change the kind of a packet whose address and header
+-- are code words.
 pub kind-near : (w : PageIdValue) (sent got : List ℕ)
     → HasExactCodeWords sent
     → AreNear sent got
@@ -254,13 +254,15 @@ module _ (keeps anew : Bool) (class : ReceiverClass) (w : PageIdValue) (row colu
     -- Until a header of the page arrives, a blank page that is not open stays blank and not open.
     pub waits : has_page_header (kind_of_item w) items ≡ false → StartedBlank start → StartedBlank
         now
-    -- After a header of the page, the cell has the expected code or is a space.
+    -- If a header of the page came, and the cell does not depend on its earlier code, the cell has
+    -- the expected code or is a space.
     pub code_or_space : has_page_header (kind_of_item w) items ≡ true
         → IsFreshCell start items
         → AreTargets items
         → (cell now.page row column ≡ code) ⊎ (cell now.page row column ≡ space)
-    -- After a header of the page, the cell has the expected code, or may be a space, or the last
-    -- transmission of the page has no packet of its row.
+    -- If a header of the page came, and the cell does not depend on its earlier code, the cell has
+    -- the expected code, or may be a space, or the last transmission of the page has no packet of
+    -- its row.
     pub cell_eq : has_page_header (kind_of_item w) items ≡ true
         → IsFreshCell start items
         → AreTargets items

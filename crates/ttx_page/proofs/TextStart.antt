@@ -49,8 +49,8 @@ module _ (keeps : Bool) (w : PageIdValue) (before heard : List (List ℕ)) (pack
       subst (λ (ps : List (List ℕ)). Contains ps q) (sym later.1)
       (Contains-append_right later.0 text_packets q within)
 
-  -- If a row was already sent in the current text, a further packet does not change the first
-  -- packet of that row.
+  -- If a row was already sent in the current text, a further packet that does not start a new text
+  -- does not change the first packet of that row.
   first_row_stays_first : (row : ℕ) (q : List ℕ)
       → begins_text keeps (kind w packet) ≡ false
       → Contains complete_span q
