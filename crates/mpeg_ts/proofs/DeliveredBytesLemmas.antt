@@ -65,8 +65,8 @@ remaining_bytes_give_output number distance v all taken rest given is same none 
     ∙ ap (λ (l : List ℕ). l ++ output_of v rest)
     (sym (consumed_bytes_give_output number distance v taken given same none))
 
--- If a read fails within a PES packet of the recording, it fails within the same PES packet of the
--- consumed bytes.
+-- If a read fails within a PES packet of the recording, and all items before it are valid PES
+-- packets, it fails within the same PES packet of the consumed bytes.
 failure_moves_to_prefix : (index : ℕ) (all prefix left : List ℕ)
     → all ≡ prefix ++ left
     → FailsAfterValidPackets index (Some all) (Some left)

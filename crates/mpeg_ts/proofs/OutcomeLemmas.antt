@@ -24,8 +24,8 @@ use Rattle.mpeg_ts.specs.declared.joining.Found.TheVariants as found
 pub boolean_cases : {P : Type 0} (b : Bool) → (b ≡ true → P) → (b ≡ false → P) → P
 boolean_cases b h1 h2 = grind (arith, nat_tests)
 
--- `output` gives the bytes of outcomes after the item returned last. A gap marker is output as soon
--- as a gap is detected.
+-- `output` gives the bytes of outcomes that come after an item of this kind. A gap marker is output
+-- as soon as a gap is detected.
 abbrev pub output : Given → List PartOutcome → List ℕ
 output g [] = []
 output g (Gap ∷ more) = gap_marker_where (gave_pes_packet g) ++ output (last_output_after true g)
@@ -237,7 +237,7 @@ equal_headers_give_equal_size : (bytes more all : List ℕ)
     → size_at (take 6 all) ≡ size_at (take 6 bytes)
 equal_headers_give_equal_size bytes more all h1 h2 = grind (arith, nat_tests)
 
--- The PES packet of a complete part is returned, whatever packets follow.
+-- The first outcome of a complete part is its PES packet, whatever packets follow.
 pub tail-whole : (wrong : Bool) (part : Part) (size : ℕ) (goods : List GoodPacket)
     → HavePayloads goods
     → part.begins ≡ true
