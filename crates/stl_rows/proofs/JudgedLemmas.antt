@@ -170,8 +170,8 @@ undecided-last (t ∷ ts) (bit ∷ bits) other start frame le each past =
     (λ k d h. each (suc k) d (omega arith)) (λ k d h. past (suc k) d (omega arith)) in
     grind (arith, nat_tests)
 
--- If a subtitle ends after the frame, its bit and its TCI decide whether the expected page is
--- unknown.
+-- The first subtitle that ends after the frame decides, by its bit and its TCI, whether the
+-- expected page is unknown.
 pub undecided-next : (ts : List SubtitleValue) (bits : List Bool) (other : Bool)
     (start frame at : ℕ) (d : SubtitleValue)
     → start ≤ frame

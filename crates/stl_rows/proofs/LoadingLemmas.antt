@@ -458,7 +458,7 @@ unread {drawing} {left = left} {before} {early = early} from block lt early_repo
       later_findings_are_not_before drawing before block left names,
     ) (append-nil early)
 
--- If the source failed, exactly the faults before that block had been reported.
+-- If the source failed at a block, exactly the faults before that block had been reported.
 pub reports-unread : {D : Type 0} {IsReported : D → LoadFault → D → Type 0} {old new : D}
     {drawing : Drawing} {file : List ℕ} {left : Findings} {before : Option Times}
     {kept : KeptRecords} {early : List LoadFault} (from block : ℕ)
