@@ -67,8 +67,7 @@ time_filling_header =
 abbrev pub row_1 : ℕ → List ℕ
 row_1 byte = 0xD0 ∷ 0x15 ∷ byte ∷ replicate 39 0x20
 
--- Packet 8/22, row 22 of magazine 8: `Hi` in a box in the middle, with options_with_bound box code
--- sent twice.
+-- Packet 8/22, row 22 of magazine 8: `Hi` in a box in the middle, with each box code sent twice.
 abbrev pub row_22 : List ℕ
 row_22 =
     (0x15 ∷ 0x9B ∷ [])
@@ -242,9 +241,9 @@ transmission_damaged_first =
     ∷ record { frame = 900002; packets = english_header ∷ time_filling_header ∷ [] }
     ∷ []
 
--- The transmission is rejected, but no fault is reported after its first frame. So a receiver of
--- frame 900001, with at most one wrong bit in each byte and any earlier state, has the code of `H`
--- in the right cell, or a space if its byte was received wrong.
+-- The transmission is rejected, but no fault that affects receivers is reported after its first
+-- frame. So a receiver of frame 900001, with at most one wrong bit in each byte and any earlier
+-- state, has the code of `H` in the right cell, or a space if its byte was received wrong.
 pub record ExampleOfCleanFrames : Type 0 where
   pub refused : Good later_subtitle transmission_damaged_first (options_with_bound 1) → ⊥
   pub clean : HasNoReceiverFault (criteria_of later_subtitle (options_with_bound 1) None)

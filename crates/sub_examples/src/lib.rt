@@ -3,7 +3,7 @@
 //! The examples test the definitions of `sub_rules` and `sub_laws`. No other crate uses this one.
 //!
 //! ```text
-//! example_of_good_transmission: a transmission of one frame, its programme and its options are
+//! example_of_good_transmission: a transmission of two frames, its programme and its options are
 //! `Good`
 //! ```
 #![tactic(auto)]
