@@ -16,18 +16,19 @@ LawOfMultiplex =
     → IsMultiplexed number distance packets recording
     → carried_bytes number distance recording ≡ concat packets
 
--- If TS packets are missing or damaged, the recording carries exactly the PES packets that arrive,
--- unchanged and in order. If a PES packet is missing between two of them, there is a gap marker
--- between these two. So no loss creates a PES packet, and no loss between two PES packets goes
--- unnoticed.
+-- If at most 14 consecutive TS packets with payload are missing or damaged at a time, the recording
+-- carries exactly the PES packets that arrive, unchanged and in order. If a PES packet is missing
+-- between two of them, there is a gap marker between these two. So no such loss creates a PES
+-- packet, and none between two PES packets goes unnoticed.
 abbrev pub LawOfLosses : Type 0
 LawOfLosses =
     (number distance : ℕ) (m : Multiplex SentUnit) (recording : List ℕ)
     → IsLossy number distance m recording
     → CarriesArrivingPackets m.sent (carried_bytes number distance recording)
 
--- PES packets in a recording with no gap marker between them were sent one after another: the
--- multiplexer sent no other PES packet between the first and the last of them.
+-- If at most 14 consecutive TS packets with payload are missing or damaged at a time, PES packets
+-- in a recording with no gap marker between them were sent one after another: the multiplexer sent
+-- no other PES packet between the first and the last of them.
 abbrev pub LawOfNeighbours : Type 0
 LawOfNeighbours =
     (number distance : ℕ) (m : Multiplex SentUnit) (recording : List ℕ)
@@ -62,9 +63,10 @@ LawOfPace =
     × (up_to_pts next ≡ up_to_pts last)
 
 -- If all PES packets in a recording, or a range of them, form a PES file with Teletext, there is no
--- gap marker among them, and no PES packet that was sent between the first and the last of them is
--- missing. `check` accepts only such files. So if `check` accepts a recording, everything between
--- these PES packets was recorded.
+-- gap marker among them. If at most 14 consecutive TS packets with payload were missing or damaged
+-- at a time, no PES packet that was sent between the first and the last of them is missing. `check`
+-- accepts only such files. So if `check` accepts such a recording, everything between these PES
+-- packets was recorded.
 abbrev pub LawOfCompleteFile : Type 0
 LawOfCompleteFile =
     (number distance : ℕ) (recording : List ℕ)

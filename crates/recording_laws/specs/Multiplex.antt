@@ -37,8 +37,9 @@ pub record IsRepetition (number : ℕ) (p q : List ℕ) : Type 0 where
 
 -- ---- the grammar of a multiplex
 
--- A carrier: a TS packet with payload, and the items up to the next TS packet with payload. These
--- items are packets without payload and at most one repeat of the first packet.
+-- A carrier: a TS packet of the PID with payload, and the items up to the next such TS packet.
+-- These items are TS packets of the PID without payload, TS packets of other PIDs, and at most one
+-- repeat of the first packet.
 pub record Carrier (A : Type 0) : Type 0 where
   pub packet : A
   pub before : List A
