@@ -36,8 +36,8 @@ type Rows = ArrayVec<u8, ROWS_CAPACITY>;
 
 type Text = ArrayVec<u8, STATE_CAPACITY>;
 
-/// Prints whether a receiver has received a header of its page, and the page or, if complete pages
-/// are required, the screen.
+/// Prints whether a receiver has received a header of its page. If it has, also prints whether the
+/// page is open, and the page or, if complete pages are required, the screen.
 pub fn print_state<R: Receiver, K: Sink>(
     receiver: &R,
     screen: &Option<Page>,
