@@ -14,7 +14,7 @@ use std::alloc::{AllocError, Global};
 /// An argument of a command, by its name.
 #[derive(Clone, Copy)]
 pub enum Argument {
-    /// A required argument without a name, such as the file of `show`.
+    /// A required argument that is no option, such as the file of `show`, with its identifier.
     Required(&'static str),
     /// A required option, `--name TEXT`.
     RequiredOption(&'static str),

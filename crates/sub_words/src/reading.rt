@@ -22,7 +22,7 @@ use sub_request::{Listening, Request, TransportStream, UsageFault};
 /// # Errors
 ///
 /// Returns the first fault of the arguments by the program's own rules, or `Memory` if memory runs
-/// out before the fault is known: only the lists of `listen` need memory.
+/// out before the request or the fault is known: only the lists of `listen` need memory.
 #[tactic(auto, using(crate::proofs::CommandLemmas::exact_reading_holds_with_memory))]
 pub fn read_command<'a>(
     alloc: Global,

@@ -200,7 +200,7 @@ fn option_named(table: &[Argument], name: &str) -> Option<(usize, bool)> {
     None
 }
 
-// Returns the number of arguments without a name.
+// Returns the number of required arguments that are no options.
 fn required_count(table: &[Argument]) -> usize {
     let mut count: usize = 0;
     for argument in table {
@@ -211,7 +211,8 @@ fn required_count(table: &[Argument]) -> usize {
     count
 }
 
-// Returns the line about a command in which no argument is wrong: one is missing.
+// Returns the line about a command in which no argument is wrong: one is missing, or `clap`
+// rejected arguments that fit the command's table.
 fn explain_missing<'a>(
     scan: &Scan<'a>,
     command: &'a str,
