@@ -115,7 +115,8 @@ pub fn explain_refusal<E: Eprint>(request: &Request<'_>, kinds: &InputKinds, err
 
 const EXCHANGED: &str = ": give the subtitle file first (subttx check STL PES)";
 
-// Returns whether a request reads a transport stream.
+// Returns `false` only for a request without `--pid` that with `--pid` would read a transport
+// stream.
 fn has_pid(request: &Request<'_>) -> bool {
     match request {
         Request::Packets { pes } | Request::Check { pes, .. } | Request::Listen { pes, .. } => {

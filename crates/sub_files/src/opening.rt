@@ -40,7 +40,8 @@ pub fn room(alloc: Global, size: usize) -> Option<Vec<u8>>
     vec![in alloc; 0; size].ok()
 }
 
-/// Returns the total size of the buffers of a request's files in bytes.
+/// Returns the total size of the buffers of a request's files in bytes: one buffer per file, and
+/// one buffer for a request without files.
 pub fn required_buffer_size(names: &FileNames<'_>) -> usize
     ensures size { result ≡ total_buffer_size names.now }
     ensures at_least_two_bytes { 2 ≤ result }
