@@ -124,8 +124,7 @@ impl Packet {
         Some(header_from_numbers(&[units, tens, s1, s2_c4, s3, s4_c6, c7_c10, c11_c14]))
     }
 
-    /// Returns whether both address bytes are Hamming 8/4 code words, so without a wrong bit (EN
-    /// 300 706, 8.2).
+    /// Returns whether both address bytes are Hamming 8/4 code words (EN 300 706, 8.2).
     pub fn is_clean_address(&self) -> bool
         ensures { IsTrue result ↔ HasExactAddress self.now }
     {

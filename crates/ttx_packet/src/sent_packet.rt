@@ -107,8 +107,7 @@ impl<'a> SentPacket<'a> {
     }
 
     /// Returns the magazine, 0 to 7, and the packet number Y, 0 to 31, if both address bytes are
-    /// code words, so without a wrong bit (EN 300 706, magazine and packet address). Magazine 0
-    /// means magazine 8.
+    /// code words (EN 300 706, magazine and packet address). Magazine 0 means magazine 8.
     ///
     /// Returns `None` if an address byte is no code word.
     #[inline(always)]
@@ -130,9 +129,8 @@ impl<'a> SentPacket<'a> {
     }
 
     /// Returns the page number of a page header, with the page tens in the upper four bits, if both
-    /// of its bytes are code words, so without a wrong bit (EN 300 706, page header). Ignores the
-    /// address and the other six coded bytes, which are not needed to recognise a header of another
-    /// page.
+    /// of its bytes are code words (EN 300 706, page header). Ignores the address and the other six
+    /// coded bytes, which are not needed to recognise a header of another page.
     ///
     /// Returns `None` if one of the two bytes is no code word.
     #[inline(always)]
@@ -145,8 +143,8 @@ impl<'a> SentPacket<'a> {
         Some(units + 0x10 * tens)
     }
 
-    /// Decodes the eight coded bytes of a page header if all are code words, so without a wrong bit
-    /// (EN 300 706, page header). Ignores the address.
+    /// Decodes the eight coded bytes of a page header if all are code words (EN 300 706, page
+    /// header). Ignores the address.
     ///
     /// Returns `None` if one of the eight bytes is no code word.
     #[inline(always)]
