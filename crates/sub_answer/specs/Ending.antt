@@ -181,7 +181,7 @@ pub record ReadsPartOfFile
       IsPartOf part (λ s. prepend_known s.buffered (remaining s.device))
       (λ s. failure_count s.device)
       (let buffer : BufferedSourceValue I =
-          record { device = file; buffered = []; room = room } in buffer)
+      record { device = file; buffered = []; room = room } in buffer)
       new
       input
 

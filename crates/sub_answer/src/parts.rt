@@ -99,7 +99,7 @@ fn answer_range<P: NumberedPesPackets, F: Close, O: FlushPending<F>>(
         None => answer_pes_packets(alloc, request, pes_packets, file, out),
         Some(range) => {
             let mut some = PartOfPesPackets {
-                inner: LimitedPesPackets::new(pes_packets, range.most()),
+                inner: LimitedPesPackets::new(pes_packets, range.pes_packet_count()),
                 ahead: PesPacketsAhead::new(range.first()),
             };
             answer_pes_packets(alloc, request, &mut some, file, out)
@@ -173,7 +173,7 @@ fn answer_second_range<S: Source, P: NumberedPesPackets, K: Sink>(
         None => answer_both_inputs(alloc, request, first, pes_packets, out),
         Some(range) => {
             let mut some = PartOfPesPackets {
-                inner: LimitedPesPackets::new(pes_packets, range.most()),
+                inner: LimitedPesPackets::new(pes_packets, range.pes_packet_count()),
                 ahead: PesPacketsAhead::new(range.first()),
             };
             answer_both_inputs(alloc, request, first, &mut some, out)

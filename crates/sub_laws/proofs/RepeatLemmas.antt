@@ -66,8 +66,7 @@ repeated_stretch keeps programme transmission options rules = record {
             rules.exact;
         erases = λ none.
             packets_between-each (ErasesPageIfHeader options.page) transmission
-            (first_frame transmission)
-            (f + 1) (rules.erases none);
+            (first_frame transmission) (f + 1) (rules.erases none);
         odd = clean.odd;
         codes = clean_packets_have_shown_codes keeps options.page whole clean;
       };
@@ -123,56 +122,56 @@ module _ (one other : Bool) (w : PageIdValue) (packets : List (List ℕ))
       (text_span-of_erasing (length packets)))
 
 module _ (one other : Bool) (programme : ProgrammeValue) (transmission : Transmission)
-    (options : OptionsValue) (each : EachPacket (ErasesPageIfHeader options.page) transmission)
-  where
-    every_header_erases : (f : ℕ) → All (ErasesPageIfHeader options.page)
-        (on_air_until transmission f)
-    every_header_erases f =
-        packets_between-each (ErasesPageIfHeader options.page) transmission (first_frame transmission)
-        (f + 1) each
+    (options : OptionsValue)
+    (each : EachPacket (ErasesPageIfHeader options.page) transmission) where
+  every_header_erases : (f : ℕ)
+      → All (ErasesPageIfHeader options.page) (on_air_until transmission f)
+  every_header_erases f =
+      packets_between-each (ErasesPageIfHeader options.page) transmission (first_frame transmission)
+      (f + 1) each
 
-    finishing_ignores_keeping : (f : ℕ)
-        → IsFinishedFrame one programme transmission options f
-        → IsFinishedFrame other programme transmission options f
-    finishing_ignores_keeping f finished = grind
-        (arith, nat_tests, kept-of_erasing, every_header_erases)
+  finishing_ignores_keeping : (f : ℕ)
+      → IsFinishedFrame one programme transmission options f
+      → IsFinishedFrame other programme transmission options f
+  finishing_ignores_keeping f finished = grind
+      (arith, nat_tests, kept-of_erasing, every_header_erases)
 
-    some_finishing_ignores_keeping : (a b : ℕ)
-        → HasFinishedFrame one programme transmission options a b
-        → HasFinishedFrame other programme transmission options a b
-    some_finishing_ignores_keeping a b some = (
-      some.0,
-      some.1,
-      some.2,
-      finishing_ignores_keeping
-          some.0 some.3,
-    )
+  some_finishing_ignores_keeping : (a b : ℕ)
+      → HasFinishedFrame one programme transmission options a b
+      → HasFinishedFrame other programme transmission options a b
+  some_finishing_ignores_keeping a b some = (
+    some.0,
+    some.1,
+    some.2,
+    finishing_ignores_keeping
+        some.0 some.3,
+  )
 
-    good_same :
-        GoodWithRepeats one programme transmission options → GoodWithRepeats other programme
-        transmission options
-    good_same good = record {
-      rules =
-          let spans : (f n : ℕ)
-          → f ≤ last_frame transmission
-          → IsCleanSpan options.page
-          (text_span other (kind options.page) (take n (on_air_until transmission f))) =
-          λ f n high.
-          subst (IsCleanSpan options.page)
-          (text_span-of_erasing one other options.page (on_air_until transmission f)
-          (every_header_erases f) n)
-          (good.rules.spans f n high) in
-          assumption (spans, each, good.rules);
-      codes = λ f row column low high named.
-          subst (IsDueWithin programme transmission options f row column)
-          (kept-of_erasing one other options.page (on_air_until transmission f)
-          (every_header_erases f) row
-          column)
-          (good.codes f row column low high named);
-      again = λ start low high. some_finishing_ignores_keeping _ _ (good.again start low high);
-      subtitles = λ k d l. some_finishing_ignores_keeping _ _ (good.subtitles k d l);
-      ends = finishing_ignores_keeping _ good.ends;
-    }
+  good_same :
+      GoodWithRepeats one programme transmission options → GoodWithRepeats other programme
+      transmission options
+  good_same good = record {
+    rules =
+        let spans : (f n : ℕ)
+        → f ≤ last_frame transmission
+        → IsCleanSpan options.page
+        (text_span other (kind options.page) (take n (on_air_until transmission f))) =
+        λ f n high.
+        subst (IsCleanSpan options.page)
+        (text_span-of_erasing one other options.page (on_air_until transmission f)
+        (every_header_erases f) n)
+        (good.rules.spans f n high) in
+        assumption (spans, each, good.rules);
+    codes = λ f row column low high named.
+        subst (IsDueWithin programme transmission options f row column)
+        (kept-of_erasing one other options.page (on_air_until transmission f)
+        (every_header_erases f) row
+        column)
+        (good.codes f row column low high named);
+    again = λ start low high. some_finishing_ignores_keeping _ _ (good.again start low high);
+    subtitles = λ k d l. some_finishing_ignores_keeping _ _ (good.subtitles k d l);
+    ends = finishing_ignores_keeping _ good.ends;
+  }
 
 pub law_of_may_keep : LawOfMayKeep
 law_of_may_keep programme transmission options good =
@@ -220,8 +219,7 @@ module _ (programme : ProgrammeValue) (transmission : Transmission) (options : O
     erases = λ none k d l m e n h is. (rules.control k d l m e n h is).erases;
     keeping = λ f n high below h is.
         inl (packets_between-each (ErasesPageIfHeader options.page) transmission
-        (first_frame transmission)
-        (f + 1) (λ k d l m e o head of. (rules.control k d l m e o head of).erases) n [] below h
+        (first_frame transmission) (f + 1) (λ k d l m e o head of. (rules.control k d l m e o head of).erases) n [] below h
         is);
     spans = λ f n high.
         subst (IsCleanSpan options.page)

@@ -3,7 +3,7 @@ ghost use Rattle.std.specs.Prelude.{◌≡◌, ℕ, ◌+◌, ◌-◌, ◌<◌, �
 ghost use Rattle.std.specs.Prelude.{OnOk, false, is_err, true};
 ghost use Rattle.arrayvec.specs.ArrayVec.{array_vec_len};
 ghost use Rattle.sub_io.specs.Device.{CanFail};
-ghost use Rattle.ttx_pes.specs.BorrowedPacket.{NothingIsPending};
+ghost use Rattle.ttx_pes.specs.BorrowedPacket.{NothingIsPendingUnlessReady};
 ghost use Rattle.ttx_pes.specs.Outcome.{ReadsPackets, outcome_after};
 ghost use Rattle.ttx_pes.specs.Reading.{max_pes_packets};
 ghost use Rattle.ttx_pes.specs.declared.progress.Progress.TheVariants.{Reading};
@@ -150,7 +150,8 @@ fn flush_lines<P: PesPackets, K: Flush>(
         (printer_value (K.contents printer.new.out.now) (K.failure_count printer.new.out.now)
         printer.new.fault_count printer.new.failed printer.new.first) }
     ensures failed { printer.new.failed ≡ is_err result }
-    ensures settled { OnOk result (NothingIsPending printer.new.pending (P.ready pes_packets.now)) }
+    ensures settled { OnOk result (NothingIsPendingUnlessReady printer.new.pending
+        (P.ready pes_packets.now)) }
     ensures holds { (printer.old.pending ≡ false → K.buffered printer.old.out.now ≡ 0)
         → OnOk result (printer.new.pending ≡ false → K.buffered printer.new.out.now ≡ 0) }
 {

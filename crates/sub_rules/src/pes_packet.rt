@@ -96,7 +96,7 @@ pub fn next_pes_packet<P: PesPackets>(
             if !fault.is_packet_content_fault() {
                 return Err(CheckFault::Pes { pes, fault });
             }
-            reader.skip_packet();
+            reader.continue_after_fault();
             Ok(Some(NextPesPacket::Skipped(CheckFault::Pes { pes, fault })))
         }
         Ok(Compared::End) => Ok(None),

@@ -82,7 +82,7 @@ abbrev pub buffered_frame : List ℕ → BufferedPacketValue → PesValue
 buffered_frame field h = record { pts = h.pts; units = sent_units field h.places }
 
 -- The parsed fields are those of the PES packet with this data field.
-pub record IsInBuffer (field : List ℕ) (h : BufferedPacketValue) : Type 0 where
+pub record ArePacketFields (field : List ℕ) (h : BufferedPacketValue) : Type 0 where
   pub count : length field ≡ h.count
   pub short : h.count + 45 ≤ max_pes_packet_size
   pub within : EndWithinField (length field) h.places
@@ -96,7 +96,7 @@ pub record IsRepeatedPacket (field : List ℕ) (h : BufferedPacketValue) (pes_pa
     Type 0 where
   pub value : value_at (drop 6 pes_packet) ≡ Ok (buffered_frame field (record h { pts = pts }))
   pub field_is_after_header : drop 45 pes_packet ≡ field
-  pub known : IsInBuffer field (record h { pts = pts })
+  pub known : ArePacketFields field (record h { pts = pts })
 
 -- The stored PES packet of a comparing reader: its contents and its data field, which is empty if
 -- no packet is stored.

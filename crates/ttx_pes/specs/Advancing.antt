@@ -160,9 +160,9 @@ limited_known_bytes (Some n) known_bytes = option_map (limited_bytes (Some n)) k
 
 -- The remaining bytes do not begin with a PES packet (`rest`), and there is no limit. It is false
 -- if there is a limit, since the limit ends when the reader returns such a rest.
-abbrev pub is_limited_rest : Option ℕ → Bool → Bool
-is_limited_rest None rest = rest
-is_limited_rest (Some n) rest = false
+abbrev pub is_unlimited_rest : Option ℕ → Bool → Bool
+is_unlimited_rest None rest = rest
+is_unlimited_rest (Some n) rest = false
 
 -- The remaining bytes of the device, as far as the limit allows reading them.
 abbrev pub limited_remaining : Option ℕ → Option (List ℕ) → Option (List ℕ) → Option (List ℕ)

@@ -2,7 +2,7 @@
 //! completely buffered in the source.
 ghost use Rattle.std.specs.Prelude.{◌≡◌, OnOk, is_ok};
 ghost use Rattle.sub_io.specs.Flushing.{FlushesOnlyIfPending, BuffersOnlyWhilePending};
-ghost use Rattle.ttx_pes.specs.BorrowedPacket.{NothingIsPending, has_enough_for_packet};
+ghost use Rattle.ttx_pes.specs.BorrowedPacket.{NothingIsPendingUnlessReady, has_enough_for_packet};
 
 use crate::pes_header::decode_packet_size;
 use crate::pes_packets::PesPackets;
@@ -33,7 +33,7 @@ pub fn flush_first<P: PesPackets, A: Live>(pes_packets: &P, device: &mut A) -> R
     ensures call { FlushesOnlyIfPending A.has_pending_reports A.is_flushed device.old (is_ok result)
         device.new }
     ensures ready { OnOk result
-        (NothingIsPending (A.has_pending_reports device.new) (P.ready pes_packets.now)) }
+        (NothingIsPendingUnlessReady (A.has_pending_reports device.new) (P.ready pes_packets.now)) }
     ensures holds { BuffersOnlyWhilePending A.has_pending_reports A.buffered device.old
         → OnOk result (BuffersOnlyWhilePending A.has_pending_reports A.buffered device.new) }
 {

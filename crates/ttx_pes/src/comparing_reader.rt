@@ -46,7 +46,7 @@ pub enum Compared {
 pub struct ComparingReader {
     progress: Progress,
     // The number of packets consumed, including the last one, if the last result was the fault of a
-    // complete packet; after such a fault `skip_packet` allows reading to continue.
+    // complete packet; after such a fault `continue_after_fault` allows reading to continue.
     count_through_fault: Option<u32>,
     kept: FrameBuffer,
 }
@@ -160,8 +160,8 @@ impl ComparingReader {
     /// # Errors
     ///
     /// Returns the same errors as `PesReader::next`. After the faults `Flags` to `LineOrder` and
-    /// `Lost`, exactly the packet's bytes were consumed, and `skip_packet` allows reading to
-    /// continue.
+    /// `Lost`, exactly the packet's bytes were consumed, and `continue_after_fault` allows reading
+    /// to continue.
     #[inline(always)]
     pub fn next<P: PesPackets>(&mut self, pes_packets: &mut P) -> Result<Compared, PesFault>
         requires { CanFail (P.failure_count pes_packets.old) }
@@ -247,7 +247,7 @@ impl ComparingReader {
 
     /// Allows reading to continue after the fault of a complete packet, whose length field shows
     /// where it ends. Does nothing after any other result.
-    pub fn skip_packet(&mut self)
+    pub fn continue_after_fault(&mut self)
         ensures over { self.new ≡ with_packet_skipped self.old }
         ensures few { (given : ℕ) → self.new.progress ≡ Reading given → given ≤ max_pes_packets }
     {

@@ -6,7 +6,7 @@ use Rattle.ttx_pes.specs.declared.fault.PesFault.{PesFault}
 use Rattle.ttx_pes.proofs.FrameBufferLemmas.{new_packet_is_kept, frame_buffer_value_in}
 use Rattle.ttx_pes.proofs.FrameBufferLemmas.{empty_buffer_holds_no_packet}
 use Rattle.ttx_pes.proofs.FrameBufferLemmas.{new_packet_changes_data_field}
-use Rattle.ttx_pes.proofs.frame_buffer.FrameBuffer.buffer_changed_packet.Goals as goal
+use Rattle.ttx_pes.proofs.frame_buffer.FrameBuffer.compare_and_buffer.Goals as goal
 
 pub invariant_of-self-in-Ok-false : goal.invariant_of-self-in-Ok-false
 invariant_of-self-in-Ok-false c =
