@@ -70,9 +70,9 @@ abbrev pub verdict : ℕ → Result Accepted CheckFault → Listing
 verdict first (Ok a) = done (accepted_line a)
 verdict first (Err f) = fault_listing (counted_from first (check_line f))
 
--- The command `check` has one answer, which depends only on the bytes of both files, and prints its
--- line. The argument `first` is the number of the first PES packet in its file. `Untouched` means
--- that no byte of the PES file was read.
+-- The command `check` has one answer and prints its line. Unless a device failed or memory ran out,
+-- the answer depends only on the bytes of both files. The argument `first` is the number of the
+-- first PES packet in its file. `Untouched` means that no byte of the PES file was read.
 pub record AnswersCheck
     (drawing : Drawing) (options : OptionsValue) (stl pes : SourceCall) (first : FirstNumber)
     (Untouched : Type 0) (out : SinkCall) (status : Status)
@@ -89,20 +89,21 @@ pub record AnswersCheck
       ReportsSources (FailsLoading drawing stl.known stl.left)
       (λ index. FailsAfterValidPackets index pes.known pes.left)
       Untouched (failed is_subtitle_fault answer) stl pes answer
-  -- If the bytes of the files are known, they determine the answer. An accepted transmission is
-  -- robust, even if rows are lost: every receiver shows the expected page within the repeat bound,
-  -- except for cells whose byte was damaged. This is true for any earlier state of the receiver
-  -- and, if complete pages are required, for the page on its screen. If `within` is not 0,
-  -- receivers show each expected page at the end of at least one of its frames. A subtitle file
-  -- without a programme is rejected.
+  -- If the bytes of the files are known, they determine the answer, unless a device failed or
+  -- memory ran out. An accepted transmission is robust, even if rows are lost: every receiver shows
+  -- the expected page within the repeat bound, except for cells whose byte was damaged or whose row
+  -- was lost. This is true for any earlier state of the receiver and, if complete pages are
+  -- required, for the page on its screen. If `within` is not 0, receivers show the page of each
+  -- subtitle at the end of at least one of its frames. A subtitle file without a programme is
+  -- rejected.
   pub checked : IfKnown stl.known (λ file. AreChecked drawing options file pes.known answer)
   pub ends :
       IsStatusOfFiles drawing options stl pes out (PrintsMemory drawing stl.known out.old out.new)
       status
 
--- The output shows the state of a receiver after the frames of the PES file, or the fault. The
--- receiver stores the code `leaves` in a cell whose byte has even parity. The argument `first` is
--- the number of the first PES packet in its file.
+-- The output shows the state of a receiver after the frames of the PES file, or the fault. In a
+-- cell whose byte has even parity, the receiver stores the code that `leaves` returns for the
+-- cell's old code. The argument `first` is the number of the first PES packet in its file.
 pub record PrintsReceived
     (leaves : ℕ → ℕ) (listening : Listening) (first : ℕ) (pes : SourceCall) (out : SinkCall)
     (status : Status)

@@ -23,9 +23,10 @@ use sub_io::{BufferedSink, BufferedSource, MemSink, Sink};
 use sub_listing::Status;
 use sub_request::{Request, UsageFault};
 
-/// Opens the files that the request names, allocates their buffers, and answers the request. Then
-/// flushes the output, and releases the files in their states after the answer. `files` is called
-/// only for files that the request names.
+/// Allocates the buffers for the files that the request names, opens these files, and answers the
+/// request. Then flushes the output, and releases the files in their states after the answer.
+/// `files` is called only for files that the request names and, before an output is created, for
+/// the file that receives standard output.
 ///
 /// # Errors
 ///

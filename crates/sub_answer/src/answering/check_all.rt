@@ -27,8 +27,10 @@ use sub_plan::Options;
 use ttx_pes::{NumberedPesPackets, PesFault};
 
 /// Checks a PES file against a subtitle file. Prints a line for each fault as soon as it is found,
-/// and a line for the last frame at whose end a reported rule is broken. The faults of the subtitle
-/// file are first. The last line is the number of faults, or the line of an accepted transmission.
+/// and a line for the last frame at whose end a reported rule is broken, for the last of
+/// consecutive skipped PES packets with the same fault, and for each run of trusted frames. The
+/// faults of the subtitle file are first. The last line is the number of faults, or the line of an
+/// accepted transmission.
 ///
 /// If subtitles are rejected, the PES file is compared with the reliable subtitles; `pes` is not
 /// read if this is impossible. Returns `Done` if the files are accepted, `Refused` if there is a
