@@ -56,7 +56,7 @@ LawOfEnglishCharacters =
 abbrev pub seen : Rows → ℕ → ℕ → ℕ
 seen page row column = english_character (cell page row column)
 
--- At the end of frame f, each cell on the screen of every receiver shows the character of the
+-- At the end of frame f, each cell of the decoded page of every receiver shows the character of the
 -- expected page, or a space if the cell is excused. The receiver was switched on in frame g, and a
 -- header of the page was sent since then.
 abbrev pub EachScreenShows : PageIdValue → List SubtitleValue → Transmission → Type 0

@@ -90,8 +90,8 @@ abbrev pub ImpliesDroppingHeadline : Result (List Text) UsageFault → MemFilesV
 ImpliesDroppingHeadline given files code =
     ForAcceptedCheck given files code (λ o. EachReceiverOfClassGets Dropping o.page o.every)
 
--- If the exit code is 0, the screen of each receiver of either class shows the characters of the
--- expected page.
+-- If the exit code is 0, the decoded page of each receiver of either class shows the characters of
+-- the expected page.
 abbrev pub ImpliesScreenContents : Result (List Text) UsageFault → MemFilesValue → ℕ → Type 0
 ImpliesScreenContents given files code = ForAcceptedCheck given files code
     (λ o. EachScreenShows o.page)
@@ -140,8 +140,8 @@ ImpliesRecordingHeadline given files code =
     (frames_by_place r.options.origin (bytes_selected r bytes)))
 
 -- Further receivers also have the expected page: receivers that drop damaged rows, and receivers
--- that wait for complete pages; and the screens of all receivers that are set to region 0000 or
--- 0010 show its characters.
+-- that wait for complete pages; and the decoded pages of all receivers that are set to region 0000
+-- or 0010 show its characters.
 pub record ServesOtherReceivers
     (o : OptionsValue) (subtitles : List SubtitleValue) (transmission : Transmission)
     : Type 0 where

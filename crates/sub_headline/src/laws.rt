@@ -39,8 +39,9 @@ pub fn law_of_part_arguments()
     ensures { LawOfPartArguments }
 {}
 
-/// The arguments `check STL RECORDING` with a national option or a layout request a check of
-/// subtitles drawn with them.
+/// The arguments `check STL RECORDING`, followed by options in any order, also for the national
+/// option and the layout, request a check of the parts of both files that the options select, with
+/// subtitles drawn with this national option and layout.
 pub fn law_of_check_recording_arguments()
     ensures { LawOfCheckRecordingArguments }
 {}
@@ -52,10 +53,13 @@ pub fn law_of_english_characters()
 
 /// If the program is run on files in memory with the arguments of `check`, and ends with exit code
 /// 0, the headline is true for the subtitles and frames in both files, with the options of the
-/// arguments. It is also true for receivers that drop damaged rows, the screens of all receivers
-/// show the expected page, and the bytes match their formats and contain nothing else. All this
-/// applies to the selected part of a recording, and to subtitles drawn with a national option and a
-/// layout. Any exit code other than 2 decides whether the files are accepted.
+/// arguments. It is also true for receivers that drop damaged rows and, if complete pages are
+/// required, for receivers that wait for these; the decoded pages of all receivers show the
+/// characters of the expected page, and the bytes match their formats and contain nothing else. All
+/// this applies to the selected parts of a recording and of a subtitle file. For subtitles drawn
+/// with a national option or a layout, the headline itself is true. If no part is selected, and no
+/// national option or layout is given, any exit code other than 2 decides whether the files are
+/// accepted.
 pub fn law_of_headline<K: Sink>()
     ensures { LawOfHeadline K.contents K.failure_count K.is_push }
 {}
