@@ -30,7 +30,7 @@ use sub_io::{BufferedSink, IntoWrite, Sink};
 use sub_request::{Request, UsageFault};
 use sub_words::{ParseArguments, explain_usage};
 
-// The size in bytes of the buffer for the line that reports a lack of memory.
+// The size in bytes of the buffer for the line about a lack of memory or a closed stream.
 const SMALL_BUFFER_SIZE: usize = 64;
 
 fn main(rt: HostRuntime) -> ExitCode {
