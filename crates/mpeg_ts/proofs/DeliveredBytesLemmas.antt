@@ -8,7 +8,7 @@ use Rattle.ttx_pes.specs.Reader.{FailsAfterValidPackets, FailsWithinPacket, Take
 use Rattle.mpeg_ts.specs.CarriedPackets.{carried_bytes, gap_marker}
 use Rattle.mpeg_ts.specs.Joining.{JoiningValue, TakesNext}
 use Rattle.mpeg_ts.specs.Stream.{StreamValue, output_of, start_of_stream}
-use Rattle.mpeg_ts.specs.ConsumedStreamBytes.{OutputsBetween, IsCutOffByFailure, TakesPrefix}
+use Rattle.mpeg_ts.specs.ConsumedStreamBytes.{OutputsBetween, SplitsOutput, TakesPrefix}
 use Rattle.mpeg_ts.specs.ConsumedStreamBytes.{takes_bytes}
 use Rattle.mpeg_ts.specs.declared.pending_item.Next.{Next}
 use Rattle.mpeg_ts.specs.declared.pending_item.Next.TheVariants as next
@@ -101,13 +101,13 @@ failure_moves_to_prefix index all prefix left is failed =
 pub read_failure_is_at_packet : (number distance : ℕ) (v : StreamValue) (recording rest : List ℕ)
     → OutputsBetween (start_of_stream number distance) v (Some recording) (Some rest)
     → output_of v [] ≡ []
-    → IsCutOffByFailure number distance v recording rest
+    → SplitsOutput number distance v recording rest
 read_failure_is_at_packet number distance v recording rest on none = reported on.given on.takes
   where
     reported : (given : List ℕ)
         → TakesPrefix (output_of (start_of_stream number distance))
         (λ more. given ++ output_of v more) (Some recording) (Some rest)
-        → IsCutOffByFailure number distance v recording rest
+        → SplitsOutput number distance v recording rest
     reported given (takes_bytes _ _ _ _ taken consumed same) =
         let all = remaining_bytes_give_output number distance v recording taken rest given consumed
         same none in

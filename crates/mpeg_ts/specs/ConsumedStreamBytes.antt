@@ -33,7 +33,7 @@ LawOfStreamCalls =
     → OutputsBetween u w before after
 
 -- A recording was read up to some byte: its output is split there.
-pub record IsCutOffByFailure (number distance : ℕ) (v : StreamValue) (recording rest : List ℕ) :
+pub record SplitsOutput (number distance : ℕ) (v : StreamValue) (recording rest : List ℕ) :
     Type 0 where
   -- The consumed bytes of the recording.
   pub taken : List ℕ
@@ -58,4 +58,4 @@ LawOfFailedRead =
     (number distance : ℕ) (v : StreamValue) (recording rest : List ℕ)
     → OutputsBetween (start_of_stream number distance) v (Some recording) (Some rest)
     → output_of v [] ≡ []
-    → IsCutOffByFailure number distance v recording rest
+    → SplitsOutput number distance v recording rest

@@ -73,8 +73,9 @@ empty_history good = record {
 }
 
 -- The two transport packets have equal bytes 0 to 3 and equal payloads.
-abbrev pub is_same : List ℕ → List ℕ → Bool
-is_same p q = bytes_eq (packet_header p) (packet_header q) && bytes_eq (payload p) (payload q)
+abbrev pub has_same_header_and_payload : List ℕ → List ℕ → Bool
+has_same_header_and_payload p q =
+    bytes_eq (packet_header p) (packet_header q) && bytes_eq (payload p) (payload q)
 
 -- The transport packet repeats a good packet: both have equal bytes 0 to 3 and equal payloads, and
 -- this is the first repeat. No discontinuity was announced between them, and the repeat announces
@@ -82,7 +83,7 @@ is_same p q = bytes_eq (packet_header p) (packet_header q) && bytes_eq (payload 
 abbrev pub is_repeat_of : Option (List ℕ) → PacketHistory → List ℕ → Bool
 is_repeat_of None history p = false
 is_repeat_of (Some q) history p =
-    is_same q p && not history.has_repeat && not history.has_jump
+    has_same_header_and_payload q p && not history.has_repeat && not history.has_jump
     && (not (announces_jump p) || announces_jump q)
 
 -- The transport packet repeats the last good packet.

@@ -272,8 +272,8 @@ TakesNext old (next.Rest fault) new =
     × (new ≡ old)
 
 -- The effect of taking the next pending item of any kind. Its bytes are no longer pending.
-abbrev pub TakesFirst : JoiningValue → Next → JoiningValue → Type 0
-TakesFirst old next new =
+abbrev pub TakesNextOrRest : JoiningValue → Next → JoiningValue → Type 0
+TakesNextOrRest old next new =
     (old.pending ≡ taken_bytes next new.bytes ++ new.pending)
     × (new ≡ record old { pending = new.pending })
     × (taken_bytes next new.bytes ≡ [] → old.pending ≡ [])

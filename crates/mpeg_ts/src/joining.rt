@@ -2,7 +2,7 @@
 ghost use Rattle.std.specs.Prelude.{◌≡◌, ◌≤◌, ◌↔◌, length, []};
 ghost use Rattle.std.specs.Prelude.{◌&&◌, false, true};
 ghost use Rattle.mpeg_ts.specs.GoodPackets.{Wrong, Loss, event_of_packet};
-ghost use Rattle.mpeg_ts.specs.Joining.{IsNextWithin, TakesFirst, TakesNext, after_pid_event};
+ghost use Rattle.mpeg_ts.specs.Joining.{IsNextWithin, TakesNextOrRest, TakesNext, after_pid_event};
 ghost use Rattle.mpeg_ts.specs.Joining.{after_valid_packet};
 ghost use Rattle.mpeg_ts.specs.Joining.{begun, with_no_bytes, gave_pes_packet, last_output_after};
 ghost use Rattle.mpeg_ts.specs.Joining.{continue_part};
@@ -154,7 +154,7 @@ impl Joining {
         ensures { self.new ≡ after_pid_event self.old Wrong }
     {
         self.has_break = true;
-        self.pending_item = gap_marker_item(needs_gap_marker(true, &mut self.given));
+        self.pending_item = gap_marker_item(record_gap(true, &mut self.given));
     }
 
     /// Records a loss: so many consecutive bytes were skipped that transport packets of the PID may
@@ -198,7 +198,7 @@ impl Joining {
         if begins(packet) || is_unlinked {
             self.begin_part(is_break, begins(packet), payload_of(packet));
         } else {
-            self.continue_open_part(payload_of(packet));
+            self.continue_current_part(payload_of(packet));
         }
     }
 
@@ -313,7 +313,7 @@ impl Joining {
     // packet, the payload counts as a gap. If the packet's first bytes are missing, it gives no
     // output.
     #[inline(always)]
-    fn continue_open_part(&mut self, payload: &[u8])
+    fn continue_current_part(&mut self, payload: &[u8])
         requires idle { self.old.pending ≡ [] }
         requires some { 1 ≤ length payload.now }
         requires most { length payload.now ≤ 184 }
@@ -348,7 +348,7 @@ impl Joining {
         self.clear();
         self.bytes.add(payload);
         self.payload_size = payload.len();
-        self.pending_item = gap_marker_item(needs_gap_marker(gap, &mut self.given));
+        self.pending_item = gap_marker_item(record_gap(gap, &mut self.given));
     }
 
     // Appends a payload to an incomplete PES packet. If the PES packet is now complete, it becomes
@@ -361,7 +361,7 @@ impl Joining {
         requires most { length payload.now ≤ 184 }
         ensures { self.new ≡ grow_part gap self.old payload.now }
     {
-        let gap_marker_before = needs_gap_marker(gap, &mut self.given);
+        let gap_marker_before = record_gap(gap, &mut self.given);
         self.bytes.add(payload);
         self.payload_size = payload.len();
         match find_packet(self.bytes.as_slice()) {
@@ -394,7 +394,7 @@ impl Joining {
     }
 
     /// Takes the next pending item. Bytes that are no PES packet stay pending, so that `extract`
-    /// can read them; `take_next_and_discard_rest` removes them too.
+    /// can read them; `take_next_or_rest` removes them too.
     #[tactic(auto, using(crate::proofs::ReadyLemmas::taking))]
     #[inline(always)]
     pub fn take_next(&mut self) -> Next
@@ -475,8 +475,8 @@ impl Joining {
 
     /// Takes the next pending item, of any kind.
     #[tactic(auto, using(crate::proofs::ReadyLemmas::firsts))]
-    pub fn take_next_and_discard_rest(&mut self) -> Next
-        ensures first { TakesFirst self.old result self.new }
+    pub fn take_next_or_rest(&mut self) -> Next
+        ensures first { TakesNextOrRest self.old result self.new }
         ensures within { IsNextWithin result self.new.bytes }
     {
         let next = self.take_next();
@@ -491,7 +491,7 @@ impl Joining {
 // Records a gap in `given`, and returns whether it needs a gap marker: only the first gap after a
 // PES packet does.
 #[inline(always)]
-fn needs_gap_marker(gap: bool, given: &mut Given) -> bool
+fn record_gap(gap: bool, given: &mut Given) -> bool
     ensures given { given.new ≡ last_output_after gap given.old }
     ensures due { result ≡ (gap && gave_pes_packet given.old) }
 {

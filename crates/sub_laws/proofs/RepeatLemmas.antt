@@ -219,7 +219,8 @@ module _ (programme : ProgrammeValue) (transmission : Transmission) (options : O
     erases = λ none k d l m e n h is. (rules.control k d l m e n h is).erases;
     keeping = λ f n high below h is.
         inl (packets_between-each (ErasesPageIfHeader options.page) transmission
-        (first_frame transmission) (f + 1) (λ k d l m e o head of. (rules.control k d l m e o head of).erases) n [] below h
+        (first_frame transmission) (f + 1)
+        (λ k d l m e o head of. (rules.control k d l m e o head of).erases) n [] below h
         is);
     spans = λ f n high.
         subst (IsCleanSpan options.page)

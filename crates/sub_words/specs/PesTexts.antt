@@ -9,7 +9,7 @@ use Rattle.std.specs.Str.{bytes_eq}
 use Rattle.std.specs.Str.Parse.{digits_value}
 use Rattle.ttx_packet.specs.PacketAddress.{◌>>=◌}
 use Rattle.ttx_pes.specs.PesPacketRange.{PesPacketRangeValue, range_of}
-use Rattle.mpeg_ts.specs.Pid.{pid_of}
+use Rattle.mpeg_ts.specs.Pid.{pid_with_number}
 use Rattle.mpeg_ts.specs.declared.packet_size.PacketSize.{PacketSize}
 use Rattle.mpeg_ts.specs.declared.packet_size.PacketSize.TheVariants.{Plain, TimeStamped}
 use Rattle.mpeg_ts.specs.declared.packet_size.PacketSize.TheVariants.{ErrorCorrected}
@@ -33,7 +33,7 @@ number_of_hex_digits text =
 unfoldable pub pid_of_text : List ℕ → Option ℕ
 pid_of_text text = do
   number ← option_map_or number_of_hex_digits (digits_after_0x text) (number_of_text text)
-  pid_of number
+  pid_with_number number
 
 -- ---- the argument for the packet size
 

@@ -1,7 +1,7 @@
--- `take_next_and_discard_rest` returns a PES packet, a gap marker, bytes that are no PES packet, or
+-- `take_next_or_rest` returns a PES packet, a gap marker, bytes that are no PES packet, or
 -- no item.
 use Rattle.mpeg_ts.proofs.ReadyLemmas.{packet_is_taken_first}
-use Rattle.mpeg_ts.proofs.joining.Joining.take_next_and_discard_rest.Goals as goal
+use Rattle.mpeg_ts.proofs.joining.Joining.take_next_or_rest.Goals as goal
 
 pub returns-in_default : goal.returns-in_default
 returns-in_default c = record {
