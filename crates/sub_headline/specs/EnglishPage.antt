@@ -12,8 +12,8 @@ use Rattle.stl_rows.specs.TextCode.{is_common, is_within, new_line}
 -- The Teletext code for a byte of text (EBU Tech 3264, code table 00; EN 300 706, English sub-set):
 -- the same number, except for the characters of the national sub-set. `None` if the byte has no
 -- code.
-unfoldable pub english_cell : ℕ → Option ℕ
-english_cell byte =
+unfoldable pub english_code : ℕ → Option ℕ
+english_code byte =
     if is_common byte then Some byte
     else (if 0xA3 == byte then Some 0x23  -- £
     else (if 0x24 == byte then Some 0x24  -- $
@@ -31,13 +31,13 @@ put None byte lines = if byte == new_line then [] ∷ lines else lines
 -- The lines of a subtitle's text, as codes of cells.
 abbrev pub english_lines : List ℕ → List (List ℕ)
 english_lines [] = [] ∷ []
-english_lines (byte ∷ bytes) = put (english_cell byte) byte (english_lines bytes)
+english_lines (byte ∷ bytes) = put (english_code byte) byte (english_lines bytes)
 
 -- The byte is a cell, a new line, or a code for italics, underline or boxing. A text with any other
 -- byte is rejected.
 abbrev pub IsHandledByte : ℕ → Type 0
 IsHandledByte byte =
-    (english_cell byte ≢ None) ⊎ (byte ≡ new_line) ⊎ (is_within 0x80 0x85 byte ≡ true)
+    (english_code byte ≢ None) ⊎ (byte ≡ new_line) ⊎ (is_within 0x80 0x85 byte ≡ true)
 
 -- A line of a subtitle fits on the page. It has at most 40 cells. Row 24 remains free, so the line
 -- is not below row 23 and has no double height in row 23. It is empty if the line above it has

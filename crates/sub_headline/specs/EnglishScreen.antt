@@ -11,7 +11,7 @@ use Rattle.ttx_page.specs.Span.{has_page_header}
 use Rattle.stl_file.specs.Subtitle.{SubtitleValue}
 use Rattle.sub_rules.specs.Transmission.{Transmission, first_frame, last_frame, on_air}
 use Rattle.sub_laws.specs.LostRows.{IsReceivedWithLosses}
-use Rattle.sub_headline.specs.EnglishPage.{english_cell, english_due_page}
+use Rattle.sub_headline.specs.EnglishPage.{english_code, english_due_page}
 
 -- The character SPACE, U+0020 of ISO/IEC 10646.
 abbrev pub space_character : ℕ
@@ -49,18 +49,18 @@ text_character byte =
 abbrev pub LawOfEnglishCharacters : Type 0
 LawOfEnglishCharacters =
     (byte code : ℕ)
-    → english_cell byte ≡ Some code
+    → english_code byte ≡ Some code
     → english_character code ≡ text_character byte
 
 -- The character in a cell of a page. A decoder shows it only inside a box.
-abbrev pub seen : Rows → ℕ → ℕ → ℕ
-seen page row column = english_character (cell page row column)
+abbrev pub character_in_cell : Rows → ℕ → ℕ → ℕ
+character_in_cell page row column = english_character (cell page row column)
 
 -- At the end of frame f, each cell of the decoded page of every receiver shows the character of the
 -- expected page, or a space if the cell is excused. The receiver was switched on in frame g, and a
 -- header of the page was sent since then.
-abbrev pub EachScreenShows : PageIdValue → List SubtitleValue → Transmission → Type 0
-EachScreenShows page subtitles transmission =
+abbrev pub EachDecodedPageReads : PageIdValue → List SubtitleValue → Transmission → Type 0
+EachDecodedPageReads page subtitles transmission =
     (class : ReceiverClass) (g j f : ℕ) (arrived : List Bool) (got : List (List ℕ))
     (old new : State)
     → IsReceivedWithLosses transmission (first_frame transmission) (last_frame transmission) g j f
@@ -69,8 +69,9 @@ EachScreenShows page subtitles transmission =
     → IsTrue (has_page_header (kind page) (on_air transmission g j f))
     → (row column : ℕ)
     → IsCell row column
-    → (seen new.page row column ≡ seen (english_due_page subtitles f) row column)
-    ⊎ ((seen new.page row column ≡ space_character)
+    → (character_in_cell new.page row column
+    ≡ character_in_cell (english_due_page subtitles f) row column)
+    ⊎ ((character_in_cell new.page row column ≡ space_character)
     × ExcusedBy class
     (IsHitOrLost page (on_air transmission g j f) (arrivals_from_flags arrived got))
     row column)

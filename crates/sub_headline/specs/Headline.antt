@@ -20,7 +20,7 @@ use Rattle.sub_headline.specs.DrawnOptions.{CheckRecordingOption, CheckRecording
 use Rattle.sub_headline.specs.DrawnOptions.{arguments_of_check_recording_option}
 use Rattle.sub_headline.specs.DrawnOptions.{settings_of_options}
 use Rattle.sub_headline.specs.EnglishPage.{english_due_page}
-use Rattle.sub_headline.specs.EnglishScreen.{EachScreenShows}
+use Rattle.sub_headline.specs.EnglishScreen.{EachDecodedPageReads}
 use Rattle.sub_headline.specs.PlainAcceptance.{IsAcceptedInPlainTerms}
 use Rattle.sub_headline.specs.PlainFiles.{AreReadFrom}
 use Rattle.sub_headline.specs.PlainHeadline.{Headline}
@@ -92,9 +92,9 @@ ImpliesDroppingHeadline given files code =
 
 -- If the exit code is 0, the decoded page of each receiver of either class shows the characters of
 -- the expected page.
-abbrev pub ImpliesScreenContents : Result (List Text) UsageFault → MemFilesValue → ℕ → Type 0
-ImpliesScreenContents given files code = ForAcceptedCheck given files code
-    (λ o. EachScreenShows o.page)
+abbrev pub ImpliesPageCharacters : Result (List Text) UsageFault → MemFilesValue → ℕ → Type 0
+ImpliesPageCharacters given files code = ForAcceptedCheck given files code
+    (λ o. EachDecodedPageReads o.page)
 
 -- If the exit code is 0, both files match their formats. The subtitle file contains these
 -- subtitles, the PES file contains these frames, and both contain nothing else.
@@ -146,7 +146,7 @@ pub record ServesOtherReceivers
     (o : OptionsValue) (subtitles : List SubtitleValue) (transmission : Transmission)
     : Type 0 where
   pub dropping : EachReceiverOfClassGets Dropping o.page o.every subtitles transmission
-  pub screens : EachScreenShows o.page subtitles transmission
+  pub decoded_characters : EachDecodedPageReads o.page subtitles transmission
   pub complete : IsTrue o.asks_complete → EachDisplayShows o.page subtitles transmission
 
 -- If the exit code is 0, `ServesOtherReceivers` is true for the subtitles and frames in the
@@ -219,7 +219,7 @@ LawOfHeadline {K} contents failure_count IsPush =
     given
     contents failure_count IsPush output left code
     → ImpliesHeadline given before code × ImpliesChosenHeadline given before code
-    × ImpliesDroppingHeadline given before code × ImpliesScreenContents given before code
+    × ImpliesDroppingHeadline given before code × ImpliesPageCharacters given before code
     × ImpliesFileReading given before code × ImpliesCompletePages given before code
     × ImpliesRecordingHeadline given before code × ImpliesRecordingReceivers given before code
     × ImpliesRecordingReading given before code × ImpliesDrawnHeadline given before code

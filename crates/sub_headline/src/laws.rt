@@ -5,7 +5,7 @@ ghost use Rattle.sub_headline.specs.EnglishScreen.{LawOfEnglishCharacters};
 ghost use Rattle.sub_headline.specs.Headline.{LawOfHeadline};
 ghost use Rattle.sub_headline.specs.PlainOptions.{LawOfChosenArguments};
 ghost use Rattle.sub_headline.specs.PlainArguments.{LawOfPlainArguments};
-ghost use Rattle.sub_headline.specs.RecordingOptions.{LawOfPartArguments};
+ghost use Rattle.sub_headline.specs.RecordingOptions.{LawOfRecordingArguments};
 
 use sub_io::Sink;
 
@@ -35,8 +35,8 @@ pub fn law_of_chosen_arguments()
 
 /// The arguments `check STL RECORDING`, followed by options in any order, request a check of the
 /// parts of both files that the options select.
-pub fn law_of_part_arguments()
-    ensures { LawOfPartArguments }
+pub fn law_of_recording_arguments()
+    ensures { LawOfRecordingArguments }
 {}
 
 /// The arguments `check STL RECORDING`, followed by options in any order, also for the national

@@ -9,7 +9,7 @@ ghost use Rattle.sub_headline.specs.Headline.{ImpliesDrawnHeadline, ImpliesDropp
 ghost use Rattle.sub_headline.specs.Headline.{ImpliesFileReading};
 ghost use Rattle.sub_headline.specs.Headline.{ImpliesHeadline};
 ghost use Rattle.sub_headline.specs.Headline.{ImpliesRecordingHeadline, ImpliesRecordingReading};
-ghost use Rattle.sub_headline.specs.Headline.{ImpliesRecordingReceivers, ImpliesScreenContents};
+ghost use Rattle.sub_headline.specs.Headline.{ImpliesPageCharacters, ImpliesRecordingReceivers};
 ghost use Rattle.subttx.specs.Words.{arguments_given};
 
 use crate::run;
@@ -42,7 +42,7 @@ pub fn run_in_memory<K: Sink + Drop>(
     ensures headline { ImpliesHeadline (arguments_given given) files.old result }
     ensures chosen { ImpliesChosenHeadline (arguments_given given) files.old result }
     ensures dropping { ImpliesDroppingHeadline (arguments_given given) files.old result }
-    ensures screens { ImpliesScreenContents (arguments_given given) files.old result }
+    ensures decoded_characters { ImpliesPageCharacters (arguments_given given) files.old result }
     ensures files { ImpliesFileReading (arguments_given given) files.old result }
     ensures complete { ImpliesCompletePages (arguments_given given) files.old result }
     ensures recording { ImpliesRecordingHeadline (arguments_given given) files.old result }
