@@ -65,7 +65,7 @@ outcome_after_call r rest (Ok (Some s)) = gives s r.block (remaining_outcome r r
 
 -- The call returns the first of the remaining results, with its block, and leaves the other
 -- results.
-pub record GivesNextSubtitle
+pub record GivesNextResult
     (old : ReaderValue) (bytes : List ℕ) (new : ReaderValue) (now : Option (List ℕ))
     (result : Result (Option SubtitleValue) StlFault)
     : Type 0 where

@@ -3,7 +3,7 @@ use Rattle.std.proofs.Common.{arith}
 use Rattle.std.proofs.lemmas.Bool.Decides.{nat_tests}
 use Rattle.stl_file.proofs.NormalCountsLemmas.{call_splits_the_outcome, same_count_means_no_failure}
 use Rattle.stl_file.proofs.NormalCountsLemmas.{respelled_blocks_fit}
-use Rattle.stl_file.proofs.normal_form.read_ahead.Goals as goal
+use Rattle.stl_file.proofs.normal_form.read_next_subtitle.Goals as goal
 
 pub returns-clause-exact : goal.returns-clause-exact
 returns-clause-exact c = grind
