@@ -76,9 +76,9 @@ ReportsByLoadResult IsReported old new (Ok None) = ReportsSomeFileFaults IsRepor
 ReportsByLoadResult IsReported old new (Err f) = ReportsSome IsReported old new
 
 -- Of the faults `items`, a prefix with at least one fault was reported.
-abbrev pub StopsAtOneOf : {D : Type 0}
+abbrev pub ReportsNonemptyPrefix : {D : Type 0}
     → (D → LoadFault → D → Type 0) → D → D → List LoadFault → Type 0
-StopsAtOneOf IsReported old new items =
+ReportsNonemptyPrefix IsReported old new items =
     (n : ℕ) × (0 < n) × (n ≤ length items) × Reports IsReported old new (take n items)
 
 -- At least one of the faults `items` was reported: all of them, or a prefix if the receiver of the
@@ -88,7 +88,7 @@ pub record ReportsFaults
     (items : List LoadFault)
     : Type 0 where
   pub all : has_stopped ≡ false → Reports IsReported old new items
-  pub prefix : StopsAtOneOf IsReported old new items
+  pub prefix : ReportsNonemptyPrefix IsReported old new items
 
 -- The fault means that the file ends within a subtitle.
 abbrev pub ends_in_subtitle : LoadFaultKind → Bool

@@ -33,7 +33,7 @@ mod text_code;
 mod text_faults;
 mod times;
 
-pub use cues::Cues;
+pub use cues::StoredSubtitles;
 pub use drawing::{draw, law_of_default_layout, law_of_printing_codes};
 pub use every_fault::{load_all, load_all_with_allocator};
 pub use fault::{LoadFault, LoadFaultKind, RowFault, RowFaultKind};

@@ -1,4 +1,5 @@
--- A source in memory never fails, so the remaining bytes determine the result of `read_ahead`.
+-- A source in memory never fails, so the remaining bytes determine the result of
+-- `read_next_subtitle`.
 use Rattle.std.proofs.Common.{arith}
 use Rattle.std.proofs.lemmas.Bool.Decides.{nat_tests}
 use Rattle.stl_file.proofs.NormalCountsLemmas.{call_splits_the_outcome, same_count_means_no_failure}

@@ -1,8 +1,8 @@
--- Loop invariant of `trailing`: all cells from `left` on are in the range of codes.
+-- Loop invariant of `trailing_count`: all cells from `left` on are in the range of codes.
 use Rattle.std.proofs.Common.{◌≡◌, ◌≤◌, true, length, drop}
 use Rattle.std.specs.List.{list_all}
 use Rattle.stl_rows.specs.TextCode.{is_within}
-use Rattle.stl_rows.proofs.prepared_line.trailing.Given as goal
+use Rattle.stl_rows.proofs.prepared_line.trailing_count.Given as goal
 
 abbrev pub invariant-loop-left : goal.invariant-loop-left
 invariant-loop-left l = record {

@@ -3,7 +3,7 @@ use Rattle.std.proofs.Common.{◌≡◌, ◌∙◌, ◌++◌, ◌∷◌, [], ap,
 use Rattle.stl_rows.specs.Cues.{subtitle_of_cue}
 use Rattle.stl_rows.proofs.CuesLemmas.{adding_keeps_cues_in_texts, on_err_of_constant}
 use Rattle.stl_rows.proofs.CuesLemmas.{adding_appends_subtitle, appending_keeps_subtitles}
-use Rattle.stl_rows.proofs.cues.Cues.push.Goals as goal
+use Rattle.stl_rows.proofs.cues.StoredSubtitles.push.Goals as goal
 
 pub returns-in_err-push-clause-err : goal.returns-in_err-push-clause-err
 returns-in_err-push-clause-err g c =

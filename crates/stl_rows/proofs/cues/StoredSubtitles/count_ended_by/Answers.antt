@@ -6,7 +6,7 @@ use Rattle.std.proofs.lemmas.List.{length-map}
 use Rattle.stl_rows.specs.declared.cues.Cue.{Cue}
 use Rattle.stl_rows.specs.Cues.{subtitle_of_cue}
 use Rattle.stl_rows.proofs.CuesLemmas.{ended-after, ended-before, tcos_never_decrease-cues}
-use Rattle.stl_rows.proofs.cues.Cues.count_ended_by.Goals as goal
+use Rattle.stl_rows.proofs.cues.StoredSubtitles.count_ended_by.Goals as goal
 
 pub returns : goal.returns
 returns g c =

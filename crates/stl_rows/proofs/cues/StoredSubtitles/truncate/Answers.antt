@@ -2,7 +2,7 @@
 use Rattle.std.proofs.Common.{ap, ◌∙◌, sym, take, map}
 use Rattle.std.proofs.lemmas.List.{take-map}
 use Rattle.stl_rows.specs.Cues.{subtitle_of_cue}
-use Rattle.stl_rows.proofs.cues.Cues.truncate.Goals as goal
+use Rattle.stl_rows.proofs.cues.StoredSubtitles.truncate.Goals as goal
 
 pub returns : goal.returns
 returns g c =
