@@ -339,14 +339,14 @@ impl Stream {
             if place <= self.lead || !source.skip_bytes(place) {
                 return false;
             }
-            self.window.skip_bytes(place as u64);
+            self.window.count_skipped_bytes(place as u64);
             self.lead = 0;
             return true;
         }
         self.joining.take_packet(packet_in_unit(borrowed, place));
         let count = place + self.distance;
         source.skip_bytes(count);
-        self.window.skip_bytes(count as u64);
+        self.window.count_skipped_bytes(count as u64);
         self.lead = 0;
         true
     }

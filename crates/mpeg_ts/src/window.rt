@@ -68,7 +68,7 @@ impl Window {
 
     // Counts bytes that were skipped in the source's buffer.
     #[inline(always)]
-    pub(crate) fn skip_bytes(&mut self, count: u64)
+    pub(crate) fn count_skipped_bytes(&mut self, count: u64)
         requires { count ≤ self.old.left }
         ensures { self.new ≡ record self.old { left = self.old.left - count } }
     {
