@@ -29,7 +29,7 @@ events_of_first_frames g frames zero = []
 events_of_first_frames g frames (suc n) = events_of_first_frames g frames n ++ frame_events g frames
     n
 
--- `events` are all events of a transmission, if each frame is one PES packet.
+-- All events of a transmission in which each frame is one PES packet.
 unfoldable pub events : Criteria → Transmission → List Event
 events g frames =
     events_of_first_frames g frames (length frames) ++ closing_events g frames (length frames)
