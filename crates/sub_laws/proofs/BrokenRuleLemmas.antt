@@ -196,8 +196,8 @@ rows_have_equal_codes p q lp lq e =
     ∙ zero_difference_equal_columns 40 (codes_of p) (codes_of q) e k (omega (arith, one))
     ∙ get_or_default (codes_of q) k 0 d (omega (arith, one, other)))
 
--- The packets since the page was erased are clean, and each of them is a packet of 42 bytes with
--- correct address bytes.
+-- The packets, which are those since the page was erased, are clean, and each of them has 42 bytes
+-- and correct address bytes.
 pub record IsSoundSpan (w : Watched) (packets : List (List ℕ)) : Type 0 where
   pub clean : IsCleanSpan w.page packets
   pub whole : AllByRecursion (λ q. IsPacket q × HasExactAddress q) packets
