@@ -130,7 +130,8 @@ module _ {A : Type 0} (packet_of : A → List ℕ) (number : ℕ) where
       ≡ good_packets_after (record (empty_history (Some p)) { has_repeat = is_some again }) ns
   good-again p again ns h1 = grind (arith, nat_tests, append-nil, good-repeat, is_repeat-again)
 
-  -- A TS packet with payload that is no repeat is accepted by the reader, whatever packets follow.
+  -- The items of a carrier add exactly one good packet, the carrier's TS packet, if this is no
+  -- repeat, whatever events follow.
   pub good-carrier : (history : PacketHistory) (c : Carrier A) (ns : List PidEvent) (first : Bool)
       → IsCarrier packet_of number first c
       → is_repeat history (packet_of c.packet) ≡ false
