@@ -140,30 +140,31 @@ ExampleOfGoodTransmission =
 -- ---- for each fault that matters to receivers, a transmission that fails at a receiver
 
 -- The number of the fault for a packet that breaks rule `r`.
-abbrev pub number_of : PacketRule → ℕ
-number_of r = (code_of_check_fault (packet_fault r 0 0)).number
+abbrev pub fault_number_of : PacketRule → ℕ
+fault_number_of r = (code_of_check_fault (packet_fault r 0 0)).number
 
 -- No fault that matters to receivers is reported in the frames from `a` to `b`, except for faults
 -- with this number.
-pub record IsUnreportedExcept (number : ℕ) (g : Criteria) (frames : Transmission) (a b : ℕ) : Type 0
-  where
-    pub rising : number ≢ 62 → IsRising frames
-    pub packets :
-        (r : PacketRule)
-        → IsTrue (is_needed_by_receivers r)
-        → number ≢ number_of r
-        → HoldsAtPackets (λ before p. IsFalse (breaks r g.watched before p)) frames a b
-    pub content :
-        number ≢ 72 → HoldsAtFrameEnds (λ n f. (active_faults_at g frames n f).content ≡ None)
-        frames a b
-    pub gap : number ≢ 73 → HoldsAtFrameEnds (λ n f. IsFalse (active_faults_at g frames n f).gap)
-        frames a b
+pub record HasNoReceiverFaultExcept
+    (number : ℕ) (g : Criteria) (frames : Transmission) (a b : ℕ)
+    : Type 0 where
+  pub rising : number ≢ 62 → IsRising frames
+  pub packets :
+      (r : PacketRule)
+      → IsTrue (is_needed_by_receivers r)
+      → number ≢ fault_number_of r
+      → HoldsAtPackets (λ before p. IsFalse (breaks r g.watched before p)) frames a b
+  pub content :
+      number ≢ 72 → HoldsAtFrameEnds (λ n f. (active_faults_at g frames n f).content ≡ None)
+      frames a b
+  pub gap : number ≢ 73 → HoldsAtFrameEnds (λ n f. IsFalse (active_faults_at g frames n f).gap)
+      frames a b
 
 -- If the expected pages are blank, the only faults that matter to receivers are faults with this
 -- number, and a receiver of the transmission has a wrong page.
 pub record IsRuleNeeded (number : ℕ) (transmission : Transmission) (every : ℕ) : Type 0 where
   pub others :
-      IsUnreportedExcept number (criteria_of no_subtitles (options_with_bound every) None)
+      HasNoReceiverFaultExcept number (criteria_of no_subtitles (options_with_bound every) None)
       transmission
       (first_frame transmission) (last_frame transmission)
   pub not_robust : Robust no_subtitles transmission (options_with_bound every) → ⊥
@@ -189,7 +190,7 @@ transmission_out_of_order =
 
 -- Each of the eight rules is necessary: a transmission that breaks only this rule fails at a
 -- receiver.
-pub record ExamplesOfNeededParts : Type 0 where
+pub record ExamplesOfNeededRules : Type 0 where
   -- A receiver of the frames up to 900001 shows an exclamation mark that is not expected.
   pub frames_rise : IsRuleNeeded 62 transmission_out_of_order 3
   -- With another wrong bit the address byte can't be decoded, so the receiver misses the header.

@@ -3,7 +3,7 @@
 //!
 //! The examples test the definitions of `specs/`. The functions have no body.
 ghost use Rattle.sub_examples.specs.Examples.{ExampleOfCleanFrames, ExampleOfGoodTransmission};
-ghost use Rattle.sub_examples.specs.Examples.{ExamplesOfNeededParts};
+ghost use Rattle.sub_examples.specs.Examples.{ExamplesOfNeededRules};
 ghost use Rattle.sub_examples.specs.TrustedExamples.{ExamplesOfTrustedFrames};
 
 /// A good transmission: a subtitle in one frame, and a blank page in the next frame.
@@ -14,9 +14,9 @@ pub fn example_of_good_transmission()
 
 /// Each of the eight rules for clean frames is necessary: for each rule there is a transmission
 /// that breaks only this rule and fails at a receiver.
-#[tactic(auto, using(crate::proofs::NotRobustExamples::examples_of_needed_parts))]
-pub fn examples_of_needed_parts()
-    ensures { ExamplesOfNeededParts }
+#[tactic(auto, using(crate::proofs::NotRobustExamples::examples_of_needed_rules))]
+pub fn examples_of_needed_rules()
+    ensures { ExamplesOfNeededRules }
 {}
 
 /// A rejected transmission with clean frames, and the codes that a receiver has in these frames.
