@@ -13,8 +13,8 @@ use Rattle.mpeg_ts.specs.Parts.{parts_from}
 use Rattle.recording_laws.specs.Laws.{LawOfPace}
 use Rattle.std.proofs.lemmas.Bool.{cases_Bool}
 use Rattle.std.proofs.lemmas.Bool.Decides.{nat_tests}
-use Rattle.recording_laws.specs.Losses.{AreLosses, loses_few_in_row, records_all_following, arrives}
-use Rattle.recording_laws.specs.Losses.{is_recorded}
+use Rattle.recording_laws.specs.Losses.{IsRecordingWithLosses, loses_few_in_row, arrives}
+use Rattle.recording_laws.specs.Losses.{is_recorded, records_all_following}
 use Rattle.recording_laws.specs.Losses.{is_damaged_after, units_before_copy, units_after_copy}
 use Rattle.recording_laws.specs.Losses.{SentUnit}
 use Rattle.recording_laws.specs.Losses.{any_unit_damaged}
@@ -456,7 +456,7 @@ module _ (distance number : ℕ) (wrong_after few : Bool) where
 -- missing, or the first TS packet of each PES packet contains its PTS.
 pub law_of_reading : (number distance : ℕ) (few : Bool) (m : Multiplex SentUnit)
     (recording : List ℕ)
-    → AreLosses number distance m recording
+    → IsRecordingWithLosses number distance m recording
     → (few ≡ true → loses_few_in_row 0 (carriers_of m.sent) ≡ true)
     → (few ≡ false → AllByRecursion (FirstPacketContainsPts distance) m.sent)
     → YieldsResults few Nothing m.sent (carried_bytes number distance recording)

@@ -4,7 +4,8 @@ use Rattle.std.specs.List.{AllByRecursion, AllZip, concat}
 use Rattle.ttx_pes.specs.PesGrammar.{IsValidPesPacket, PesValue}
 use Rattle.ttx_pes.specs.PesPackets.{IsPesPacket}
 use Rattle.mpeg_ts.specs.CarriedPackets.{carried_bytes, gap_marker}
-use Rattle.recording_laws.specs.Losses.{CarriesArrivingPackets, AreLosses, SentUnit, IsLossy}
+use Rattle.recording_laws.specs.Losses.{CarriesArrivingPackets, IsRecordingWithLosses, SentUnit}
+use Rattle.recording_laws.specs.Losses.{HasOnlyShortLosses}
 use Rattle.recording_laws.specs.Multiplex.{IsMultiplexed, Multiplex, sent_pes_packets}
 use Rattle.recording_laws.specs.Pace.{AreFarApart, FirstPacketContainsPts, KeepPace, up_to_pts}
 
@@ -23,7 +24,7 @@ LawOfMultiplex =
 abbrev pub LawOfLosses : Type 0
 LawOfLosses =
     (number distance : ℕ) (m : Multiplex SentUnit) (recording : List ℕ)
-    → IsLossy number distance m recording
+    → HasOnlyShortLosses number distance m recording
     → CarriesArrivingPackets m.sent (carried_bytes number distance recording)
 
 -- If at most 14 consecutive TS packets with payload are missing or damaged at a time, PES packets
@@ -33,7 +34,7 @@ abbrev pub LawOfNeighbours : Type 0
 LawOfNeighbours =
     (number distance : ℕ) (m : Multiplex SentUnit) (recording : List ℕ)
     (before run following : List (List ℕ))
-    → IsLossy number distance m recording
+    → HasOnlyShortLosses number distance m recording
     → AllByRecursion IsPesPacket (before ++ (run ++ following))
     → carried_bytes number distance recording ≡ concat (before ++ (run ++ following))
     → AllByRecursion (λ p. p ≡ gap_marker → ⊥) run
@@ -51,7 +52,7 @@ abbrev pub LawOfPace : Type 0
 LawOfPace =
     (number distance pace : ℕ) (frame_of : List ℕ → ℕ) (m : Multiplex SentUnit) (recording : List ℕ)
     (before run following : List (List ℕ)) (last : List ℕ)
-    → AreLosses number distance m recording
+    → IsRecordingWithLosses number distance m recording
     → AllByRecursion (FirstPacketContainsPts distance) m.sent
     → AreFarApart frame_of pace m.sent
     → AllByRecursion IsPesPacket (before ++ (run ++ (last ∷ following)))
@@ -77,5 +78,5 @@ LawOfCompleteFile =
     → carried_bytes number distance recording ≡ concat (before ++ (packets ++ following))
     → AllByRecursion (λ p. p ≡ gap_marker → ⊥) packets
     × ((m : Multiplex SentUnit)
-    → IsLossy number distance m recording
+    → HasOnlyShortLosses number distance m recording
     → (earlier later : List (List ℕ)) × (sent_pes_packets m ≡ earlier ++ (packets ++ later)))

@@ -143,7 +143,7 @@ pub record CarriesArrivingPackets (sent : List (SentPes SentUnit)) (bytes : List
 
 -- A recording with any number of losses. The multiplexer announced no jumps of the continuity
 -- counter.
-pub record AreLosses (number distance : ℕ) (m : Multiplex SentUnit) (recording : List ℕ)
+pub record IsRecordingWithLosses (number distance : ℕ) (m : Multiplex SentUnit) (recording : List ℕ)
     : Type 0 where
   pub is_multiplex : IsMultiplex (sent_packet distance) number m
   pub sent : List ℕ
@@ -158,7 +158,7 @@ pub record AreLosses (number distance : ℕ) (m : Multiplex SentUnit) (recording
   pub left : recording ≡ concat (recorded_units (items_of_multiplex m))
 
 -- A recording in which fewer than 15 consecutive TS packets with payload are missing.
-pub record IsLossy (number distance : ℕ) (m : Multiplex SentUnit) (recording : List ℕ) : Type 0
-  where
-    pub losses : AreLosses number distance m recording
-    pub few : loses_few_in_row 0 (carriers_of m.sent) ≡ true
+pub record HasOnlyShortLosses (number distance : ℕ) (m : Multiplex SentUnit) (recording : List ℕ)
+    : Type 0 where
+  pub losses : IsRecordingWithLosses number distance m recording
+  pub few : loses_few_in_row 0 (carriers_of m.sent) ≡ true

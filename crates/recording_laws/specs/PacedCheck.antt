@@ -4,7 +4,7 @@ use Rattle.std.specs.List.{AllByRecursion, concat}
 use Rattle.ttx_pes.specs.PesPackets.{IsPesPacket}
 use Rattle.ttx_pes.specs.Reading.{pts_bits}
 use Rattle.mpeg_ts.specs.CarriedPackets.{carried_bytes}
-use Rattle.recording_laws.specs.Losses.{AreLosses, SentUnit}
+use Rattle.recording_laws.specs.Losses.{IsRecordingWithLosses, SentUnit}
 use Rattle.recording_laws.specs.Multiplex.{Multiplex, sent_pes_packets}
 use Rattle.recording_laws.specs.Pace.{AreFarApart, FirstPacketContainsPts, up_to_pts}
 use Rattle.stl_rows.specs.Programme.{ProgrammeValue}
@@ -42,7 +42,7 @@ LawOfPacedCheck =
     (number distance pace : ℕ) (m : Multiplex SentUnit) (recording : List ℕ)
     (before packets following : List (List ℕ))
     (programme : ProgrammeValue) (transmission : Transmission) (options : OptionsValue)
-    → AreLosses number distance m recording
+    → IsRecordingWithLosses number distance m recording
     → AllByRecursion (FirstPacketContainsPts distance) m.sent
     → AreFarApart (frame_by_clock options) pace m.sent
     → AllByRecursion IsPesPacket (before ++ (packets ++ following))
