@@ -107,8 +107,8 @@ pub record IsResultWithoutDelay
 
 -- ---- the contents of both files, with any options
 
--- The contents of both files with any options: a PTS may be slightly early or late, and PES packets
--- of the same frame are merged.
+-- The contents of both files with any options. If `within` is not 0, a PTS may be slightly early or
+-- late, and consecutive PES packets of the same frame are merged.
 pub record FilesMeanWithin
     (drawing : Drawing) (options : OptionsValue) (stl pes : List ℕ)
     (subtitles : List SubtitleValue) (transmission : Transmission)
