@@ -30,9 +30,9 @@ is_pes_packet (PesPacket answer) = true
 is_pes_packet _ = false
 
 -- The source failed, but the result reports unreadable bytes instead. Contracts rule this case out.
-abbrev pub reports_source_failure : {A : Type 0} → Received A → Bool
-reports_source_failure (Rest f) = is_read_fault f
-reports_source_failure _ = false
+abbrev pub reports_failure_as_rest : {A : Type 0} → Received A → Bool
+reports_failure_as_rest (Rest f) = is_read_fault f
+reports_failure_as_rest _ = false
 
 -- The first `read` of the bytes were consumed, and were written to the file.
 pub record HasCopied

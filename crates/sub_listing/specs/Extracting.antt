@@ -79,7 +79,7 @@ pub record IsExtractedCompletely (bytes : List ℕ) (old new : Option (List ℕ)
 
 -- After `pes` PES packets, the bytes are rejected because of fault `f`. All bytes were written to
 -- the file, or only a prefix if the number of PES packets is too great to be counted.
-pub record IsExtractedUntilFault
+pub record IsExtractedWithFault
     (bytes : List ℕ) (old new : Option (List ℕ)) (f : PesFault) (pes : ℕ) : Type 0 where
   pub pes_packets : count_pes_packets pes bytes ≡ pes
   pub taken : AppendsPrefix old new bytes
@@ -107,7 +107,7 @@ abbrev pub Extracts :
 Extracts known old new (Ok e) = IfKnown known (λ bytes. IsExtractedCompletely bytes old new e.pes
     e.gaps)
 Extracts known old new (Err Empty) = IfKnown known (λ bytes. (bytes ≡ []) × Keeps old new)
-Extracts known old new (Err (Refused f n)) = IfKnown known (λ bytes. IsExtractedUntilFault bytes old
+Extracts known old new (Err (Refused f n)) = IfKnown known (λ bytes. IsExtractedWithFault bytes old
     new f n)
 Extracts known old new (Err (Read n)) = IfKnown known (λ bytes. IsExtractedUntilFailure bytes old
     new n)

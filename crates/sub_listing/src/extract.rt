@@ -10,7 +10,7 @@ ghost use Rattle.sub_listing.specs.Faults.{check_line};
 ghost use Rattle.sub_listing.specs.FaultLine.{counted_from};
 ghost use Rattle.sub_rules.specs.declared.fault.CheckFault.TheVariants.{Pes};
 
-use crate::copying::{CopyFault, CopyProgress, copy_next, copy_rest};
+use crate::copying::{CopyFault, LastPesPacket, copy_next, copy_rest};
 use crate::fault_line::FaultLine;
 use crate::faults::{fault_line_of_check, fault_line_of_file_write};
 use crate::lines::{Line, push_number, push_text};
@@ -149,7 +149,7 @@ fn copy_pes_packets<P: PesPackets, F: Flush>(
     ensures never_reports_failed_read { IfErr result (λ f. reports_failure_as_rejection f ≡ false) }
     ensures done { OnOk result (F.buffered file.new ≡ 0) }
 {
-    let mut pes_packet = CopyProgress::new();
+    let mut pes_packet = LastPesPacket::new();
     let mut gaps = 0;
     'pes_packets: for pes in 0..u64::MAX {
         match copy_next(pes_packets, file, &mut pes_packet) {

@@ -128,11 +128,11 @@ pub fn read_input<A: Allocator + Drop, S: Source>(
     let mut bytes = Vec::new(alloc);
     let mut room = [0; PULL_CAPACITY];
     'chunks: while bytes.len() < READ_LIMIT {
-        let pes_packet = &mut room[..PULL_CAPACITY.min(READ_LIMIT - bytes.len())];
-        match input.pull(pes_packet) {
+        let chunk = &mut room[..PULL_CAPACITY.min(READ_LIMIT - bytes.len())];
+        match input.pull(chunk) {
             Ok(0) => return Ok(bytes),
             Ok(len) => {
-                let Ok(()) = bytes.extend_from_slice(&pes_packet[..len]) else {
+                let Ok(()) = bytes.extend_from_slice(&chunk[..len]) else {
                     return Err(InputFault::Memory);
                 };
             }

@@ -80,7 +80,7 @@ impl PacketLister {
     }
 
     // Makes the lines of the PES packet that was read last.
-    fn list_next_result(&mut self, text: &mut Text) -> Option<Status>
+    fn list_read_packet(&mut self, text: &mut Text) -> Option<Status>
         requires few { self.old.index < max_pes_packets }
         requires empty { text.old.items ≡ [] }
         ensures lines { text.new.items
@@ -125,8 +125,8 @@ impl<P: PesPackets> Lister<P> for PacketLister {
         }
         match self.reader.next(input) {
             Ok(Compared::End) => end_with_count(text, self.index, b" pes\n"),
-            Ok(Compared::Same) => self.list_next_result(text),
-            Ok(Compared::Other) => self.list_next_result(text),
+            Ok(Compared::Same) => self.list_read_packet(text),
+            Ok(Compared::Other) => self.list_read_packet(text),
             Err(fault) => {
                 let pes = self.index;
                 let reported = fault_line_of_check(CheckFault::Pes { fault, pes });
