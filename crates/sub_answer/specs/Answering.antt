@@ -232,7 +232,7 @@ Answers (ask.Survey recording options) first second Untouched file out status =
 
 -- Each device fails at most once, and only if the status is `Fault`. A command that needs no memory
 -- has the status `Fault` only if a device failed.
-pub record CountsFaults
+pub record CountsDeviceFailures
     (request : Request) (first second : SourceCall) (file out : SinkCall) (status : Status)
     : Type 0 where
   pub first_count : Counts first.old_count status first.new_count

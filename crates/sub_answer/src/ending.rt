@@ -62,8 +62,8 @@ pub fn answer_both_inputs<S: Source, P: NumberedPesPackets, K: Sink>(
         (state_of_buffer K.contents K.failure_count out.new) result }
     ensures device { P.device pes.new ≡ P.device pes.old }
 {
-    let (mut fault_line_without_place, mut room) = ([0; 0], [0; 1]);
-    let mut file = BufferedSink::new(MemSink::new(&mut fault_line_without_place), &mut room);
+    let (mut empty_memory, mut room) = ([0; 0], [0; 1]);
+    let mut file = BufferedSink::new(MemSink::new(&mut empty_memory), &mut room);
     answer_and_flush(alloc, request, first, pes, &mut file, out)
 }
 

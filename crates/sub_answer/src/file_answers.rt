@@ -146,11 +146,8 @@ fn answer_one_file<D: FileSystem, K: Sink>(
         (state_of_buffer K.contents K.failure_count out.old)
         (state_of_buffer K.contents K.failure_count out.new) result }
 {
-    let (mut fault_line_without_place, mut small_buffer) = ([0; 0], [0; 1]);
-    let mut none = BufferedSink::new(
-        MemSink::new(&mut fault_line_without_place),
-        &mut small_buffer,
-    );
+    let (mut empty_memory, mut small_buffer) = ([0; 0], [0; 1]);
+    let mut none = BufferedSink::new(MemSink::new(&mut empty_memory), &mut small_buffer);
     let whole = BufferedSource::new(file, room);
     let (status, whole) = answer_part(alloc, request, part, whole, &mut none, out);
     files.release_input(whole.into_inner());
