@@ -210,7 +210,7 @@ fn answer_or_print_fault<D: FileSystem, K: Sink>(
         (state_of_buffer K.contents K.failure_count out.old)
         (state_of_buffer K.contents K.failure_count out.new) result }
 {
-    match answer_parsed_arguments(alloc, given, files, out) {
+    match parse_and_answer(alloc, given, files, out) {
         Ok(status) => status,
         Err(fault) => print_and_flush_usage_fault(&fault, out),
     }
@@ -221,7 +221,7 @@ fn answer_or_print_fault<D: FileSystem, K: Sink>(
 // # Errors
 //
 // Returns the fault that prevents an answer.
-fn answer_parsed_arguments<D: FileSystem, K: Sink>(
+fn parse_and_answer<D: FileSystem, K: Sink>(
     alloc: Global,
     given: io::Result<Args>,
     files: &mut D,
