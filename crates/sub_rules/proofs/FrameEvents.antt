@@ -6,7 +6,8 @@ use Rattle.sub_rules.specs.FrameRules.{Criteria, frame_at, packets_before, packe
 use Rattle.sub_rules.specs.Transmission.{Transmission}
 use Rattle.sub_rules.specs.declared.event.Event.{Event}
 
--- `gap_events` are the events at the ends of n frames without a PES packet.
+-- The events at the ends of the n frames without a PES packet that follow the first i frames of the
+-- transmission.
 unfoldable pub gap_events : Criteria → Transmission → ℕ → ℕ → List Event
 gap_events g frames i zero = []
 gap_events g frames i (suc n) =
