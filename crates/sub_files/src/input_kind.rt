@@ -103,7 +103,12 @@ pub fn explain_refusal<E: Eprint>(request: &Request<'_>, kinds: &InputKinds, err
             if kinds.has_time_fault.get() {
                 explain_times(request, stl.name(), errors);
             } else if !explain_subtitle_file(stl.name(), kinds.first.get(), EXCHANGED, errors) {
-                explain_pes_packets(pes.name(), kinds.second.get(), needs_no_pid(request), errors);
+                explain_pes_packets(
+                    pes.name(),
+                    kinds.second.get(),
+                    needs_no_pid(request),
+                    errors,
+                );
             }
         }
         FileNames::ReadPes(pes) | FileNames::Extract(pes, _) => {
