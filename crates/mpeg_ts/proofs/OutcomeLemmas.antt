@@ -25,7 +25,7 @@ pub boolean_cases : {P : Type 0} (b : Bool) → (b ≡ true → P) → (b ≡ fa
 boolean_cases b h1 h2 = grind (arith, nat_tests)
 
 -- `output` gives the bytes of outcomes that come after an item of this kind. A gap marker is output
--- as soon as a gap is detected.
+-- as soon as a gap is detected, but only if the item before the gap is a PES packet.
 abbrev pub output : Given → List PartOutcome → List ℕ
 output g [] = []
 output g (Gap ∷ more) = gap_marker_where (gave_pes_packet g) ++ output (last_output_after true g)
