@@ -165,7 +165,7 @@ impl Pictures {
         if is_unusable(packet) {
             self.process_unreadable_packet(packet, kind, text);
         } else {
-            self.read_header(packet, kind, link, text);
+            self.read_payload(packet, kind, link, text);
         }
     }
 
@@ -179,8 +179,9 @@ impl Pictures {
         }
     }
 
-    // Reads the header of a PES packet. A picture begins once the header is complete.
-    fn read_header(&mut self, packet: &[u8; PACKET], kind: u8, link: PacketLink, text: &mut Text) {
+    // Reads the payload of a packet: the header of its PES packet, and the bytes of the picture. A
+    // picture begins once the header of a PES packet of video is complete.
+    fn read_payload(&mut self, packet: &[u8; PACKET], kind: u8, link: PacketLink, text: &mut Text) {
         let payload = payload_if_usable(packet);
         let before = if begins(packet) { 0 } else { self.header.len() };
         if self.header.take(payload, begins(packet), follows(link)) {
