@@ -87,7 +87,7 @@ abbrev pub reported_block : ℕ → Result (Option SubtitleValue) StlFault → �
 reported_block block (Err f) = block_of_fault block f
 reported_block block (Ok found) = block
 
--- If the bytes end with a complete block, that block is neither user data nor a comment.
+-- If the bytes end with a complete block, that block is not a skipped block.
 abbrev pub LastIsSubtitleBlock : List ℕ → Type 0
 LastIsSubtitleBlock bytes =
     (prefix last : List ℕ) → bytes ≡ prefix ++ last → IsBlock last → is_subtitle_block last ≡ true
