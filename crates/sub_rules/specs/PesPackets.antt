@@ -83,7 +83,7 @@ pub record ReadsPesPacket
 abbrev pub OnPesPacket : Result (Option NextPesPacket) CheckFault → Type 0 → Type 0
 OnPesPacket answer IsSo = IfOk answer (λ pes_packet. IsSome pes_packet → IsSo)
 
--- The property `IsSo` holds for the frame of the result, if the result is a packet that is sent.
+-- The property `IsSo` holds for the PES packet of the result, if the result is a valid PES packet.
 abbrev pub IfSent : Result (Option NextPesPacket) CheckFault → (ValidPesPacket → Type 0) → Type 0
 IfSent answer IsSo =
     (sending : ValidPesPacket) → answer ≡ Ok (Some (next.Sent sending)) → IsSo sending
