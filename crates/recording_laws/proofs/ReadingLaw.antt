@@ -31,7 +31,7 @@ use Rattle.recording_laws.proofs.LossyCarriedLemmas.{all-carriers-left, all-pes,
 use Rattle.recording_laws.proofs.LossyCarriedLemmas.{first_counter, pes-rising, IsLossyPes}
 use Rattle.recording_laws.proofs.OpenPartLemmas.{closed-by, payloads_of, YieldsResults}
 use Rattle.recording_laws.proofs.OpenPartLemmas.{ContinuesReading}
-use Rattle.recording_laws.proofs.OpenPartLemmas.{FirstResultIsPacket}
+use Rattle.recording_laws.proofs.OpenPartLemmas.{YieldsAtMostOneResult}
 use Rattle.recording_laws.proofs.OpenPartLemmas.{carried_from, previous_with_marker, closing}
 use Rattle.recording_laws.proofs.OpenPartLemmas.{going-ends, BeginsPes}
 use Rattle.recording_laws.proofs.OpenPartLemmas.{gives-later, gives-one, gives-opened, going-fits}
@@ -217,7 +217,7 @@ module _ (distance number : ℕ) (wrong_after few : Bool) where
       → BeginsPes distance number wrong_after few part s
       → PartContinues distance number wrong_after few part s between skipped n wrong []
       → goods ≡ []
-      → FirstResultIsPacket few given (given && (gap || part.after_break)) s between skipped []
+      → YieldsAtMostOneResult few given (given && (gap || part.after_break)) s between skipped []
       (carried_from distance number wrong_after few part given gap goods)
   unfolding parts_from
   end-open part given gap s between skipped n wrong goods first going none =
@@ -294,7 +294,7 @@ module _ (distance number : ℕ) (wrong_after few : Bool) where
       → IsGoodCopy distance number few true n wrong t.first g
       → (few ≡ true → wrong_after_good ≡ any_unit_damaged (units_after_copy t.first))
       → AreTraced distance number few true 0 wrong_after_good (t.others ++ carriers_of more) later
-      → FirstResultIsPacket few given (given && (gap || part.after_break)) s between skipped
+      → YieldsAtMostOneResult few given (given && (gap || part.after_break)) s between skipped
       (t ∷ more)
       (carried_from distance number wrong_after few part given gap (g ∷ later))
   next-opened t more part given gap s between skipped n wrong g later wrong_after_good go is holds
@@ -354,7 +354,7 @@ module _ (distance number : ℕ) (wrong_after few : Bool) where
       → BeginsPes distance number wrong_after few part s
       → PartContinues distance number wrong_after few part s between skipped n wrong []
       → AreTraced distance number few true n wrong (t.first ∷ (t.others ++ carriers_of more)) goods
-      → FirstResultIsPacket few given (given && (gap || part.after_break)) s between skipped
+      → YieldsAtMostOneResult few given (given && (gap || part.after_break)) s between skipped
       (t ∷ more)
       (carried_from distance number wrong_after few part given gap goods)
   next-open t more part given gap s between skipped n wrong goods go is holds first going
@@ -371,7 +371,7 @@ module _ (distance number : ℕ) (wrong_after few : Bool) where
         | inr here ↦
             subst
             (λ (l : List GoodPacket).
-            FirstResultIsPacket few given (given && (gap || part.after_break)) s between skipped
+            YieldsAtMostOneResult few given (given && (gap || part.after_break)) s between skipped
             (t ∷ more)
             (carried_from distance number wrong_after few part given gap l))
             (sym here.2)
