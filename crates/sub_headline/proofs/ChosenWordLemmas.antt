@@ -69,7 +69,7 @@ values_after_parts id vs parts = fold (values_with_choice id) vs parts
 abbrev text_or_default : Text → List (List Text) → Text
 text_or_default default vs = unwrap_or (first_text (or_default vs (default ∷ []))) []
 
--- The names of the arguments of `check` to which an option may give a value.
+-- The names of the options of `check`, except `within` and `keeping`.
 abbrev keys : List Text
 keys =
     codes "page" ∷
