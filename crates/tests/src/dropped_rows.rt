@@ -18,7 +18,7 @@ const CODES: [u8; 40] = [
     0x20,
 ];
 
-// Returns the page after the packets of the schedule were received.
+// Returns the page after the first page transmission for `Hi` was received without wrong bits.
 fn shown_page() -> Page {
     let mut page = Page::blank();
     page.set_row(22, &CODES);
