@@ -1,6 +1,6 @@
 -- The requirements if repeats may have C4 (erase page) clear. Inserters set C4 when the text
--- changes, and many clear it when they repeat the page. Such a repeat must contain the entire page,
--- unchanged.
+-- changes, and many clear it when they repeat the page. After such a repeat, the page is correct
+-- only when each row with text was sent again.
 use Rattle.std.specs.Prelude.{◌≡◌, ◌≢◌, ◌↔◌, ℕ, ◌⊎◌, Bool, false, List, [], ◌∷◌}
 use Rattle.std.specs.Prelude.{Option, Some, None, IsTrue, IsFalse}
 use Rattle.std.specs.List.{list_any}
@@ -28,7 +28,7 @@ has_row page packets row =
     list_any (λ packet. is_row row (kind page packet)) (span (kind page) packets)
 
 -- The cell is correct after these packets: it has the expected code, and unless that code is a
--- space, its row was sent after the last header of the page.
+-- space, its row was sent after the last header of the page, while the page was open.
 pub record IsRight
     (keeps : Bool) (page : PageIdValue) (packets : List (List ℕ)) (due : Rows) (row column : ℕ)
     : Type 0 where

@@ -1,4 +1,4 @@
--- The seven rules for Teletext packets. Whether a packet breaks a rule depends on all packets
+-- The seven rules for Teletext packets. Whether a packet breaks a rule may depend on the packets
 -- before it.
 use Rattle.std.specs.Prelude.{◌≡◌, ℕ, ◌<◌, List, [], ◌∷◌, take, length, slice_index_or}
 use Rattle.std.specs.Prelude.{Option, Some, None, IsTrue, filter, map, drop}
@@ -54,7 +54,7 @@ KeepsRule rule.Control w before p = HasAllowedHeader w before p
 KeepsRule rule.Parity w before p =
     IsTrue (is_open_after (kind w.page) before) → HasOddParityTextIfRow w.page p
 -- RowChanged: while the page is open, a row equals the earlier packets of the same row since the
--- page was last erased.
+-- last header of the page or, if repeats may keep the page, since the last header that erases it.
 KeepsRule rule.RowChanged w before p =
     IsTrue (is_open_after (kind w.page) before)
     → (row : ℕ)

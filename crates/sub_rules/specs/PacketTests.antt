@@ -86,8 +86,7 @@ abbrev pub is_allowed_page_header : Watched → List (List ℕ) → Header → B
 is_allowed_page_header w before h =
     erases_or_may_repeat w before h && has_subtitle_bits w.national h
 
--- The packet is a header of the page that is not allowed after these packets, or has wrong control
--- bits.
+-- The packet is a header of the page that is not allowed after these packets.
 abbrev pub is_wrong_header : Watched → List (List ℕ) → PacketKind → Bool
 is_wrong_header w before (ThisPage h) = not (is_allowed_page_header w before h)
 is_wrong_header w before _ = false

@@ -163,7 +163,8 @@ pub record PesFileValue : Type 0 where
   pub frames : Transmission
   pub unread : Option UnreadReason
 
--- The frames of the PES packets before the first skipped one, and why reading ends there.
+-- The frames of the PES packets before the first skipped one, and why it is skipped; without a
+-- skipped packet, all frames and `unread`.
 unfoldable pub read_until_skipped : List PesPacket → Option UnreadReason → PesFileValue
 read_until_skipped [] unread = record { frames = []; unread = unread }
 read_until_skipped (Sent s ∷ pes_packets) unread =
@@ -171,6 +172,7 @@ read_until_skipped (Sent s ∷ pes_packets) unread =
     record { frames = s ∷ rest.frames; unread = rest.unread }
 read_until_skipped (Skipped u ∷ pes_packets) unread = record { frames = []; unread = Some u }
 
--- The frames of a PES file before its first skipped packet, and why reading ends there.
+-- The frames of a PES file before its first skipped packet, and why the rest is not read; `None` if
+-- the entire file is read.
 abbrev pub file_until_first_skipped : PesPacketFileValue → PesFileValue
 file_until_first_skipped file = read_until_skipped file.pes_packets file.unread

@@ -6,8 +6,9 @@ use sub_io::FaultCode;
 /// A rule that is checked at the end of each frame. It may stay broken for several frames.
 #[derive(Clone, Copy, Debug, PartialEq, Eq)]
 pub enum EndRule {
-    /// Each cell has the expected code. If `within` is not 0, each cell may also have a space or a
-    /// code that was expected at one of the `within` frames before, until the page is overdue.
+    /// Each cell has the expected code, and each row with expected text was sent since the last
+    /// header of the page. If `within` is not 0, each cell may also have a space or a code that was
+    /// expected at one of the `within` frames before, until the page is overdue.
     Content,
     /// The page has had a header within the repeat bound.
     Gap,

@@ -21,7 +21,8 @@ use ttx_pes::PesFault;
 pub enum CheckFault {
     /// The subtitle file was rejected.
     Subtitles(LoadFault),
-    /// A PES packet is not a valid PES packet with Teletext, or reading the file failed.
+    /// A PES packet is not a valid PES packet with Teletext or is one too many, or reading the file
+    /// failed.
     Pes {
         /// The number of the PES packet, counted from 0.
         pes: u32,
@@ -35,7 +36,8 @@ pub enum CheckFault {
         /// The number of the PES packet, counted from 0.
         pes: u32,
     },
-    /// The frame of a PES packet is not after the frame of the previous PES packet.
+    /// The frame of a PES packet is before the frame of the previous PES packet or, if `within` is
+    /// 0, the same.
     Order {
         /// The number of the PES packet, counted from 0.
         pes: u32,
@@ -102,9 +104,10 @@ pub enum CheckFault {
         /// The first frame of the transmission.
         frame: u32,
     },
-    /// At the end of a frame, a cell of the page differs from the expected page. If the page may
-    /// take `within` frames to become correct, the fault is reported when the page is overdue, or
-    /// at once if the cell has a code that was not expected within these frames.
+    /// At the end of a frame, a cell of the page differs from the expected page, or a row with
+    /// expected text was not sent since the last header of the page. If the page may take `within`
+    /// frames to become correct, the fault is reported when the page is overdue, or at once if the
+    /// cell has a code other than a space that was not expected within these frames.
     Content {
         /// The frame at whose end the cell is wrong.
         frame: u32,
@@ -205,7 +208,7 @@ impl CheckFault {
     }
 
     /// Returns the place of the fault: a TTI block or a text position in the subtitle file; or a
-    /// PES packet, a frame, a Teletext packet or a cell.
+    /// PES packet, a frame, a Teletext packet or a cell; `Nowhere` for `Empty`.
     pub fn place(self) -> FaultPlace
         ensures { result ≡ place_of_fault self }
     {

@@ -85,7 +85,7 @@ pub fn next_pes_packet<P: PesPackets>(
         → FailsWithinPacket (P.remaining source.old) (P.left source.new)) }
     // The call reads nothing beyond the PES packet.
     ensures settled { OnPesPacket result (P.left source.new ≡ P.remaining source.new) }
-    // The call cannot fail if the source already has the bytes of the PES packet.
+    // Reading cannot fail if the source already has the bytes of the PES packet.
     ensures ready { P.ready source.old ≡ true → failed is_pes_read_failure result ≡ false }
     ensures device { P.device source.new ≡ P.device source.old }
     ensures count { CountsFailureIf P.failure_count source.old (failed is_pes_read_failure result)

@@ -9,8 +9,8 @@ use ttx_pes::{ComparingReader, SentUnits};
 pub struct ValidPesPacket {
     /// The frame of the day to which the PTS belongs.
     pub frame: u32,
-    /// Whether the Teletext packets are the same as those of the previous PES packet, byte for
-    /// byte.
+    /// Whether the previous PES packet is valid and has the same data field, byte for byte, so that
+    /// the Teletext packets are the same too.
     pub again: bool,
 }
 
