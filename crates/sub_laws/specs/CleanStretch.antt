@@ -90,7 +90,7 @@ criteria_with_refusals programme options unread any_unreliable undecided =
     { any_unreliable = any_unreliable; undecided = undecided }
 
 -- If each header must have C4 (erase page) set and `within` is 0, a range of frames without faults
--- that affect receivers meets the sufficient conditions (`LawOfStretch`). If complete pages are
+-- that affect receivers meets the sufficient conditions (`IsSufficient`). If complete pages are
 -- required, and `Incomplete` is not active at the end of any of its frames, its pages are complete.
 -- So the report on a rejected transmission shows which part of it is correct for receivers.
 abbrev pub LawOfUnreportedStretch : Type 0

@@ -29,9 +29,9 @@ LawOfJudgedParts =
     ≡ can_judge (full_day_drawing drawing)
     (gsi ++ concat (scope_blocks drawing.scope None blocks)))
 
--- If two subtitle files have the same reliable subtitles, the same frames with an unknown expected
--- page, and rejected subtitles both or neither, a PES file has the same events for both. So neither
--- the text nor the times of rejected subtitles matter otherwise.
+-- If two subtitle files have the same reliable subtitles, drawn in the same way, the same frames
+-- with an unknown expected page, and unreliable subtitles both or neither, a PES file has the same
+-- events for both. So neither the text nor the times of unreliable subtitles matter otherwise.
 abbrev pub LawOfEqualReports : Type 0
 LawOfEqualReports =
     (one other : JudgedValue) (options : OptionsValue) (unread : Option UnreadReason)

@@ -1,5 +1,5 @@
--- The guarantee that receivers show the expected page after the next header, whatever they received
--- before.
+-- The guarantee that receivers decode the expected page after the next header, whatever they
+-- received before.
 use Rattle.std.specs.Prelude.{ℕ, Bool, List}
 use Rattle.ttx_page.specs.DroppedRows.{ExcusedBy}
 use Rattle.ttx_page.specs.LostRows.{IsHitOrLost, arrivals_from_flags}

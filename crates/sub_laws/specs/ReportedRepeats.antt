@@ -16,8 +16,7 @@ pub record IsSufficientWithRepeats
     : Type 0 where
   -- Receivers recover in the range of frames (`LawOfRepeatedStretch`).
   pub stretch : IsSoundStretchWithRepeats keeps transmission options a b
-  -- At the end of each frame, each cell has a space, or a code that was expected in it within the
-  -- last `within` frames.
+  -- At the end of each frame, each cell has an allowed code (`IsDueWithin`).
   pub codes : KeepsDueCodes keeps programme transmission options a b
   -- If `within` is 0, the page is correct at the end of each frame.
   pub whole :
@@ -28,9 +27,9 @@ pub record IsSufficientWithRepeats
       → IsCorrectPage keeps programme options.page transmission f
 
 -- A range of frames without faults that affect receivers meets the sufficient conditions. If
--- `Incomplete` is not active at the end of any of its frames, they are finished in time. So the
--- report on a rejected transmission shows which part of it is correct for receivers: from the first
--- header that erases the page on.
+-- `Incomplete` is not active at the end of any of its frames, and the subtitles are valid, they are
+-- finished in time. So the report on a rejected transmission shows which part of it is correct for
+-- receivers: from the first header that erases the page on.
 abbrev pub LawOfUnreportedRepeats : Type 0
 LawOfUnreportedRepeats =
     (programme : ProgrammeValue) (transmission : Transmission) (options : OptionsValue)

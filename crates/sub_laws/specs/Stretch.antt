@@ -16,7 +16,7 @@ pub record MayBeTrusted
     : Type 0 where
   -- Receivers recover in the frames from a to b.
   pub recovers : (class : ReceiverClass) → RecoversWithin class programme transmission options a b
-  -- If pages are complete in these frames, the expected page is on the receivers' screens.
+  -- If pages are complete in these frames, the screens show the expected page, as in `ShownWithin`.
   pub shown :
       CompleteWithin transmission options a b
       → (class : ReceiverClass)
@@ -30,8 +30,7 @@ pub record HasPromises
   pub robust : Robust programme transmission options
   -- The transmission is robust even if rows are lost.
   pub transmission_survives_lost_rows : RobustToLostRows programme transmission options
-  -- Receivers recover in all frames, whatever they received before. If pages are complete, the
-  -- expected page is on their screens.
+  -- The guarantees of `MayBeTrusted` hold for all frames.
   pub trusted :
       MayBeTrusted programme transmission options (first_frame transmission)
       (last_frame transmission)

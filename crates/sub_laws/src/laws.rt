@@ -1,5 +1,4 @@
-//! Laws of transmissions: a good transmission is received without errors, and further laws about
-//! the rules.
+//! Laws of transmissions: a good transmission is robust, and further laws about the rules.
 //!
 //! The contract of each function states a law. Only `law_of_judged_parts` has a body, which calls
 //! the law of `stl_file` that it needs.
@@ -28,40 +27,41 @@ ghost use Rattle.sub_laws.specs.ReportedRepeats.{LawOfUnreportedRepeats};
 use stl_file::law_of_scope;
 
 /// A receiver that starts anywhere in a good transmission gets a header of the page within the
-/// repeat bound.
+/// repeat bound, if it listens so long.
 #[tactic(auto, using(crate::proofs::RobustLemmas::law_of_window))]
 pub fn law_of_window()
     ensures { LawOfWindow }
 {}
 
 /// A good transmission is robust: wherever a receiver starts, whatever page it had, and with at
-/// most one wrong bit in each byte, each cell has the expected code, or a space if its byte had a
-/// wrong bit. The same holds if rows are lost (their cells may have spaces), and for receivers that
-/// drop a row with an error. If pages are complete, it also holds for the screens of receivers that
-/// show a page only after a later header has ended it.
+/// most one wrong bit in each byte, each cell has the expected code after the next header, or a
+/// space if its byte had a wrong bit. The same holds if rows are lost (their cells may have
+/// spaces), and for receivers that drop a row with an error. If pages are complete, it also holds
+/// for the screens of receivers that show a page only after a later header has ended it.
 pub fn law_of_good()
     ensures { LawOfGood }
 {}
 
-/// A good transmission meets the conditions that suffice for reception without errors: frame
-/// numbers increase; code words have no wrong bit; headers of the page have C4 (erase page) set;
-/// rows have odd parity and are repeated unchanged; a header is sent within the repeat bound; the
+/// A good transmission meets the conditions that suffice for the guarantees: frame numbers
+/// increase; code words have no wrong bit; headers of the page have C4 (erase page) set; its rows
+/// have odd parity and are repeated unchanged; a header is sent within the repeat bound; the
 /// expected page is shown.
 #[tactic(auto, using(crate::proofs::RobustLemmas::suffices))]
 pub fn law_of_sufficient_parts()
     ensures { LawOfSufficientParts }
 {}
 
-/// If a range of frames meets the sufficient conditions, every receiver that starts in it shows the
-/// expected page after the next header, whatever was on air before. If pages are complete in the
-/// range, this also holds for the screen.
+/// If a range of frames meets the sufficient conditions, every receiver that starts in it has the
+/// expected page after the next header, apart from spaces because of errors, whatever was on air
+/// before. If pages are complete in the range, this also holds for the screen.
 #[tactic(auto, using(crate::proofs::StretchLemmas::law_of_stretch))]
 pub fn law_of_stretch()
     ensures { LawOfStretch }
 {}
 
-/// If `within` is 0 and each header must have C4 (erase page) set, a transmission is good under the
-/// options if and only if it is good and, if complete pages are required, its pages are complete.
+/// If `within` is 0 and each header must have C4 (erase page) set, a transmission of valid
+/// subtitles is good under the options if and only if it is good and, if complete pages are
+/// required, its pages are complete.
 pub fn law_of_no_delay()
     ensures { LawOfNoDelay }
 {}
@@ -80,8 +80,8 @@ pub fn law_of_longer_delay_of_files()
 {}
 
 /// A range of frames without faults that affect receivers meets the sufficient conditions for
-/// repeats. If `Incomplete` is not active at the end of any of its frames, they are finished in
-/// time.
+/// repeats. If `Incomplete` is not active at the end of any of its frames, and the subtitles are
+/// valid, they are finished in time.
 pub fn law_of_unreported_repeats()
     ensures { LawOfUnreportedRepeats }
 {}
@@ -136,7 +136,8 @@ pub fn law_of_exact_frames()
 {}
 
 /// If `within` is 0, a fault is reported at a place of a transmission if and only if a rule is
-/// broken there. For wrong text, the fault gives the first wrong cell.
+/// broken there; for `RowChanged`, if the earlier packets have no fault and the packet has correct
+/// address bytes and odd parity. For wrong text, the fault gives the first wrong cell.
 pub fn law_of_broken_places()
     ensures { LawOfBrokenPlaces }
 {}
@@ -148,22 +149,24 @@ pub fn law_of_first_reported()
     ensures { LawOfFirstReported }
 {}
 
-/// A PES file has no event if and only if no PES packet is skipped, its frames are good under the
-/// options, and the entire file was read.
+/// If no subtitle was rejected, a PES file has no event if and only if no PES packet is skipped,
+/// its frames are good under the options, and the entire file was read.
 #[tactic(auto, using(crate::proofs::EmptyReportLemmas::law_of_empty_report_repeats))]
 pub fn law_of_empty_report_repeats()
     ensures { LawOfEmptyReportRepeats }
 {}
 
-/// If each header must have C4 (erase page) set and `within` is 0, a PES file has no event if and
-/// only if it carries a good transmission, with complete pages if these are required.
+/// If each header must have C4 (erase page) set, `within` is 0 and no subtitle was rejected, a PES
+/// file has no event if and only if no PES packet is skipped, its frames are good, with complete
+/// pages if these are required, and the entire file was read.
 #[tactic(auto, using(crate::proofs::EmptyReportLemmas::law_of_empty_report))]
 pub fn law_of_empty_report()
     ensures { LawOfEmptyReport }
 {}
 
 /// Suppose that each repeat in a range of frames sends the same text as before, and that at each
-/// frame end each cell has a space or a code that was expected within the last `within` frames.
+/// frame end each cell has a space or a code that was expected at that frame or at one of the
+/// `within` frames before.
 /// Then receivers recover, whether they keep their page at a header with C4 (erase page) clear or
 /// blank any of its cells: from any header if their page was blank or they erase it at each header,
 /// and otherwise from the next header with C4 set. At each frame end with a correct page that has
@@ -172,9 +175,10 @@ pub fn law_of_repeated_stretch()
     ensures { LawOfRepeatedStretch }
 {}
 
-/// A transmission that is good under the options meets its guarantees. Once a receiver has erased
-/// its old page, each cell has a space or a code that was expected within the last `within` frames.
-/// At least once in any `within` + 1 frames, and in each subtitle, it has the expected page.
+/// A transmission of valid subtitles that is good under the options meets its guarantees. Once a
+/// receiver got a header and has erased its old page, each cell has a space or a code that was
+/// expected at that frame or at one of the `within` frames before. The page is correct at least
+/// once in any `within` + 1 frames, and in each subtitle.
 pub fn law_of_good_with_repeats()
     ensures { LawOfGoodWithRepeats }
 {}
@@ -221,13 +225,15 @@ pub fn law_of_followed_stretch()
     ensures { LawOfFollowedStretch }
 {}
 
-/// Without bit errors, a receiver that keeps its page at headers with C4 (erase page) clear has the
-/// codes that the rules define for such repeats, at the end of each frame.
+/// If a transmission keeps rules 1 to 6 and is received without errors, a receiver that keeps its
+/// page at headers with C4 (erase page) clear, and has erased its old page, has the codes that the
+/// rules define for such repeats, at the end of each frame.
 pub fn law_of_kept_codes()
     ensures { LawOfKeptCodes }
 {}
 
-/// If text ends or changes at a frame of a good transmission, a header that erases the page is sent
+/// If text ends or changes at a frame of a good transmission, more than `within` frames after its
+/// first frame and at least `within` frames before its last, a header that erases the page is sent
 /// at most `within` frames before or after it. So a receiver's old text is gone by then.
 pub fn law_of_old_text()
     ensures { LawOfOldText }
@@ -241,9 +247,9 @@ pub fn law_of_judged_parts()
     law_of_scope();
 }
 
-/// Two subtitle files give the same events for a PES file if they have the same reliable subtitles
-/// and the same frames with an unknown expected page, and both or neither have unreliable
-/// subtitles.
+/// Two subtitle files give the same events for a PES file if they have the same reliable subtitles,
+/// drawn in the same way, and the same frames with an unknown expected page, and both or neither
+/// have unreliable subtitles.
 pub fn law_of_equal_reports()
     ensures { LawOfEqualReports }
 {}
