@@ -9,8 +9,7 @@ ghost use Rattle.sub_plan.specs.Laws.{LawOfLastSending, LawOfPesValues, LawOfSen
 ghost use Rattle.sub_plan.specs.Laws.{LawOfClock, LawOfExactClock, LawOfNearClock};
 ghost use Rattle.sub_plan.specs.Laws.{LawOfSendings, LawOfSentPackets, LawOfSize};
 
-/// Whatever was sent before, a receiver shows after a page transmission the page from which the
-/// transmission was made.
+/// Whatever was sent before, a page transmission shows the page from which it was made.
 pub fn law_of_sending()
     ensures { LawOfSending }
 {}
@@ -54,7 +53,7 @@ pub fn law_of_equal_pages()
     ensures { LawOfEqualPages }
 {}
 
-/// The last page transmission up to a frame shows the page expected at that frame.
+/// The last page transmission up to a frame of a schedule shows the page expected at that frame.
 pub fn law_of_last_sending()
     ensures { LawOfLastSending }
 {}

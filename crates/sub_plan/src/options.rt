@@ -1,5 +1,5 @@
-//! The options of a schedule and of checking a schedule: the page, the repeat bound, the PTS of
-//! frame 0, the time until the page must be right, and the maximum distance of PES packets.
+//! The options of a schedule and of checking a schedule, such as the page, the repeat bound and the
+//! PTS of frame 0.
 ghost use Rattle.std.specs.Prelude.{◌≡◌, ◌≢◌, ℕ, ◌^◌, ◌<◌, ◌≤◌, ◌↔◌, ◌⊎◌, None, Some, Err};
 ghost use Rattle.std.specs.Prelude.{IfErr, IfOk, false, true};
 ghost use Rattle.stl_file.specs.TimeCode.{day};
@@ -18,8 +18,8 @@ const TICKS_PER_FRAME: u64 = 3600;
 /// One more than the greatest PTS, which has 33 bits.
 const PTS_END: u64 = 8_589_934_592;
 
-/// The number of frames of a day at 25 frames per second. A PES file has at most one PES packet per
-/// frame.
+/// The number of frames of a day at 25 frames per second. A PES file has at most as many PES
+/// packets.
 const FRAMES_PER_DAY: u64 = MAX_PES_PACKETS as u64;
 
 /// The greatest repeat bound and the greatest pace in frames: a day.
@@ -134,8 +134,8 @@ impl Options {
         })
     }
 
-    /// Also requires complete pages: at the end of each frame, a later header has ended the page,
-    /// since some decoders show a page only after that header.
+    /// Also requires complete pages: at the end of each frame at which the page must be right, a
+    /// later header has ended it, since some decoders show a page only after that header.
     pub fn asking_complete(self) -> Options
         ensures { result ≡ record self { asks_complete = true } }
     {

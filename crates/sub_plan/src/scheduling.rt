@@ -96,8 +96,9 @@ fn send_steps<K: Sink>(
     Ok(count)
 }
 
-// Returns the first frame after `frame` with a different expected page, or `last` if no page
-// differs; and the expected page at the returned frame. Draws the page only at cues.
+// Returns the first frame after `frame` with a different expected page, or `last` if no page before
+// `last` differs; and the expected page at the returned frame. Draws the page only at cues and at
+// `last`.
 fn next_change(programme: &Programme, frame: u32, page: &Page, last: u32) -> (u32, Page)
     requires within { frame < last }
     requires page { page.now ≡ due_page_in programme.now frame }
@@ -164,11 +165,11 @@ fn send_all<K: Sink>(
 /// Writes the schedule of a programme, from the first TCI to the last TCO, and returns the number
 /// of page transmissions.
 ///
-/// Each page transmission is one PES packet (EN 300 472): the header of the page, its rows and the
-/// closing header. The frames with a page transmission are the first frame, each frame at which the
-/// expected page changes, every `every` frames between two of these frames, and the last frame.
-/// `serial` sets C11, magazine serial, in all headers. The expected page is drawn only at cues, and
-/// nothing is kept in memory.
+/// Each page transmission is one PES packet (EN 300 472): the header of the page, its rows with
+/// text and the closing header. The frames with a page transmission are the first frame, each frame
+/// at which the expected page changes, every `every` frames between two of these frames, and the
+/// last frame. `serial` sets C11, magazine serial, in all headers. The expected page is drawn only
+/// at cues, and the schedule is not kept in memory.
 ///
 /// # Errors
 ///
