@@ -40,7 +40,8 @@ pub record Knows (heard : List (List ℕ)) (s : Listener) : Type 0 where
   pub open_eq : s.is_open ≡ is_open_after (kind s.watched.page) heard
   pub subcode_eq :
       s.subcode ≡ option_map (λ (h : Header). h.subcode) (last_header s.watched.page heard)
-  -- The rows received since the page was last erased, with the codes of each row's first packet.
+  -- The rows received since the page was last erased, while it was open, with the codes of each
+  -- row's first packet.
   pub sent_eq : (row : ℕ) → 1 ≤ row → row ≤ 24
       → slice_index_or s.sent (row - 1) false
       ≡ is_some
@@ -51,7 +52,7 @@ pub record Knows (heard : List (List ℕ)) (s : Listener) : Type 0 where
       ≡ row_or_blank
       (first_packet_of_row s.watched.page (text_span s.watched.keeps (kind s.watched.page) heard)
       row)
-  -- The rows received since the last header of the page.
+  -- The rows received since the last header of the page, while the page was open.
   pub again_is : (row : ℕ) → 1 ≤ row → row ≤ 24
       → slice_index_or s.again (row - 1) false ≡ has_row s.watched.page heard row
 

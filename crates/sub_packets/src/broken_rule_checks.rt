@@ -105,7 +105,8 @@ impl Listener {
         self.is_open && has_even_byte(packet)
     }
 
-    // Returns whether the page is open and the row was received before with different codes.
+    // Returns whether the page is open and, since it was last erased, the row was first received
+    // with different codes.
     fn breaks_row_changed(&self, row: u8, packet: &Packet) -> bool
         requires { IsRow row }
         ensures { result ≡ (self.now.is_open && slice_index_or self.now.sent (row - 1) false

@@ -49,9 +49,10 @@ pub struct Listener {
     pub(crate) is_open: bool,
     // The sub-code of the last header of the page; `None` before a header of the page was received.
     pub(crate) subcode: Option<u16>,
-    // The rows received since the page was last erased; row 1 is at index 0.
+    // The rows received while the page was open, since it was last erased; row 1 is at index 0.
     pub(crate) sent: [bool; 24],
-    // The rows received since the last header of the page; row 1 is at index 0.
+    // The rows received since the last header of the page, while the page was open; row 1 is at
+    // index 0.
     pub(crate) again: [bool; 24],
     /// The page that the packets show, and the expected page.
     pub comparison: Comparison,
@@ -340,7 +341,7 @@ impl Listener {
     }
 
     // Receives a packet, and returns whether it is a header of the page. If a row is sent several
-    // times, the codes of its first packet are kept.
+    // times before the page is erased, the codes of its first packet are kept.
     #[inline(always)]
     fn hear(&mut self, packet: &Packet, found: PacketKind, page_header: Option<Header>) -> bool
         requires kind { found ≡ kind self.old.watched.page packet.now }
@@ -378,7 +379,7 @@ impl Listener {
         }
     }
 
-    // Returns whether the page is open and the row has not been received yet.
+    // Returns whether the page is open and the row has not been received since it was last erased.
     fn is_new_row(&self, row: u8) -> bool
         requires { IsRow row }
         ensures { result

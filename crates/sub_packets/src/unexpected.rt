@@ -39,8 +39,8 @@ impl Listener {
     }
 }
 
-// Returns the page with a space for each code that was expected in its cell within the last
-// `within` frames.
+// Returns the page with a space for each code that was expected in its cell at `frame` or at one of
+// the `within` frames before. Frames before `first` do not count.
 fn page_without_due_codes(
     shown: &Page,
     programme: &Programme,
