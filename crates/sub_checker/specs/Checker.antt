@@ -163,11 +163,13 @@ current_wrong_cell c = if is_due_page_undecided c c.frame then None else first_w
     c.listener
 
 -- The expected page is unknown at the current frame or at one of the `within` frames before it.
+-- Frames before the first frame do not count.
 abbrev pub is_currently_undecided : CheckerValue → Bool
 is_currently_undecided c = was_undecided (is_due_page_undecided c) c.first c.frame c.within
 
--- The first cell with a code, other than a space, that was not expected within the last `within`
--- frames. `None` if one of these expected pages is unknown.
+-- The first cell with a code, other than a space, that was not expected at the current frame or at
+-- one of the `within` frames before it. `None` if one of these expected pages is unknown. Frames
+-- before the first frame do not count.
 abbrev pub current_unexpected_cell : CheckerValue → Option (ℕ × ℕ)
 current_unexpected_cell c =
     if is_currently_undecided c
@@ -241,7 +243,8 @@ is_currently_pending c =
 -- ---- the invariant of the checker
 
 -- For each frame from `frame` up to the next cue, the expected page is unknown at that frame or at
--- one of the `within` frames before it exactly if it comes before `first_known_from`.
+-- one of the `within` frames before it exactly if it comes before `first_known_from`. Frames before
+-- `first` do not count.
 abbrev pub IsKnownFrom : (ℕ → Bool) → ℕ → ℕ → ℕ → Option ℕ → ℕ → Type 0
 IsKnownFrom undecided first within frame edge first_known_from =
     (f : ℕ)

@@ -16,7 +16,7 @@ abbrev pub is_skipped : NextPesPacket → Bool
 is_skipped (next.Skipped f) = true
 is_skipped (next.Sent s) = false
 
--- The PES packet that was read is valid, and has the same Teletext packets as the one before.
+-- The PES packet that was read is valid, and has the same data field as the one before.
 abbrev pub RepeatsLastPacket : NextPesPacket → Type 0
 RepeatsLastPacket (next.Skipped f) = ⊥
 RepeatsLastPacket (next.Sent s) = s.again ≡ true

@@ -89,7 +89,7 @@ impl<'a> Checker<'a> {
     }
 
     // Returns whether the expected page is unknown at the current frame or at one of the `within`
-    // frames before.
+    // frames before. Frames before the first frame do not count.
     #[inline(always)]
     fn is_undecided(&self) -> bool
         ensures { result ≡ is_currently_undecided self.now }
@@ -137,7 +137,8 @@ impl<'a> Checker<'a> {
     }
 
     // Returns the state at the end of the current frame, if `within` is not 0. Until the page is
-    // overdue, a cell may have any code that was expected within the last `within` frames.
+    // overdue, a cell may have a space or any code that was expected at this frame or at one of the
+    // `within` frames before.
     fn state_at_end(&self) -> DelayedEnd
         requires within { 0 < self.now.within }
         ensures active_faults { result.active_faults ≡ active_faults_of self.now }
@@ -174,9 +175,9 @@ impl<'a> Checker<'a> {
         }
     }
 
-    // Returns the first cell with a code, other than a space, that was not expected within the last
-    // `within` frames; `None` if one of these expected pages is unknown, or if no cell differs from
-    // the expected page.
+    // Returns the first cell with a code, other than a space, that was not expected at the current
+    // frame or at one of the `within` frames before; `None` if one of these expected pages is
+    // unknown, or if no cell is wrong.
     fn first_unexpected(&self, differing: Option<(u8, u8)>) -> Option<(u8, u8)>
         ensures { differing ≡ current_wrong_cell self.now → result ≡ current_unexpected_cell
             self.now }

@@ -88,7 +88,8 @@ impl<A: ReportSink<Event>> Reporter<'_, A> {
     }
 
     /// Reports the trusted frames of the last run, if an event was reported or `reports_more` is
-    /// true. The last frame is not trusted if unread bytes follow it.
+    /// true. The last frame is not trusted if unread bytes follow it; nor are the last frames with
+    /// an unfinished page.
     pub fn close(&mut self, are_left: bool, reports_more: bool)
         ensures { ReporterRelays A.is_reported self.old (Closes are_left reports_more ∷ [])
             self.new }
@@ -97,8 +98,8 @@ impl<A: ReportSink<Event>> Reporter<'_, A> {
         announce_if_present(last, &mut self.relay.run, &mut self.fused);
     }
 
-    /// Passes an event to the device. If it ends a run of trusted frames, reports these frames
-    /// first.
+    /// Passes an event to the device, unless it continues a run of skipped PES packets. If it ends
+    /// a run of trusted frames, reports these frames first.
     pub fn relay(&mut self, event: Event)
         ensures { ReporterRelays A.is_reported self.old (Emits event ∷ []) self.new }
     {

@@ -21,7 +21,7 @@ pub(crate) struct TrustTracker {
     pub run: Option<u32>,
     /// The first frame of the current run at whose end the page was finished.
     pub whole: Option<u32>,
-    /// The frame of the last PES packet; 0 before the first packet.
+    /// The frame of the last PES packet that was not skipped; 0 if there is none.
     pub last: u32,
     /// Whether frame numbers have increased so far.
     pub rises: bool,
@@ -202,8 +202,8 @@ impl TrustTracker {
         }
     }
 
-    /// Returns the event with the number of the current PES packet, which counts skipped packets
-    /// too.
+    /// Returns the event; a fault whose place is a PES packet gets the number of the current PES
+    /// packet, which counts skipped packets too.
     #[tactic(auto, unfolding(sub_rules::specs::Trusted::with_pes_number))]
     pub fn with_pes_number(&self, event: Event) -> Event
         ensures { result ≡ with_pes_number self.now.pes event }
