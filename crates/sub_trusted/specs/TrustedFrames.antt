@@ -52,7 +52,8 @@ BeginsText g frames i =
 -- ---- packets on air before and after trusted frames
 
 -- The packets on air in the frames `from` to `to` are those that were read. Frame numbers on air
--- increase. Before and after these frames, anything may be on air.
+-- increase, and the first is not after the first that was read. Before and after these frames,
+-- anything may be on air.
 pub record MatchesReadPackets (read on_air : Transmission) (from to : ℕ) : Type 0 where
   pub rising : IsRising on_air
   pub first : first_frame on_air ≤ first_frame read
@@ -60,7 +61,8 @@ pub record MatchesReadPackets (read on_air : Transmission) (from to : ℕ) : Typ
 
 -- No skipped PES packet was sent in the frames `from` to `to`. A skipped packet belongs to the
 -- frame of the PES packet before it, or comes after that frame, so that frame must not be one of
--- these frames.
+-- these frames. Skipped packets before the first frame, or after a frame number that does not
+-- increase, do not count.
 abbrev pub IsSkippedOutside : Criteria → List PesPacket → ℕ → ℕ → Type 0
 IsSkippedOutside g pes_packets from to =
     (earlier later : List PesPacket) (u : UnreadReason)

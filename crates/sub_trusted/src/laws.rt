@@ -16,14 +16,14 @@ pub fn law_of_trusted_repeats()
 {}
 
 /// If each header must have C4 (erase page) set and `within` is 0, a receiver that is tuned in at a
-/// trusted frame shows the expected page after the next header. If complete pages are required, the
-/// page is also on its screen.
+/// trusted frame has the expected page after the next header, apart from spaces because of errors.
+/// If complete pages are required, the page is also on its screen.
 pub fn law_of_trusted_frames()
     ensures { LawOfTrustedFrames }
 {}
 
 /// The expected page of each trusted frame is known, even if subtitles were rejected, and so are
-/// the expected pages of the `within` frames before it.
+/// the expected pages of the `within` frames before it, from the first frame that was read.
 pub fn law_of_known_pages()
     ensures { LawOfKnownPages }
 {}
