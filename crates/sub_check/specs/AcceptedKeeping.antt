@@ -32,7 +32,7 @@ LawOfAcceptedKeeping =
 
 -- A subtitle file and a PES file that are accepted if repeats may keep the page are also accepted
 -- if each header must erase the page (C4), provided that each header of the page in the
--- transmission does.
+-- transmission does, unless a source fails or an allocation is refused.
 abbrev pub LawOfAcceptedWithoutKeeping : Type 0
 LawOfAcceptedWithoutKeeping =
     (drawing : Drawing) (options : OptionsValue) (stl pes : List ℕ)

@@ -208,10 +208,10 @@ pub record IsCheckedBy
       → answer ≡ Err (fault.Pes pes Read)
       → (pes ≤ length (pes_packet_file_of (clock_of options) bytes).pes_packets)
       × (first_reported_fault (events_of_first_pes_packets programme options bytes pes) ≡ None)
-  -- If the fault is `Content`, the cell that the fault names is wrong for receivers that start at
-  -- the first packet and receive each bit correctly. They show another code or, if repeats may keep
-  -- the page, the row of the cell was not sent again. If the page may still become right later, the
-  -- code that they show was expected at none of the last `within` frames.
+  -- If the fault is `Content`, the cell that the fault names is wrong (`IsNotRightOnAir`) for
+  -- receivers that start at the first packet, receive each bit correctly, and have no old text.
+  -- They have another code or, if repeats may keep the page, the row of the cell was not sent
+  -- again. If the page may still become right later, their code is not allowed (`IsDueWithin`).
   pub content :
       (frame row column : ℕ)
       → answer ≡ Err (fault.Content frame row column)
@@ -253,7 +253,7 @@ pub record IsChecked
       → HasPromises programme transmission options
       × (IsTrue options.asks_complete → Complete transmission options)
   -- If the fault is `Content`, every receiver that starts at the first packet and receives each bit
-  -- correctly shows a code other than the expected one in the cell that the fault names.
+  -- correctly has a code other than the expected one in the cell that the fault names.
   pub content :
       (frame row column : ℕ)
       → answer ≡ Err (fault.Content frame row column)

@@ -45,11 +45,11 @@ use ttx_pes::{FilePesPackets, PesFault};
 /// exactly if the source failed in this call.
 ///
 /// If `within` is not 0, a frame ends at the next PES packet of another frame or at the end of the
-/// file. `Incomplete` is then returned only when the allowed delay has passed. Before that,
-/// `Content` is returned only for a code that was expected at none of the last `within` frames.
-/// `Late` is also returned if the file ends before a page is right, within the allowed delay. If
-/// repeats may keep the page, `Control` allows a header that repeats the page, and `Content` is
-/// returned if a row with text is not sent again.
+/// file. `Incomplete` is then returned only when the page is overdue. Before that, `Content` is
+/// returned only for a code, other than a space, that was expected neither at this frame nor at one
+/// of the `within` frames before. `Late` is also returned if the file ends before a page is right,
+/// within the allowed delay. If repeats may keep the page, `Control` allows a header that repeats
+/// the page, and `Content` is returned if a row with text is not sent again.
 pub fn check<S: Source>(
     programme: &Programme,
     source: &mut S,
@@ -92,7 +92,8 @@ pub fn check<S: Source>(
 /// If no PES packet can be found in the remaining bytes, their fault is the last event.
 ///
 /// If subtitles were refused, the expected page of some frames is unknown. At these frames cells
-/// are not checked, and `Undecided` is reported. Trusted frames are always reported.
+/// are not checked, and `Undecided` is reported, also for the `within` frames after them. Trusted
+/// frames are always reported then.
 ///
 /// Returns the counts: the number of frames from the frame of the first PES packet to the latest
 /// frame, and the number of headers of the page. Returns `None` if the report sink stopped the
