@@ -71,7 +71,7 @@ pub enum FileNames<'a> {
     None,
     /// The request reads a subtitle file.
     ReadStl(StlInput<'a>),
-    /// The request reads PES packets, from a file of PES packets or from a transport stream.
+    /// The request reads a file of PES packets or a transport stream.
     ReadPes(PesInput<'a>),
     /// The request reads a subtitle file, and PES packets from a file of PES packets or from a
     /// transport stream.
