@@ -105,7 +105,8 @@ abbrev pub may_be_lost_at : Option PacketAddress → Bool
 may_be_lost_at None = false
 may_be_lost_at (Some a) = not (a.packet_number == 0)
 
--- The index, in a list of packets, of the first packet that is listed as lost but must not be lost.
+-- The index, in a list of packets, of the first packet that is lost (`is_lost_packet`) but must not
+-- be lost; `None` if there is none.
 abbrev pub first_forbidden_loss : Reception → ℕ → List (List ℕ) → Option ℕ
 first_forbidden_loss r number [] = None
 first_forbidden_loss r number (packet ∷ packets) =

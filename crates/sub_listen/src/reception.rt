@@ -21,9 +21,9 @@ use ttx_packet::{Packet, PageId, SentPacket};
 use ttx_page::{PacketKind, Page, Receiver, hear_and_show, is_dropped};
 use ttx_pes::SentUnits;
 
-/// Returns the index of the first packet of a PES packet that is listed as lost but must not be
-/// lost, since it is a page header or its address can't be decoded. `number` is the index of the
-/// PES packet's first packet within the file.
+/// Returns the index of the first packet of a PES packet that is listed as lost and not skipped,
+/// but must not be lost, since it is a page header or its address can't be decoded. `number` is the
+/// index of the PES packet's first packet within the file.
 pub fn first_forbidden_loss(
     listening: &Listening,
     number: u64,
@@ -156,8 +156,8 @@ fn is_header(page_id: PageId, packet: &Packet) -> bool
     }
 }
 
-// Passes a header of its page to a receiver that starts again. The receiver is in the same state as
-// one just tuned to the page, with a blank page.
+// Passes a header of its page to a receiver that starts again. The receiver is tuned again with a
+// blank page, and then receives the header.
 fn restart_at_header<R: Receiver + Drop>(receiver: &mut R, header: &Packet)
     requires header { IsTrue (is_this_page (kind (R.tuned_to receiver.old) header.now)) }
     ensures state { R.state receiver.new
@@ -168,7 +168,7 @@ fn restart_at_header<R: Receiver + Drop>(receiver: &mut R, header: &Packet)
     receiver.hear(header);
 }
 
-// Returns whether a packet is listed as lost but must not be lost.
+// Returns whether a packet is listed as lost and not skipped, but must not be lost.
 fn is_forbidden_loss(listening: &Listening, number: u64, packet: &SentPacket<'_>) -> bool
     ensures { result
         ≡ (is_lost_packet (reception_of listening.now) number
