@@ -11,9 +11,10 @@ use crate::pid_packets::PidPackets;
 use crate::pid_state::{Pids, counter_distance};
 use crate::text::{Text, forward_distance};
 use arrayvec::ArrayVec;
-use mpeg_ts::{PACKET, announces_jump, begins, counter_of, has_payload, is_unusable, payload_of};
+use mpeg_ts::{
+    PACKET, SurveyPages, announces_jump, begins, counter_of, has_payload, is_unusable, payload_of,
+};
 use std::alloc::Global;
-use ttx_packet::PageId;
 
 /// The maximum number of irregular PCRs that wait for more data.
 const MAX_PENDING_PCRS: usize = 4;
@@ -52,10 +53,10 @@ pub struct Carrier {
 
 impl Carrier {
     /// Creates the state before the first packet of a PID. Returns `None` if memory runs out.
-    pub fn new(alloc: Global, pid: u16, page: PageId) -> Option<Carrier>
+    pub fn new(alloc: Global, pid: u16, pages: &SurveyPages) -> Option<Carrier>
         ensures { IfSome result (λ carrier. carrier.pid ≡ pid) }
     {
-        let lines = PesLines::new(alloc, pid, page)?;
+        let lines = PesLines::new(alloc, pid, pages)?;
         Some(Carrier {
             pid,
             pid_packets_state: PidPackets::new(Given::new(lines)),

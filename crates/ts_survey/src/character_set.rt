@@ -4,7 +4,7 @@ ghost use Rattle.std.specs.Prelude.{◌≡◌, ◌<◌, ◌≤◌};
 ghost use Rattle.ts_survey.specs.CharacterSets as specs;
 
 use crate::text::Text;
-use ttx_packet::{Packet, unham};
+use ttx_packet::{Packet, PageId, unham};
 
 /// The number of possible lines, each of which is printed once: packet 28 or 29, designation 0 or
 /// 4, 128 character sets or an unreadable one.
@@ -170,20 +170,30 @@ impl CharacterSets {
         packet: &Packet,
         number: u8,
         is_requested_page: bool,
+        page: PageId,
         pid: u16,
         text: &mut Text,
     ) {
         if let Some((designation, set)) = set_of_packet(packet, number, is_requested_page) {
-            self.report(number, designation, set, pid, text);
+            self.report(number, designation, set, page, pid, text);
         }
     }
 
     // Prints the line of a character set, unless it was printed before.
-    fn report(&mut self, number: u8, designation: u8, set: Option<u32>, pid: u16, text: &mut Text) {
+    fn report(
+        &mut self,
+        number: u8,
+        designation: u8,
+        set: Option<u32>,
+        page: PageId,
+        pid: u16,
+        text: &mut Text,
+    ) {
         let place = set_line_index(number, designation, set);
         let was_reported = self.reported[place];
         self.reported[place] = true;
         if !was_reported {
+            text.begin_page(page);
             report_set(number, designation, set, pid, text);
         }
     }

@@ -20,9 +20,8 @@ use crate::pid_state::{NO_INDEX, NULL_PID, PacketLink, PidState, Pids, link_of};
 use crate::section::{FIRST_PMT, Stream, pmt_pid_at, programme_of, stream_at};
 use crate::tables::{SECTION_CAPACITY, Section, Tables, split_at_pointer_field};
 use crate::text::Text;
-use mpeg_ts::{PACKET, announces_jump, begins, pid_of};
+use mpeg_ts::{PACKET, SurveyPages, announces_jump, begins, pid_of};
 use std::alloc::Global;
-use ttx_packet::PageId;
 
 /// The maximum number of PIDs with Teletext, of clocks and of video PIDs that are followed.
 const CAPACITY: usize = 64;
@@ -31,7 +30,7 @@ const CAPACITY: usize = 64;
 #[derive(Drop)]
 pub struct Multiplex {
     alloc: Global,
-    page: PageId,
+    pages: SurveyPages,
     // The number of the requested PID, which is the only one followed. `None` follows every PID
     // with Teletext.
     requested: Option<u16>,
@@ -52,12 +51,12 @@ impl Multiplex {
     /// runs out.
     pub fn new(
         alloc: Global,
-        page: PageId,
+        pages: SurveyPages,
         requested: Option<u16>,
         text: &mut Text,
     ) -> Option<Multiplex>
         ensures requested { IfSome result (λ multiplex. (multiplex.requested ≡ requested)
-            × (multiplex.page ≡ page) × (unrequested_followed_pids multiplex ≡ [])) }
+            × (multiplex.pages ≡ pages) × (unrequested_followed_pids multiplex ≡ [])) }
         // If a PID is requested, the line `teletext` of that PID is printed.
         ensures reported { IfSome result (λ multiplex. AddsTexts text.old
             (requested_pid_texts multiplex.requested) text.new) }
@@ -65,7 +64,7 @@ impl Multiplex {
         let pids = Pids::new(alloc)?;
         let mut all = Multiplex {
             alloc,
-            page,
+            pages,
             requested,
             number: 0,
             next_settle_packet: u64::MAX,
@@ -129,7 +128,7 @@ impl Multiplex {
         ensures reported { IfSome result (λ _. AddsTexts text.old (teletext_line pid) text.new) }
     {
         let place = self.carriers.len();
-        let carrier = Carrier::new(self.alloc, pid, self.page)?;
+        let carrier = Carrier::new(self.alloc, pid, &self.pages)?;
         if self.carriers.push(carrier).is_err() {
             return None;
         }
@@ -540,7 +539,7 @@ impl Multiplex {
 }
 
 impl TakesPackets for Multiplex {
-    // The requested PID and page stay the same, and no further PID that is not requested is
+    // The requested PID and pages stay the same, and no further PID that is not requested is
     // followed.
     ghost is_taken = { packet_keeps_requested };
 

@@ -9,8 +9,8 @@ ghost use Rattle.ts_survey.specs.ReadBuffer.{max_retained_bytes};
 
 use crate::pes_lines::PesLines;
 use crate::text::Text;
+use mpeg_ts::SurveyPages;
 use std::alloc::Global;
-use ttx_packet::PageId;
 use ttx_pes::is_gap_marker;
 
 /// The state of reading a file of PES packets.
@@ -60,8 +60,8 @@ fn complete_packet_size(bytes: &[u8]) -> Option<usize>
 
 impl PesFile {
     /// Creates the state before the first PES packet. Returns `None` if memory runs out.
-    pub fn new(alloc: Global, page: PageId) -> Option<PesFile> {
-        let lines = PesLines::new(alloc, 0, page)?;
+    pub fn new(alloc: Global, pages: &SurveyPages) -> Option<PesFile> {
+        let lines = PesLines::new(alloc, 0, pages)?;
         Some(PesFile {
             lines,
             is_damaged: false,
