@@ -61,8 +61,8 @@ settings_of_options choices =
     (record { reading = reading_of []; national = English; layout = default_layout })
     choices
 
--- The arguments `check STL RECORDING` and these options request a check of the two files with the
--- settings of the options, and the PTS of frame 0 is less than 2^33.
+-- If the arguments `check STL RECORDING` and these options are a request, it is a check of the two
+-- files with the settings of the options, and the PTS of frame 0 is less than 2^33.
 abbrev pub LawOfCheckRecordingArguments : Type 0
 LawOfCheckRecordingArguments =
     (program stl recording : Text) (choices : List CheckRecordingOption) (request : Request)

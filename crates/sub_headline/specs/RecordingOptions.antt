@@ -89,8 +89,8 @@ reading_of parts =
     })
     parts
 
--- The bytes of the PES packets in the transport packets with a PID, or all bytes if no PID is
--- given.
+-- The bytes of the complete PES packets in the transport packets with a PID, with gap markers where
+-- data is missing; or all bytes if no PID is given.
 abbrev pub bytes_carried_in_pid : Option ℕ → PacketSize → List ℕ → List ℕ
 bytes_carried_in_pid None size bytes = bytes
 bytes_carried_in_pid (Some pid) size bytes = carried_bytes pid (bytes_of size) bytes
@@ -112,8 +112,8 @@ requested_recording name r = record {
   range = r.range;
 }
 
--- The arguments `check STL RECORDING` and these options request a check of the two files with the
--- settings of the options, and the PTS of frame 0 is less than 2^33.
+-- If the arguments `check STL RECORDING` and these options are a request, it is a check of the two
+-- files with the settings of the options, and the PTS of frame 0 is less than 2^33.
 abbrev pub LawOfRecordingArguments : Type 0
 LawOfRecordingArguments =
     (program stl recording : Text) (parts : List RecordingOption) (request : Request)
