@@ -269,8 +269,8 @@ abbrev pub write_devices : {I O : Type 0} → Part → I → O → Devices I O
 write_devices part source file =
     record { first = Some source; part = part; second = None; file = Some file }
 
--- The opened files of a request. The argument `part` is for a first input file of PES packets or a
--- recording; other files are read completely.
+-- The opened files of a request. The argument `part` is for a first input file of PES packets; any
+-- other first input file is read completely.
 abbrev pub devices_of : {I O : Type 0} → Part → OpenedFiles I O → Devices I O
 devices_of part Nothing = sources entire_file None None
 devices_of part (ReadStl stl) = sources entire_file (Some stl) None
@@ -352,7 +352,8 @@ pub record Ends
       new
       result
 
--- The line of a fault was printed, and then flushed.
+-- The line of a fault was printed, or only a prefix of it if the sink failed; and then the sink was
+-- flushed.
 pub record PrintsFault
     (fault : UsageFault) (old new : BufferedSinkState) (result : Status)
     : Type 0 where

@@ -80,7 +80,8 @@ pub record ListsBothFiles
   pub listed : IfKnown pes (λ bytes. ListsPesEvents judged options bytes more answer)
 
 -- The events of both files: all faults of the subtitle file, and then, if the PES file can be
--- checked against it, all events of the PES file.
+-- checked against it, all events of the PES file. If a source failed or memory ran out, only the
+-- events before that.
 abbrev pub ListsAllEvents :
     Drawing → OptionsValue → List ℕ → Option (List ℕ) → List Event
     → Result (Option Accepted) CheckFault → Type 0
@@ -110,8 +111,9 @@ IsCheckAnswer programme options bytes answer =
     IsCheckedBy programme options bytes answer
     × (IsFalse options.keeps → options.within ≡ 0 → IsChecked programme options bytes answer)
 
--- The first fault among the events determines the answer of `check`, which is correct for the bytes
--- of both files: an accepted transmission is good and robust.
+-- If no subtitle was rejected and the PES file was read completely, the first fault among the
+-- events determines the answer of `check`, which is correct for the bytes of both files
+-- (`IsCheckAnswer`).
 abbrev pub FitsCheckAnswer :
     Drawing → OptionsValue → List ℕ → List ℕ → List Event → Result (Option Accepted) CheckFault
     → Type 0
@@ -163,8 +165,8 @@ pub record ReportsPes
   pub listed : IfKnown pes.known (λ bytes. ListsPesEvents judged options bytes events answer)
 
 -- The answer reports the failures of the two sources: it names the block or the PES packet at which
--- a source failed. If the subtitle file is rejected or can't be read, no byte of the PES file is
--- read.
+-- a source failed. If the answer concerns the subtitle file (`concerns_subtitle_file`), no byte of
+-- the PES file is read.
 abbrev pub ReportsBothSources :
     SourceCall → SourceCall → Type 0 → Result (Option Accepted) CheckFault → Type 0
 ReportsBothSources stl pes Untouched answer =
@@ -217,13 +219,14 @@ pub record AnswersCheckAll
   -- If the bytes of the files are known, they determine the events.
   pub listed :
       IfKnown stl.known (λ file. ListsAllEvents drawing options file pes.known events answer)
-  -- The PES file is left unread only if it can't be checked against the subtitle file.
+  -- Unless a device failed or memory ran out, the PES file is left unread only if it can't be
+  -- checked against the subtitle file.
   pub no_transmission_is_judged :
       status ≢ Fault
       → answer ≡ Ok None
       → IfKnown stl.known (λ file. can_judge drawing file ≡ false)
-  -- Unless a device failed or memory ran out, the answer of `check`, which follows from the events,
-  -- is correct for the bytes of both files.
+  -- Unless a device failed, memory ran out or a subtitle was rejected, the answer of `check`, which
+  -- follows from the events, is correct for the bytes of both files.
   pub checked :
       status ≢ Fault
       → IfKnown stl.known (λ file.

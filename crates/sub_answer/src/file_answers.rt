@@ -31,7 +31,8 @@ use sub_request::{Request, UsageFault};
 /// # Errors
 ///
 /// Returns `Memory` if memory runs out before a file is opened, and `Open` if a file can't be
-/// opened. In both cases nothing is printed.
+/// opened or created, or if the output might overwrite another file. In both cases nothing is
+/// printed.
 pub fn open_and_answer<D: FileSystem, K: Sink>(
     alloc: Global,
     files: &mut D,
