@@ -40,8 +40,8 @@ pub record HasCopied
   pub left_eq : left ≡ Some (drop read bytes)
   pub written : Appends old new (take read bytes)
 
--- The bytes that one step of copying appended to the file: nothing at the end of the source, a
--- complete PES packet, or a prefix if the file failed.
+-- The bytes that one step of copying appended to the file: nothing if no PES packet was read, a
+-- complete PES packet, or a prefix of the bytes if the file failed.
 abbrev pub CopiesNext :
     List ℕ → Option (List ℕ) → Option (List ℕ) → Option (List ℕ) → Result (Received Bool) CopyFault
     → Type 0

@@ -35,7 +35,8 @@ followed text more = record { text = text ++ more.text; status = more.status }
 
 -- ---- the listing of one Teletext packet
 
--- The listing of a page header, packet X/0 (EN 300 706): its eight coded bytes, then 32 text bytes.
+-- The listing of a page header, packet X/0 (EN 300 706): its address, its eight coded bytes and its
+-- 32 text bytes; or a fault if the coded bytes can't be decoded.
 abbrev pub listing_of_header : ℕ → List ℕ → Option Header → Listing
 listing_of_header magazine packet None = fault_listing (packet_line BadHeader)
 listing_of_header magazine packet (Some h) =

@@ -52,7 +52,7 @@ ReadsFile failed known outcome left =
     × ReadsSubtitles failed 0 following outcome left)
 
 -- The output of `show` after `count` subtitles: the line of each further subtitle, and finally the
--- number of subtitles.
+-- number of subtitles or the line of a fault.
 abbrev pub subtitles_listing : ℕ → Outcome → Listing
 subtitles_listing count ends = done (decimal count ++ codes " subtitles\n")
 subtitles_listing count (fails f block) = fault_listing (stl_line f block)

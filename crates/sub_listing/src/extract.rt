@@ -54,9 +54,9 @@ pub enum ExtractFault {
 /// (ISO/IEC 13818-1) come with gap markers. Prints the number of PES packets and of gap markers, or
 /// the reason why the output is not a complete file of PES packets.
 ///
-/// Each PES packet is flushed as soon as it has arrived, and the line is printed after the system
-/// has stored the file. Bytes that are no PES packet are also written. Returns `Fault` if a device
-/// failed.
+/// Each PES packet is flushed as soon as it has arrived, and the line with the numbers is printed
+/// after the system has stored the file. Bytes after the last PES packet are also written. Returns
+/// `Fault` if a device failed.
 pub fn extract_packets<P: PesPackets, F: Close, K: Sink>(
     pes_packets: &mut P,
     file: &mut F,
@@ -97,7 +97,8 @@ pub fn extract_packets<P: PesPackets, F: Close, K: Sink>(
     }
 }
 
-// Copies all PES packets to the output file, and stores the file.
+// Copies all PES packets and any bytes after them to the output file, and stores the file if there
+// is no fault.
 fn write_pes_packets<P: PesPackets, F: Close>(
     pes_packets: &mut P,
     file: &mut F,

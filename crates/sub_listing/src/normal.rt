@@ -39,8 +39,9 @@ pub enum InputFault {
 /// Writes the normal form of a subtitle file (not defined by a standard), and prints the number of
 /// its subtitles, or the reason why there is no normal form.
 ///
-/// The input is read to its end before anything is written, and the line is printed after the
-/// system has stored the file. Returns `Fault` if a device failed or memory ran out.
+/// The input is read to its end, or up to the limit after which bytes can't change the result,
+/// before anything is written. The line with the number is printed after the system has stored the
+/// file. Returns `Fault` if a device failed or memory ran out.
 pub fn write_normal<S: Source, F: Close, K: Sink>(
     alloc: Global,
     input: &mut S,
