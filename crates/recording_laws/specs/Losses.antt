@@ -98,8 +98,8 @@ loses_few_in_row gone (c ∷ more) =
     if is_recorded c then loses_few_in_row 0 more
     else nat_lt (gone + 1) 15 && loses_few_in_row (gone + 1) more
 
--- All TS packets with payload after the TS packet of `c` are recorded intact, with no damaged unit
--- between them.
+-- All TS packets with payload after the TS packet of `c`, or their repeats, are recorded intact,
+-- with no damaged unit between them.
 abbrev pub records_all_following : Carrier SentUnit → List (Carrier SentUnit) → Bool
 records_all_following c [] = true
 records_all_following c (d ∷ more) =
@@ -124,9 +124,9 @@ is_damaged_after s = any_unit_damaged (units_after_copy (last_carrier s.first s.
 -- ---- the PES packets in a recording
 
 -- The bytes of the arriving PES packets, in order, with gap markers. `given` means that an earlier
--- PES packet arrived, and `gap` that PES packets are missing after it. There is one gap marker
--- between two arriving PES packets if PES packets are missing between them, or if a unit of the PID
--- was damaged between their first TS packets.
+-- PES packet arrived, and `gap` that PES packets are missing, or a unit was damaged, after it.
+-- There is one gap marker between two arriving PES packets if PES packets are missing between them,
+-- or if a unit of the PID was damaged between their first TS packets.
 unfoldable pub arriving_bytes : Bool → Bool → List (SentPes SentUnit) → List ℕ
 arriving_bytes given gap [] = []
 arriving_bytes given gap (s ∷ more) =

@@ -163,7 +163,7 @@ AreRecordedUnits distance (unit ∷ more) =
     × ((more ≡ []) ⊎ (length unit ≡ distance))
     × AreRecordedUnits distance more
 
--- The recording consists of these units.
+-- The recording consists of these units, and has at most `max_stream_bytes` bytes.
 pub record IsRecording (distance : ℕ) (units : List (List ℕ)) (recording : List ℕ) : Type 0 where
   pub each : AreRecordedUnits distance units
   pub joined : recording ≡ concat units
