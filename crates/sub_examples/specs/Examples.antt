@@ -1,5 +1,5 @@
--- Transmissions of page 888, byte by byte: a good one, and for each of eight rules a transmission
--- that breaks only this rule and fails at a receiver.
+-- Transmissions of page 888, byte by byte: a good one, and for each of eight rules that matter to
+-- receivers a transmission that breaks only this one of them and fails at a receiver.
 use Rattle.std.specs.Prelude.{◌≡◌, ◌≢◌, ◌⊎◌, ℕ, false, List, [], ◌∷◌, ◌++◌, None, replicate}
 use Rattle.std.specs.Prelude.{IsFalse, IsTrue}
 use Rattle.std.specs.List.{AllZip}
@@ -161,7 +161,7 @@ pub record HasNoReceiverFaultExcept
       frames a b
 
 -- If the expected pages are blank, the only faults that matter to receivers are faults with this
--- number, and a receiver of the transmission has a wrong page.
+-- number, and a receiver of the transmission has a wrong page or receives no header in time.
 pub record IsRuleNeeded (number : ℕ) (transmission : Transmission) (every : ℕ) : Type 0 where
   pub others :
       HasNoReceiverFaultExcept number (criteria_of no_subtitles (options_with_bound every) None)
@@ -188,10 +188,10 @@ transmission_out_of_order =
     ∷ record { frame = 900003; packets = english_header ∷ time_filling_header ∷ [] }
     ∷ []
 
--- Each of the eight rules is necessary: a transmission that breaks only this rule fails at a
+-- Each of the eight rules is necessary: a transmission that breaks only this one of them fails at a
 -- receiver.
 pub record ExamplesOfNeededRules : Type 0 where
-  -- A receiver of the frames up to 900001 shows an exclamation mark that is not expected.
+  -- A receiver of the frames up to 900001 has an exclamation mark that is not expected.
   pub frames_rise : IsRuleNeeded 62 transmission_out_of_order 3
   -- With another wrong bit the address byte can't be decoded, so the receiver misses the header.
   pub exact_addresses : IsRuleNeeded 64 (one_header header_with_wrong_bit) 1
@@ -207,7 +207,7 @@ pub record ExamplesOfNeededRules : Type 0 where
   -- Row 1 is sent twice with different codes. The check uses the first packet, but a receiver
   -- stores the second.
   pub same_rows : IsRuleNeeded 69 changed_row 1
-  -- Every receiver shows an exclamation mark that is not expected.
+  -- Every receiver that receives the row has an exclamation mark that is not expected.
   pub due_content :
       IsRuleNeeded 72 (one_frame (english_header ∷ row_1 0xA1 ∷ time_filling_header ∷ [])) 1
   -- A receiver that starts after the first frame receives no header within the repeat bound.
@@ -244,7 +244,7 @@ transmission_damaged_first =
 
 -- The transmission is rejected, but no fault that affects receivers is reported after its first
 -- frame. So a receiver of frame 900001, with at most one wrong bit in each byte and any earlier
--- state, has the code of `H` in the right cell, or a space if its byte was received wrong.
+-- state, has the code of `H` in the right cell, or a space.
 pub record ExampleOfCleanFrames : Type 0 where
   pub refused : Good later_subtitle transmission_damaged_first (options_with_bound 1) → ⊥
   pub clean : HasNoReceiverFault (criteria_of later_subtitle (options_with_bound 1) None)
