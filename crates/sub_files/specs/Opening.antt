@@ -45,8 +45,8 @@ OpensAndCreates
 OpensAndCreates _ _ _ _ _ = ⊥
 
 -- The calls that open the files of a request, and the opened files. Input files are opened in the
--- order of the arguments, before an output is created. If a call fails, it is the last call, and no
--- files are returned.
+-- order of the arguments, before an output is created. If a file can't be opened or created, no
+-- further call is made, and no files are returned.
 abbrev pub Opens :
     {I O : Type 0} → FileNames → List (FileCall I O) → Option (OpenedFiles I O) → Type 0
 Opens names.None [] result = result ≡ Some Nothing

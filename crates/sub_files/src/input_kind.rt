@@ -91,9 +91,10 @@ fn has_sync_bytes(bytes: &[u8], start: usize, size: usize) -> bool {
     true
 }
 
-/// Prints one line if a refused input appears to be a transport stream without `--pid`, or a file
-/// of another format than the command reads in its place, or if `check` without `--all` refuses the
-/// order of a subtitle file's times. Otherwise prints nothing.
+/// Prints one line if a refused input appears to be a transport stream that was read without
+/// `--pid`, a subtitle file in the place of PES packets, or one of the other formats in the place
+/// of a subtitle file; or if `check` without `--all` refuses the order of a subtitle file's times.
+/// Otherwise prints nothing.
 pub fn explain_refusal<E: Eprint>(request: &Request<'_>, kinds: &InputKinds, errors: &E) {
     match request.files() {
         FileNames::ReadStl(stl) | FileNames::Write(stl, _) => {

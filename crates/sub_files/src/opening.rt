@@ -53,7 +53,8 @@ pub fn required_buffer_size(names: &FileNames<'_>) -> usize
 }
 
 /// Opens the files of a request in the order of its arguments, and creates the output. Returns
-/// `None` at the first failure, without further calls.
+/// `None` without further calls if a file can't be opened or created, or if the output might
+/// overwrite another file.
 pub fn open<D: FileSystem>(
     files: &mut D,
     names: &FileNames<'_>,

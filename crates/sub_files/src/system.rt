@@ -17,7 +17,8 @@ use std::rt::Files;
 use std::{fs, io, str};
 use sub_io::{FromRead, IntoFile, Store};
 
-/// The number of bytes for the names of a request's files: Linux opens no file with a longer name.
+/// The number of bytes for the names of a request's two files: Linux opens no file with a name of
+/// more than 4096 bytes.
 pub const NAMES_CAPACITY: usize = 2 * 4096;
 
 // The path of the link to the file that receives standard output.
