@@ -74,7 +74,8 @@ value_of_request (ask.Survey recording options) = Survey recording.now options
 
 -- ---- the request of each command, or the first fault of its arguments, in this order
 
--- The request of `packet HEX`: 84 hexadecimal digits, upper or lower case.
+-- The request of `packet HEX`, or the fault `BadHex` unless HEX is 84 hexadecimal digits, upper or
+-- lower case.
 abbrev pub packet_request : List Row → Result Requested UsageFault
 packet_request rows = do
   bytes ← ok_or (result_ok (decode_sized (argument (codes "hex") rows) 42)) fault.BadHex

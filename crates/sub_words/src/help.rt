@@ -24,6 +24,7 @@ pub fn requests_help(arguments: &[&str]) -> bool
 }
 
 // Returns whether one of the two words requests help, and the other word is the name of a command.
+// The word `help` must come first.
 fn is_help_of(first: &str, second: &str) -> bool
     ensures { result ≡ specs.is_help_of first.now second.now }
 {
