@@ -53,7 +53,7 @@ struct Streams {
 }
 
 impl Streams {
-    // Returns the folder in the place of a closed stream.
+    // Returns the folder in the place of a closed stream; `Nothing` if no stream is closed.
     fn found(&self) -> LookupResult {
         match (self.input.found, self.output.found) {
             (LookupResult::Nothing, LookupResult::Nothing) => self.errors.found,
@@ -133,7 +133,8 @@ fn explain_lost_arguments(rt: &HostRuntime, error: &io::Error) {
 }
 
 // Returns the number of the first argument that is not UTF-8 text. The program's name is argument
-// 0. Returns `None` if an argument before it is longer than a file's name may be.
+// 0. Returns `None` if there is none, or if an argument up to it is longer than `NAMES_CAPACITY`
+// bytes.
 fn wrong_text_at(rt: &HostRuntime) -> Option<usize> {
     let mut text = [0; NAMES_CAPACITY];
     for place in 0..usize::MAX {
