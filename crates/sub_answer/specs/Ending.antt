@@ -353,7 +353,7 @@ pub record Ends
       result
 
 -- The line of a fault was printed, or only a prefix of it if the sink failed; and then the sink was
--- flushed.
+-- flushed, which may also fail.
 pub record PrintsFault
     (fault : UsageFault) (old new : BufferedSinkState) (result : Status)
     : Type 0 where
