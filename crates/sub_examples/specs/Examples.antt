@@ -198,7 +198,7 @@ pub record ExamplesOfNeededRules : Type 0 where
   -- With one wrong bit, a packet X/0 becomes a header that was never sent.
   pub exact_headers : IsRuleNeeded 65
       (one_frame (english_header ∷ time_filling_header ∷ undecodable_header ∷ [])) 1
-  -- Without C4, a receiver may keep its old page.
+  -- Without C4, a receiver does not erase its old page.
   pub subtitle_headers : IsRuleNeeded 67 (one_header header_without_c4) 1
   -- The byte A0 may be received as A1, which has odd parity: an exclamation mark that was never
   -- sent.
