@@ -114,6 +114,21 @@ fn reports_the_requested_pid_alone(rt: HostRuntime) {
 }
 
 #[test]
+fn reports_several_pages(rt: HostRuntime) {
+    let stream: [&[u8]; 6] = [&BEGINS_0, &FIRST, &NULL, &FILL, &BEGINS_2, &SECOND];
+    let pages = ["subttx", "survey", "b", "--page", "888", "--page=100"];
+    let want = "survey 1\nhead 47410110000001bd00b284\nsize 188\nteletext 257\nsub 257 888\n\
+        page 888\npes 257 0 1 3240000000 0 hec/88080810 3 0\n\
+        rows 257 0 22:202020202020202020202020202020200d0b0b48690a0a\
+        2020202020202020202020202020202020\n\
+        page 100\npes 257 0 1 3240000000 0 b/ 3 0\ngap 257 1 1 0\n\
+        page 888\npes 257 2 1 3240180000 0 hecb/88080810 2 0\nrows 257 2 -\n\
+        page 100\npes 257 2 1 3240180000 0 b/ 2 0\n\
+        subs 257 888 2\nend 257 3 1 2 0 0 0 3240180000\nover 0 3\n";
+    assert_prints(&rt, &pages, &stream, want);
+}
+
+#[test]
 fn reports_what_was_read_before_the_recording_failed(rt: HostRuntime) {
     let prefix = "survey 1\nhead 47410110000001bd00b284\nfault 41 Read pes 0\n";
     assert_fails(&rt, &SURVEY, &[&BEGINS_0, &FIRST], prefix);
@@ -135,6 +150,24 @@ fn reports_what_was_read_before_the_recording_failed(rt: HostRuntime) {
 fn refuses_a_page_a_pid_and_a_packet_size(rt: HostRuntime) {
     let page = ["subttx", "survey", "b", "--page", "900"];
     assert_prints(&rt, &page, &[], "usage 1 BadPage\n");
+    let twice = ["subttx", "survey", "b", "--page", "88a", "--page", "88A"];
+    assert_prints(&rt, &twice, &[], "usage 1 BadPage\n");
+    let nine = [
+        "subttx",
+        "survey",
+        "b",
+        "--page=101",
+        "--page=102",
+        "--page=103",
+        "--page=104",
+        "--page=105",
+        "--page=106",
+        "--page=107",
+        "--page=108",
+        "--page=109",
+    ];
+    assert_prints(&rt, &nine, &[], "usage 1 BadPage\n");
+    assert_prints(&rt, &nine[..11], &[], "survey 1\nhead\nnothing\nover 0 0\n");
     let pid = ["subttx", "survey", "b", "--pid", "8191"];
     assert_prints(&rt, &pid, &[], "usage 86 Pid\n");
     let size = ["subttx", "survey", "b", "--packet-size", "189"];

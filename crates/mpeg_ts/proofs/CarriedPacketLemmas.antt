@@ -58,7 +58,7 @@ only_last_reason_remains : (x y a h n : Bool)
     → n ≡ false
 only_last_reason_remains x y a h n h1 h2 h3 = grind (arith, nat_tests)
 
--- The payload of a usable transport packet is not empty.
+-- If a usable transport packet has a payload, the payload is not empty.
 payload_is_not_empty : (p : List ℕ)
     → length p ≡ 188
     → is_unusable p ≡ false
@@ -100,8 +100,8 @@ no_marker_before_first_packet : (wrong : Bool)
 unfolding with_gap_markers
 no_marker_before_first_packet wrong = grind (arith, nat_tests)
 
--- From the start of a recording, the reassembly of good packets returns the outcomes of their
--- parts.
+-- From the start of a recording, the output of good packets is the bytes of the outcomes of their
+-- parts, with gap markers where data is missing.
 joining_starts_with_outcomes : (wrong : Bool) (goods : List GoodPacket)
     → FirstFollowsBreak goods
     → HavePayloads goods
@@ -121,7 +121,8 @@ joining_starts_with_outcomes wrong (g ∷ more) cut all =
     ∙ sym (ap (output given.Nothing) (outcomes-from wrong (single_packet_part g) more))
     ∙ sym (with_gap_markers-nothing false (outcomes wrong (parts (g ∷ more)))))
 
--- Reading a recording from its start returns what the transport packets of the PID carry.
+-- The output for a recording, read from its start, is the PES packets that the transport packets of
+-- the PID carry, with gap markers where data is missing.
 pub stream_outputs_carried_bytes : (number distance : ℕ) (recording : List ℕ)
     → output_of (start_of_stream number distance) recording ≡ carried_bytes number distance
     recording

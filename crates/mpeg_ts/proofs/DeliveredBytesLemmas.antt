@@ -8,7 +8,7 @@ use Rattle.ttx_pes.specs.Reader.{FailsAfterValidPackets, FailsWithinPacket, Take
 use Rattle.mpeg_ts.specs.CarriedPackets.{carried_bytes, gap_marker}
 use Rattle.mpeg_ts.specs.Joining.{JoiningValue, TakesNext}
 use Rattle.mpeg_ts.specs.Stream.{StreamValue, output_of, start_of_stream}
-use Rattle.mpeg_ts.specs.ConsumedStreamBytes.{OutputsBetween, IsCutOffByFailure, TakesPrefix}
+use Rattle.mpeg_ts.specs.ConsumedStreamBytes.{OutputsBetween, SplitsOutput, TakesPrefix}
 use Rattle.mpeg_ts.specs.ConsumedStreamBytes.{takes_bytes}
 use Rattle.mpeg_ts.specs.declared.pending_item.Next.{Next}
 use Rattle.mpeg_ts.specs.declared.pending_item.Next.TheVariants as next
@@ -65,8 +65,8 @@ remaining_bytes_give_output number distance v all taken rest given is same none 
     ∙ ap (λ (l : List ℕ). l ++ output_of v rest)
     (sym (consumed_bytes_give_output number distance v taken given same none))
 
--- If a read fails within a PES packet of the recording, it fails within the same PES packet of the
--- consumed bytes.
+-- If a read fails within a PES packet of the recording, and all items before it are valid PES
+-- packets, it fails within the same PES packet of the consumed bytes.
 failure_moves_to_prefix : (index : ℕ) (all prefix left : List ℕ)
     → all ≡ prefix ++ left
     → FailsAfterValidPackets index (Some all) (Some left)
@@ -101,13 +101,13 @@ failure_moves_to_prefix index all prefix left is failed =
 pub read_failure_is_at_packet : (number distance : ℕ) (v : StreamValue) (recording rest : List ℕ)
     → OutputsBetween (start_of_stream number distance) v (Some recording) (Some rest)
     → output_of v [] ≡ []
-    → IsCutOffByFailure number distance v recording rest
+    → SplitsOutput number distance v recording rest
 read_failure_is_at_packet number distance v recording rest on none = reported on.given on.takes
   where
     reported : (given : List ℕ)
         → TakesPrefix (output_of (start_of_stream number distance))
         (λ more. given ++ output_of v more) (Some recording) (Some rest)
-        → IsCutOffByFailure number distance v recording rest
+        → SplitsOutput number distance v recording rest
     reported given (takes_bytes _ _ _ _ taken consumed same) =
         let all = remaining_bytes_give_output number distance v recording taken rest given consumed
         same none in
@@ -148,8 +148,8 @@ nothing_changes_no_output before reported u v w takes same only =
     (sym (only ∙ ap (λ (j : JoiningValue). record v { joining = j }) same))
     (record { given = []; takes = takes })
 
--- If further reading made an item pending, and this item was returned, the consumed bytes contain
--- it.
+-- If further reading made an item pending, and this item was returned, it is part of the output
+-- that the consumed bytes determine.
 pub next_item_is_output : (before reported : Option (List ℕ)) (u v w : StreamValue) (n : Next)
     → TakesPrefix (output_of u) (output_of v) before reported
     → TakesNext v.joining n w.joining

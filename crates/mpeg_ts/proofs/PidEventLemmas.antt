@@ -214,7 +214,7 @@ abbrev pub StartAfterBreak : Bool → List GoodPacket → Type 0
 StartAfterBreak wrong [] = wrong ≡ true
 StartAfterBreak wrong (g ∷ more) = g.link ≡ Break
 
--- After an unusable packet, the link of the next good packet is a break.
+-- If an unusable packet comes after a good packet, the link of the next good packet is a break.
 wrong_packet_breaks_next : (s : PacketHistory) (q : List ℕ) (all : List PidEvent)
     → s.has_unusable_packet ≡ true
     → s.good ≡ Some q
@@ -304,7 +304,8 @@ break_marker_is_output_first v Break p wrong more is =
     let cut : (begins p || true) ≡ true = disjunction_with_true (begins p) in
     rw cut (new_part_marker_comes_first (begins p) v p wrong more)
 
--- After an unusable packet, a gap marker precedes the output of further good packets.
+-- After an unusable packet, a gap marker precedes the output of further good packets if the item
+-- that became pending last is a PES packet.
 gap_marker_is_output_first : (v : JoiningValue) (g : Given) (wrong : Bool) (goods : List GoodPacket)
     → has_ended v.part ≡ false
     → (gave_pes_packet g ≡ true → StartAfterBreak wrong goods)

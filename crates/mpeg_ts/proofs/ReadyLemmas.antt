@@ -11,7 +11,7 @@ use Rattle.ttx_pes.specs.declared.fault.PesFault.{PesFault}
 use Rattle.ttx_pes.proofs.DataUnitLemmas.{AreBytes-take}
 use Rattle.ttx_pes.proofs.PesPacketLemmas.{stated_size_gives_pes_packet}
 use Rattle.mpeg_ts.specs.CarriedPackets.{gap_marker, gap_marker_where}
-use Rattle.mpeg_ts.specs.Joining.{IsRefusedAtStart, JoiningValue, TakesFirst, TakesNext}
+use Rattle.mpeg_ts.specs.Joining.{IsRefusedAtStart, JoiningValue, TakesNextOrRest, TakesNext}
 use Rattle.mpeg_ts.specs.Joining.{IsPendingFor}
 use Rattle.mpeg_ts.specs.Joining.{found_in, pending_item_bytes}
 use Rattle.mpeg_ts.specs.declared.joining.Found.TheVariants as found
@@ -88,7 +88,7 @@ positive_length_is_not_empty l some none =
 pub packet_is_taken_first : (old new : JoiningValue) (n : Next)
     → ((fault : PesFault) → n ≡ next.Rest fault → ⊥)
     → TakesNext old n new
-    → TakesFirst old n new
+    → TakesNextOrRest old n new
 packet_is_taken_first old new next.Nothing other taken =
     (sym (ap (λ (j : JoiningValue). j.pending) taken.1), rw taken.1 refl, λ none. taken.0)
 packet_is_taken_first old new (next.Rest fault) other taken = absurd (other fault refl)
@@ -110,7 +110,7 @@ packet_is_taken_first old new (next.Packet size) other taken =
 pub rest_is_taken_first : (old mid new : JoiningValue) (fault : PesFault)
     → TakesNext old (next.Rest fault) mid
     → new ≡ record mid { pending = [] }
-    → TakesFirst old (next.Rest fault) new
+    → TakesNextOrRest old (next.Rest fault) new
 rest_is_taken_first old mid new fault taken all =
     let has_six_bytes = taken.1.0 in
     let whole : new ≡ record old { pending = [] } =

@@ -56,7 +56,8 @@ window_left_is_at_end w known_bytes room some end = nothing_left_to_take w.left 
 abbrev shifted_condition : WindowValue → (List ℕ → Bool) → List ℕ → Bool
 shifted_condition w is_enough bytes = is_enough (buffered_and_left w bytes)
 
--- A pull that fills the buffer requests no more bytes than allowed.
+-- A successful pull of as many bytes as the buffer has room for requests no more bytes than
+-- allowed.
 pub window-requested : {D : Type 0} (IsPull : D → ℕ → Option ℕ → D → Type 0) (borrowed : D → List ℕ)
     (remaining : D → Option (List ℕ)) (before after : D) (buffered got : List ℕ)
     (left less n requested room : ℕ)

@@ -32,7 +32,9 @@ with_gap_markers given gap (Pes bytes ∷ more) =
     gap_marker_where (given && gap) ++ (bytes ++ with_gap_markers true false more)
 with_gap_markers given gap (Other bytes ∷ more) = gap_marker_where (given && gap) ++ bytes
 
--- The bytes that the transport packets of a PID carry in a recording with this packet size.
+-- The complete PES packets that the transport packets of a PID carry in a recording with this
+-- packet size, with gap markers where data is missing. A part with a wrong start code or length
+-- comes last.
 unfoldable pub carried_bytes : ℕ → ℕ → List ℕ → List ℕ
 carried_bytes number distance recording =
     with_gap_markers false false

@@ -32,8 +32,8 @@ LawOfStreamCalls =
     → OutputsBetween v w mid after
     → OutputsBetween u w before after
 
--- A recording was read up to some byte, and there is no more output without further bytes.
-pub record IsCutOffByFailure (number distance : ℕ) (v : StreamValue) (recording rest : List ℕ) :
+-- A recording was read up to some byte: its output is split there.
+pub record SplitsOutput (number distance : ℕ) (v : StreamValue) (recording rest : List ℕ) :
     Type 0 where
   -- The consumed bytes of the recording.
   pub taken : List ℕ
@@ -43,19 +43,19 @@ pub record IsCutOffByFailure (number distance : ℕ) (v : StreamValue) (recordin
   pub carries :
       carried_bytes number distance recording ≡ carried_bytes number distance taken ++ output_of v
       rest
-  -- If a read fails within PES packet number `index` of the recording, the consumed bytes carry
-  -- `index` complete PES packets.
+  -- If a read fails within PES packet number `index` of the recording, and all items before it are
+  -- valid PES packets, the consumed bytes carry these packets and no further complete one.
   pub place :
       (index : ℕ)
       → FailsAfterValidPackets index (Some (carried_bytes number distance recording))
       (Some (output_of v rest))
       → FailsAfterValidPackets index (Some (carried_bytes number distance taken)) (Some [])
 
--- If a recording was read from its start until a read failed, the consumed bytes give no more
--- output.
+-- If a recording was read from its start, and the consumed bytes give no more output, the output
+-- for the recording is split at the byte where reading stopped.
 abbrev pub LawOfFailedRead : Type 0
 LawOfFailedRead =
     (number distance : ℕ) (v : StreamValue) (recording rest : List ℕ)
     → OutputsBetween (start_of_stream number distance) v (Some recording) (Some rest)
     → output_of v [] ≡ []
-    → IsCutOffByFailure number distance v recording rest
+    → SplitsOutput number distance v recording rest

@@ -1,6 +1,6 @@
 -- The good transport packets of a PID, each with its link to the good packet before it. A good
--- packet is usable, has a payload, and does not repeat the packet before it (ISO/IEC 13818-1,
--- 2.4.3.3: continuity_counter, by which a packet may be sent twice; 2.4.3.5:
+-- packet is usable, has a payload, and is not the first repeat of the good packet before it
+-- (ISO/IEC 13818-1, 2.4.3.3: continuity_counter, by which a packet may be sent twice; 2.4.3.5:
 -- discontinuity_indicator).
 use Rattle.std.specs.Prelude.{ℕ, ◌+◌, ◌*◌, ◌%◌, ◌==◌, ◌&&◌, ◌||◌, not, Bool, true, false}
 use Rattle.std.specs.Prelude.{if◌then◌else◌, List, [], ◌∷◌, Option, Some, None, bytes_eq}
@@ -17,8 +17,8 @@ pub data PidEvent : Type 0 where
   Wrong : PidEvent
   Loss : PidEvent
 
--- The number of skipped bytes that counts as a loss: the size of 15 transport packets, after which
--- the continuity_counter could continue by chance.
+-- The number of skipped bytes that counts as a loss: the size of 15 transport packets. After 15
+-- lost packets of a PID, its continuity_counter has the same value again, as in a repeat.
 abbrev pub loss_size : ℕ → ℕ
 loss_size distance = 15 * distance
 
@@ -73,8 +73,9 @@ empty_history good = record {
 }
 
 -- The two transport packets have equal bytes 0 to 3 and equal payloads.
-abbrev pub is_same : List ℕ → List ℕ → Bool
-is_same p q = bytes_eq (packet_header p) (packet_header q) && bytes_eq (payload p) (payload q)
+abbrev pub has_same_header_and_payload : List ℕ → List ℕ → Bool
+has_same_header_and_payload p q =
+    bytes_eq (packet_header p) (packet_header q) && bytes_eq (payload p) (payload q)
 
 -- The transport packet repeats a good packet: both have equal bytes 0 to 3 and equal payloads, and
 -- this is the first repeat. No discontinuity was announced between them, and the repeat announces
@@ -82,7 +83,7 @@ is_same p q = bytes_eq (packet_header p) (packet_header q) && bytes_eq (payload 
 abbrev pub is_repeat_of : Option (List ℕ) → PacketHistory → List ℕ → Bool
 is_repeat_of None history p = false
 is_repeat_of (Some q) history p =
-    is_same q p && not history.has_repeat && not history.has_jump
+    has_same_header_and_payload q p && not history.has_repeat && not history.has_jump
     && (not (announces_jump p) || announces_jump q)
 
 -- The transport packet repeats the last good packet.

@@ -31,7 +31,7 @@ use Rattle.mpeg_ts.specs.declared.pending_item.PendingItem.TheVariants as pendin
 -- announced a discontinuity, and its payload (empty before the first good packet). Since then:
 -- whether it was repeated, a discontinuity was announced, or data was lost. The progress of the
 -- current part; the bytes of the part, or only the last payload if no more of the part will be
--- returned; the item returned last; and the pending bytes.
+-- returned; the kind of the item that became pending last; and the pending bytes.
 pub record JoiningValue : Type 0 where
   pub header : List ℕ
   pub announced : Bool
@@ -64,12 +64,12 @@ abbrev pub has_ended : PartState → Bool
 has_ended Ended = true
 has_ended _ = false
 
--- The PES packet of the current part is complete and was returned.
+-- The PES packet of the current part is complete. It was returned or is pending.
 abbrev pub is_complete : PartState → Bool
 is_complete Complete = true
 is_complete _ = false
 
--- The item returned last was a PES packet.
+-- The item that became pending last is a PES packet.
 abbrev pub gave_pes_packet : Given → Bool
 gave_pes_packet given.Packet = true
 gave_pes_packet _ = false
@@ -104,8 +104,8 @@ with_remembered_packet v p = record v {
   has_break = false;
 }
 
--- The item returned last, after a possible gap. Only the first gap after a PES packet has a gap
--- marker.
+-- The kind of the item that became pending last, after a possible gap. Only the first gap after a
+-- PES packet has a gap marker.
 abbrev pub last_output_after : Bool → Given → Given
 last_output_after gap g = if gap && gave_pes_packet g then given.GapMarker else g
 
@@ -272,8 +272,8 @@ TakesNext old (next.Rest fault) new =
     × (new ≡ old)
 
 -- The effect of taking the next pending item of any kind. Its bytes are no longer pending.
-abbrev pub TakesFirst : JoiningValue → Next → JoiningValue → Type 0
-TakesFirst old next new =
+abbrev pub TakesNextOrRest : JoiningValue → Next → JoiningValue → Type 0
+TakesNextOrRest old next new =
     (old.pending ≡ taken_bytes next new.bytes ++ new.pending)
     × (new ≡ record old { pending = new.pending })
     × (taken_bytes next new.bytes ≡ [] → old.pending ≡ [])

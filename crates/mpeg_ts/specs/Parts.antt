@@ -28,7 +28,7 @@ abbrev pub is_seam : PacketLink → Bool
 is_seam Seam = true
 is_seam _ = false
 
--- A good transport packet does not continue the PES packet of the good packet before it.
+-- A good transport packet does not directly follow the good packet before it, or there is none.
 abbrev pub is_unlinked : PacketLink → Bool
 is_unlinked Follows = false
 is_unlinked _ = true

@@ -7,5 +7,5 @@ abbrev pub greatest_pid : ℕ
 greatest_pid = 8190
 
 -- The PID with this number; `None` for numbers greater than 8190.
-abbrev pub pid_of : ℕ → Option ℕ
-pid_of number = if nat_le number greatest_pid then Some number else None
+abbrev pub pid_with_number : ℕ → Option ℕ
+pid_with_number number = if nat_le number greatest_pid then Some number else None

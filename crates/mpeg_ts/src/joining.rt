@@ -2,7 +2,7 @@
 ghost use Rattle.std.specs.Prelude.{◌≡◌, ◌≤◌, ◌↔◌, length, []};
 ghost use Rattle.std.specs.Prelude.{◌&&◌, false, true};
 ghost use Rattle.mpeg_ts.specs.GoodPackets.{Wrong, Loss, event_of_packet};
-ghost use Rattle.mpeg_ts.specs.Joining.{IsNextWithin, TakesFirst, TakesNext, after_pid_event};
+ghost use Rattle.mpeg_ts.specs.Joining.{IsNextWithin, TakesNextOrRest, TakesNext, after_pid_event};
 ghost use Rattle.mpeg_ts.specs.Joining.{after_valid_packet};
 ghost use Rattle.mpeg_ts.specs.Joining.{begun, with_no_bytes, gave_pes_packet, last_output_after};
 ghost use Rattle.mpeg_ts.specs.Joining.{continue_part};
@@ -30,21 +30,21 @@ pub(crate) enum PartState {
     WithoutStart,
     /// A PES packet has begun and is incomplete.
     Open,
-    /// The current PES packet is complete and was returned.
+    /// The current PES packet is complete. It was returned or is pending.
     Complete,
-    /// The start code or length is not that of a Teletext PES packet. The bytes were returned
-    /// unchanged, and nothing more is returned.
+    /// The start code or length is not that of a Teletext PES packet. The bytes were returned or
+    /// are pending, unchanged, and nothing is returned after them.
     Ended,
 }
 
-/// The kind of the item that was returned last.
+/// The kind of the item that became pending last. It may still be pending.
 #[derive(Drop)]
 pub(crate) enum Given {
-    /// No PES packet was returned yet.
+    /// No PES packet has become pending yet.
     Nothing,
-    /// A PES packet was returned last.
+    /// A PES packet became pending last.
     Packet,
-    /// A gap marker after a PES packet was returned last.
+    /// A gap marker after a PES packet became pending last.
     GapMarker,
 }
 
@@ -154,7 +154,7 @@ impl Joining {
         ensures { self.new ≡ after_pid_event self.old Wrong }
     {
         self.has_break = true;
-        self.pending_item = gap_marker_item(needs_gap_marker(true, &mut self.given));
+        self.pending_item = gap_marker_item(record_gap(true, &mut self.given));
     }
 
     /// Records a loss: so many consecutive bytes were skipped that transport packets of the PID may
@@ -198,7 +198,7 @@ impl Joining {
         if begins(packet) || is_unlinked {
             self.begin_part(is_break, begins(packet), payload_of(packet));
         } else {
-            self.continue_open_part(payload_of(packet));
+            self.continue_current_part(payload_of(packet));
         }
     }
 
@@ -226,8 +226,8 @@ impl Joining {
     }
 
     // Returns whether data was lost between the last good transport packet and `packet`. Returns
-    // `false` for the first packet, and after an announced discontinuity, where a loss cannot be
-    // detected.
+    // `false` for the first packet. If no loss was recorded, also returns `false` after an
+    // announced discontinuity, where a loss cannot be detected.
     fn is_break(&self, packet: &[u8; PACKET]) -> bool
         ensures { result ≡ is_break (link_after self.now self.now.last packet.now) }
     {
@@ -280,7 +280,7 @@ impl Joining {
         self.has_break = false;
     }
 
-    // Returns whether the current PES packet is complete and was returned.
+    // Returns whether the current PES packet is complete, so that it was returned or is pending.
     fn is_complete(&self) -> bool
         ensures { result ≡ is_complete self.now.part }
     {
@@ -290,7 +290,8 @@ impl Joining {
         }
     }
 
-    // Begins to collect a new PES packet with this payload.
+    // Begins to collect a new PES packet with this payload, if `begins` is true. Otherwise the
+    // first bytes of the PES packet are missing, and its payloads give no output.
     #[inline(always)]
     fn begin_part(&mut self, is_break: bool, begins: bool, payload: &[u8])
         requires idle { self.old.pending ≡ [] }
@@ -308,9 +309,11 @@ impl Joining {
         }
     }
 
-    // Continues the current PES packet with a payload.
+    // Appends a payload to the current PES packet if that is incomplete. After a complete PES
+    // packet, the payload counts as a gap. If the packet's first bytes are missing, it gives no
+    // output.
     #[inline(always)]
-    fn continue_open_part(&mut self, payload: &[u8])
+    fn continue_current_part(&mut self, payload: &[u8])
         requires idle { self.old.pending ≡ [] }
         requires some { 1 ≤ length payload.now }
         requires most { length payload.now ≤ 184 }
@@ -345,7 +348,7 @@ impl Joining {
         self.clear();
         self.bytes.add(payload);
         self.payload_size = payload.len();
-        self.pending_item = gap_marker_item(needs_gap_marker(gap, &mut self.given));
+        self.pending_item = gap_marker_item(record_gap(gap, &mut self.given));
     }
 
     // Appends a payload to an incomplete PES packet. If the PES packet is now complete, it becomes
@@ -358,7 +361,7 @@ impl Joining {
         requires most { length payload.now ≤ 184 }
         ensures { self.new ≡ grow_part gap self.old payload.now }
     {
-        let gap_marker_before = needs_gap_marker(gap, &mut self.given);
+        let gap_marker_before = record_gap(gap, &mut self.given);
         self.bytes.add(payload);
         self.payload_size = payload.len();
         match find_packet(self.bytes.as_slice()) {
@@ -391,7 +394,7 @@ impl Joining {
     }
 
     /// Takes the next pending item. Bytes that are no PES packet stay pending, so that `extract`
-    /// can read them; `take_next_and_discard_rest` removes them too.
+    /// can read them; `take_next_or_rest` removes them too.
     #[tactic(auto, using(crate::proofs::ReadyLemmas::taking))]
     #[inline(always)]
     pub fn take_next(&mut self) -> Next
@@ -472,8 +475,8 @@ impl Joining {
 
     /// Takes the next pending item, of any kind.
     #[tactic(auto, using(crate::proofs::ReadyLemmas::firsts))]
-    pub fn take_next_and_discard_rest(&mut self) -> Next
-        ensures first { TakesFirst self.old result self.new }
+    pub fn take_next_or_rest(&mut self) -> Next
+        ensures first { TakesNextOrRest self.old result self.new }
         ensures within { IsNextWithin result self.new.bytes }
     {
         let next = self.take_next();
@@ -485,9 +488,10 @@ impl Joining {
     }
 }
 
-// Returns whether a gap needs a gap marker: only the first gap after a PES packet does.
+// Records a gap in `given`, and returns whether it needs a gap marker: only the first gap after a
+// PES packet does.
 #[inline(always)]
-fn needs_gap_marker(gap: bool, given: &mut Given) -> bool
+fn record_gap(gap: bool, given: &mut Given) -> bool
     ensures given { given.new ≡ last_output_after gap given.old }
     ensures due { result ≡ (gap && gave_pes_packet given.old) }
 {

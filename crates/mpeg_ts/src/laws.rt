@@ -7,8 +7,8 @@ pub fn law_of_stream_calls()
     ensures { LawOfStreamCalls }
 {}
 
-/// If a read fails within a PES packet of a recording, the consumed bytes carry exactly the
-/// complete PES packets before it.
+/// If a read fails within a PES packet of a recording, and all items before it are valid PES
+/// packets, the consumed bytes carry these packets and no further complete one.
 pub fn law_of_failed_read()
     ensures { LawOfFailedRead }
 {}

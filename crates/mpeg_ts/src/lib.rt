@@ -33,7 +33,7 @@ pub use packet_size::PacketSize;
 pub use pending_item::Next;
 pub use pid::Pid;
 pub use recording_packets::RecordingPesPackets;
-pub use survey_options::SurveyOptions;
+pub use survey_options::{MAX_SURVEY_PAGES, SurveyOptions, SurveyPages};
 pub use transport_packet::{
     PACKET, SYNC_BYTE, announces_jump, begins, counter_of, has_adaptation_field, has_payload,
     is_unusable, payload_of, pid_of,

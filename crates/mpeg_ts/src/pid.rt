@@ -25,11 +25,11 @@ impl Model for Pid {
 }
 
 impl Pid {
-    ghost use Rattle.mpeg_ts.specs.Pid.{greatest_pid, pid_of};
+    ghost use Rattle.mpeg_ts.specs.Pid.{greatest_pid, pid_with_number};
 
     /// Creates a PID from its number. Returns `None` if the number is greater than 8190.
     pub fn new(number: u16) -> Option<Pid>
-        ensures { result ≡ pid_of number }
+        ensures { result ≡ pid_with_number number }
     {
         if number > 8190 {
             return None;

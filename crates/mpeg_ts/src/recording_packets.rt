@@ -60,7 +60,8 @@ impl<S: Source> RecordingPesPackets<S> {
     #[tactic(auto, using(crate::proofs::CarriedPacketLemmas::known_output_is_carried))]
     pub fn new(source: S, pid: Pid, packet_size: PacketSize) -> Self
         ensures start { result ≡ recording_at_start source pid (bytes_of packet_size) }
-        // The output of the reader is the PES packets that the transport packets of the PID carry.
+        // The output of the reader is the PES packets that the transport packets of the PID carry,
+        // with gap markers where data is missing.
         ensures carried_bytes { remaining_output result.stream (S.remaining result.device)
             ≡ option_map (carried_bytes pid (bytes_of packet_size)) (S.remaining source) }
     {

@@ -250,8 +250,8 @@ impl Stream {
         self.run < loss && loss <= self.run + count as u64
     }
 
-    // Skips the buffered bytes up to the next sync byte, without the byte with which they may
-    // become a loss; `skip` handles that byte.
+    // Skips the buffered bytes up to the next sync byte, unless these bytes may become a loss. Then
+    // `skip` handles them one by one.
     #[inline(never)]
     #[tactic(auto, using(crate::proofs::StreamLemmas::junk))]
     fn skip_junk(&mut self)
@@ -339,14 +339,14 @@ impl Stream {
             if place <= self.lead || !source.skip_bytes(place) {
                 return false;
             }
-            self.window.skip_bytes(place as u64);
+            self.window.count_skipped_bytes(place as u64);
             self.lead = 0;
             return true;
         }
         self.joining.take_packet(packet_in_unit(borrowed, place));
         let count = place + self.distance;
         source.skip_bytes(count);
-        self.window.skip_bytes(count as u64);
+        self.window.count_skipped_bytes(count as u64);
         self.lead = 0;
         true
     }

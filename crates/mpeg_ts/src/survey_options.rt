@@ -4,12 +4,18 @@ use crate::packet_size::PacketSize;
 use crate::pid::Pid;
 use ttx_packet::PageId;
 
+/// The maximum number of pages that a survey follows.
+pub const MAX_SURVEY_PAGES: usize = 8;
+
+/// The Teletext pages that a survey follows, each once. `None` follows the last page.
+pub type SurveyPages = [Option<PageId>; MAX_SURVEY_PAGES];
+
 /// The options of a survey. They are defined in this crate rather than in `ts_survey`, so that a
 /// request can contain them.
 #[derive(Clone, Copy, Debug, PartialEq, Eq)]
 pub struct SurveyOptions {
-    /// The Teletext page to follow.
-    pub page: PageId,
+    /// The Teletext pages to follow.
+    pub pages: SurveyPages,
     /// The only PID to follow. `None` follows every PID with Teletext.
     pub pid: Option<Pid>,
     /// The packet size of the recording. `None` detects it.

@@ -68,7 +68,7 @@ impl Window {
 
     // Counts bytes that were skipped in the source's buffer.
     #[inline(always)]
-    pub(crate) fn skip_bytes(&mut self, count: u64)
+    pub(crate) fn count_skipped_bytes(&mut self, count: u64)
         requires { count ≤ self.old.left }
         ensures { self.new ≡ record self.old { left = self.old.left - count } }
     {
@@ -143,14 +143,14 @@ impl Window {
         ensures count { CountsFailure
             (S.failure_count source.old) result (S.failure_count source.new) }
     {
-        let mut buffered_count_is_current = self.buffered().len();
-        while buffered_count_is_current < count {
+        let mut buffered_count = self.buffered().len();
+        while buffered_count < count {
             let room = self.free_space(count);
             let n = self.pull(source, room)?;
             if n == 0 {
                 return Ok(false);
             }
-            buffered_count_is_current += n;
+            buffered_count += n;
         }
         Ok(true)
     }
@@ -162,13 +162,13 @@ impl Window {
         ensures left { self.new.left ≡ self.old.left }
         ensures rest { result ≡ count - length self.old.buffered }
     {
-        let buffered_count_is_current = self.bytes.len();
-        if buffered_count_is_current <= count {
+        let buffered_count = self.bytes.len();
+        if buffered_count <= count {
             self.bytes.clear();
-            return count - buffered_count_is_current;
+            return count - buffered_count;
         }
         let mut bytes = [0; WINDOW];
-        let (prefix, _) = bytes.split_at_mut(buffered_count_is_current - count);
+        let (prefix, _) = bytes.split_at_mut(buffered_count - count);
         let (_, following) = self.bytes.as_slice().split_at(count);
         prefix.copy_from_slice(following);
         self.bytes.clear();

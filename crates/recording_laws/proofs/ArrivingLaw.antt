@@ -6,7 +6,7 @@ use Rattle.std.specs.List.{concat}
 use Rattle.std.proofs.lemmas.List.{append-nil}
 use Rattle.mpeg_ts.specs.CarriedPackets.{carried_bytes, gap_marker_where}
 use Rattle.recording_laws.specs.Laws.{LawOfLosses, LawOfNeighbours}
-use Rattle.recording_laws.specs.Losses.{SentUnit, arriving_bytes, IsLossy}
+use Rattle.recording_laws.specs.Losses.{SentUnit, arriving_bytes, HasOnlyShortLosses}
 use Rattle.recording_laws.specs.Multiplex.{SentPes, Multiplex}
 use Rattle.recording_laws.proofs.CarriesArrivingLemmas.{CarriesArriving, carries_arriving-gone}
 use Rattle.recording_laws.proofs.CarriesArrivingLemmas.{carries_arriving-there}
@@ -60,7 +60,7 @@ reads-lead previous (s ∷ more) pes_packets reads = elim reads [
 ]
 
 given-few : (number distance : ℕ) (m : Multiplex SentUnit) (recording : List ℕ)
-    → IsLossy number distance m recording
+    → HasOnlyShortLosses number distance m recording
     → YieldsResults true Nothing m.sent (carried_bytes number distance recording)
 given-few number distance m recording h =
     law_of_reading number distance true m recording h.losses (λ e. h.few) (λ e. absurd (cc e))

@@ -11,7 +11,8 @@ use Rattle.std.proofs.lemmas.Slice.Eq.{bytes_eq-Decides}
 use Rattle.mpeg_ts.specs.GoodPackets.{PidEvent, PacketHistory, empty_history, good_packets_after}
 use Rattle.mpeg_ts.specs.GoodPackets.{linked_packet}
 use Rattle.mpeg_ts.specs.GoodPackets.{is_repeat}
-use Rattle.mpeg_ts.specs.GoodPackets.{is_same, counter_is_next, with_good_packet, GoodPacket}
+use Rattle.mpeg_ts.specs.GoodPackets.{has_same_header_and_payload, counter_is_next}
+use Rattle.mpeg_ts.specs.GoodPackets.{with_good_packet, GoodPacket}
 use Rattle.mpeg_ts.specs.GoodPackets.{Follows, link_from}
 use Rattle.mpeg_ts.specs.Parts.{is_break}
 use Rattle.mpeg_ts.specs.TransportPacket.{counter, begins}
@@ -63,7 +64,7 @@ pub is_repeat-again : (number : ℕ) (p q : List ℕ)
     → is_repeat (empty_history (Some p)) q ≡ true
 is_repeat-again number p q h = grind (arith, nat_tests, h.same, h.jump)
 
-pub counter-same : (p q : List ℕ) → is_same p q ≡ true → counter p ≡ counter q
+pub counter-same : (p q : List ℕ) → has_same_header_and_payload p q ≡ true → counter p ≡ counter q
 counter-same p q h1 = grind (arith, nat_tests, bytes_eq-Decides, get_or-take)
 
 next-counter : (c : ℕ) → c < 16 → (c == (c + 1) % 16) ≡ true → ⊥
@@ -71,7 +72,7 @@ next-counter c small e = grind (arith, nat_tests)
 
 -- A TS packet with the next continuity counter differs from the packet before it, so it is not a
 -- repeat.
-pub not-same : (p q : List ℕ) → counter_is_next p q ≡ true → is_same p q ≡ false
+pub not-same : (p q : List ℕ) → counter_is_next p q ≡ true → has_same_header_and_payload p q ≡ false
 not-same p q h1 = grind (arith, nat_tests, counter-same, next-counter)
 
 module _ {A : Type 0} (packet_of : A → List ℕ) (number : ℕ) where
@@ -129,7 +130,8 @@ module _ {A : Type 0} (packet_of : A → List ℕ) (number : ℕ) where
       ≡ good_packets_after (record (empty_history (Some p)) { has_repeat = is_some again }) ns
   good-again p again ns h1 = grind (arith, nat_tests, append-nil, good-repeat, is_repeat-again)
 
-  -- A TS packet with payload that is no repeat is accepted by the reader, whatever packets follow.
+  -- The items of a carrier add exactly one good packet, the carrier's TS packet, if this is no
+  -- repeat, whatever events follow.
   pub good-carrier : (history : PacketHistory) (c : Carrier A) (ns : List PidEvent) (first : Bool)
       → IsCarrier packet_of number first c
       → is_repeat history (packet_of c.packet) ≡ false

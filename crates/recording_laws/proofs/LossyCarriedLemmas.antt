@@ -11,7 +11,7 @@ use Rattle.mpeg_ts.specs.CarriedPackets.{carried_bytes, with_gap_markers}
 use Rattle.mpeg_ts.specs.GoodPackets.{GoodPackets, PidEvent, good_packets_after, empty_history}
 use Rattle.mpeg_ts.specs.Parts.{outcomes_of}
 use Rattle.mpeg_ts.specs.TransportPacket.{counter, payload}
-use Rattle.recording_laws.specs.Losses.{AreLosses, UnitFate, SentUnit, IsPossibleFate}
+use Rattle.recording_laws.specs.Losses.{IsRecordingWithLosses, UnitFate, SentUnit, IsPossibleFate}
 use Rattle.recording_laws.specs.Losses.{IsDamagedUnit, any_unit_damaged}
 use Rattle.recording_laws.specs.Losses.{recorded_bytes_of_unit}
 use Rattle.recording_laws.specs.Losses.{sent_packet, recorded_units}
@@ -257,19 +257,19 @@ module _ (distance number : ℕ) where
       )
 
 module _ (distance number : ℕ) (m : Multiplex SentUnit) (recording : List ℕ) where
-  all-units : AreLosses number distance m recording
+  all-units : IsRecordingWithLosses number distance m recording
       → AllByRecursion (IsLossyUnit distance number) (items_of_multiplex m)
   all-units h =
       all-left distance number (items_of_multiplex m) h.is_recording.each h.fates h.no_jump
 
-  pub all-pes : AreLosses number distance m recording
+  pub all-pes : IsRecordingWithLosses number distance m recording
       → AllByRecursion (IsLossyPes distance number) m.sent
   all-pes h =
       left-pes distance number m.sent h.is_multiplex.sent
       (all-second distance number m.lead (flat_map items_of_carrier (carriers_of m.sent))
       (all-units h))
 
-  pub pes-rising : AreLosses number distance m recording
+  pub pes-rising : IsRecordingWithLosses number distance m recording
       → AreCountersConsecutive distance number
       (15 + first_counter distance number (carriers_of m.sent) + 1 + 0)
       (carriers_of m.sent)
@@ -277,7 +277,7 @@ module _ (distance number : ℕ) (m : Multiplex SentUnit) (recording : List ℕ)
       all-rising distance number (carriers_of m.sent)
       (all-carriers-left distance number m.sent (all-pes h)) h.is_multiplex.in_sequence
 
-  left-recording : AreLosses number distance m recording
+  left-recording : IsRecordingWithLosses number distance m recording
       → IsRecording distance (recorded_units (items_of_multiplex m)) recording
   left-recording h = record {
     each = left-units distance number (items_of_multiplex m) h.is_recording.each h.fates;
@@ -290,7 +290,7 @@ module _ (distance number : ℕ) (m : Multiplex SentUnit) (recording : List ℕ)
         omega arith;
   }
 
-  pub carried_bytes-left : AreLosses number distance m recording
+  pub carried_bytes-left : IsRecordingWithLosses number distance m recording
       → carried_bytes number distance recording
       ≡ with_gap_markers false false
       (outcomes_of

@@ -12,7 +12,7 @@ use Rattle.std.proofs.lemmas.Slice.Eq.{bytes_eq-Decides}
 use Rattle.mpeg_ts.specs.GoodPackets.{Follows, Break, First, GoodPacket, PacketLink}
 use Rattle.mpeg_ts.specs.GoodPackets.{counter_is_next}
 use Rattle.mpeg_ts.specs.GoodPackets.{is_repeat}
-use Rattle.mpeg_ts.specs.GoodPackets.{is_same, linked_packet}
+use Rattle.mpeg_ts.specs.GoodPackets.{has_same_header_and_payload, linked_packet}
 use Rattle.mpeg_ts.specs.Parts.{is_break, is_unlinked}
 use Rattle.mpeg_ts.specs.PacketsInStep.{lead_size}
 use Rattle.mpeg_ts.specs.TransportPacket.{announces_jump, begins, counter, payload}
@@ -33,10 +33,10 @@ pub record IsPacketCopy (p h : List ℕ) : Type 0 where
   pub payload : payload h ≡ payload p
   pub no_jump : announces_jump h ≡ false
 
-begins-same : (p q : List ℕ) → is_same p q ≡ true → begins p ≡ begins q
+begins-same : (p q : List ℕ) → has_same_header_and_payload p q ≡ true → begins p ≡ begins q
 begins-same p q h1 = grind (arith, nat_tests, bytes_eq-Decides, get_or-take)
 
-payload-same : (p q : List ℕ) → is_same p q ≡ true → payload p ≡ payload q
+payload-same : (p q : List ℕ) → has_same_header_and_payload p q ≡ true → payload p ≡ payload q
 payload-same p q h1 = grind (arith, nat_tests, bytes_eq-Decides)
 
 pub carrier_announces_no_jump : (number : ℕ) (p : List ℕ)

@@ -77,10 +77,10 @@ pub record YieldsOneResult (few marked : Bool) (s : SentPes SentUnit) (between :
   pub reads : ReadsSent few (PreviousPes pes_packet s between skipped) sent rest
 
 -- Either the first result is for the PES packet `s`, or `s` has no result.
-abbrev pub FirstResultIsPacket : Bool → Bool → Bool → SentPes SentUnit → ℕ → Bool → List
+abbrev pub YieldsAtMostOneResult : Bool → Bool → Bool → SentPes SentUnit → ℕ → Bool → List
     (SentPes SentUnit) → List ℕ
     → Type 0
-FirstResultIsPacket few given marked s between skipped sent bytes =
+YieldsAtMostOneResult few given marked s between skipped sent bytes =
     YieldsOneResult few marked s between skipped sent bytes
     ⊎ ((few ≡ true → arrives s ≡ false) × YieldsResults few (previous_with_marker given) sent bytes)
 
@@ -120,8 +120,9 @@ gives-later few given s more bytes gone h = record {
 pub opens-later : (few given marked : Bool) (s : SentPes SentUnit) (between : ℕ) (skipped : Bool)
     (t : SentPes SentUnit) (more : List (SentPes SentUnit)) (bytes : List ℕ)
     → (few ≡ true → arrives t ≡ false)
-    → FirstResultIsPacket few given marked s (between + length (carriers_of_pes t)) true more bytes
-    → FirstResultIsPacket few given marked s between skipped (t ∷ more) bytes
+    → YieldsAtMostOneResult few given marked s (between + length (carriers_of_pes t)) true more
+    bytes
+    → YieldsAtMostOneResult few given marked s between skipped (t ∷ more) bytes
 opens-later few given marked s between skipped t more bytes gone h = elim h [
   | inl one ↦
       inl
@@ -144,7 +145,7 @@ pub gives-opened : (few : Bool) (previous : PreviousResult) (given marked : Bool
     → has_previous previous ≡ given
     → Fits previous marked
     → IsMarkerExpected few previous s marked
-    → FirstResultIsPacket few given marked s (length s.others) false more bytes
+    → YieldsAtMostOneResult few given marked s (length s.others) false more bytes
     → YieldsResults few previous (s ∷ more) bytes
 gives-opened few previous given marked s more bytes is fits exact h = elim h [
   | inl one ↦
@@ -558,7 +559,7 @@ module _ (distance number : ℕ) (wrong_after few : Bool) where
       → BeginsPes part s
       → PartContinues part s between skipped n wrong []
       → AreTraced distance number few true n wrong (carriers_of sent) goods
-      → FirstResultIsPacket few given (given && (gap || part.after_break)) s between skipped sent
+      → YieldsAtMostOneResult few given (given && (gap || part.after_break)) s between skipped sent
       (carried_from part given gap goods)
 
   pub record ContinuesReading (sent : List (SentPes SentUnit)) : Type 0 where
@@ -667,7 +668,7 @@ module _ (distance number : ℕ) (wrong_after few : Bool) where
       → ((given' gap' : Bool)
       → YieldsResults few (previous_with_marker given') more
       (carried_from (single_packet_part g) given' gap' later))
-      → FirstResultIsPacket few given (given && (gap || part.after_break)) s between skipped more
+      → YieldsAtMostOneResult few given (given && (gap || part.after_break)) s between skipped more
       (carried_from part given gap (g ∷ later))
   open-cut more part given gap s between skipped g later first lost cut go =
       elim (closing part given gap s first (lost-ends part s skipped lost)) [
@@ -707,7 +708,7 @@ module _ (distance number : ℕ) (wrong_after few : Bool) where
       → PartContinues part s between skipped n wrong cs
       → AllByRecursion (IsLossyCarrier distance number false) cs
       → AreTraced distance number few true n wrong (cs ++ carriers_of more) goods
-      → FirstResultIsPacket few given (given && (gap || part.after_break)) s between skipped more
+      → YieldsAtMostOneResult few given (given && (gap || part.after_break)) s between skipped more
       (carried_from part given gap goods)
   open-within more part given gap s between skipped n wrong [] goods go first going each
       carriers_are_traced =
@@ -723,7 +724,7 @@ module _ (distance number : ℕ) (wrong_after few : Bool) where
           | inl cut ↦
               subst
               (λ (goods : List GoodPacket).
-              FirstResultIsPacket few given (given && (gap || part.after_break)) s between skipped
+              YieldsAtMostOneResult few given (given && (gap || part.after_break)) s between skipped
               more
               (carried_from part given gap goods))
               (sym here.2)
@@ -737,7 +738,7 @@ module _ (distance number : ℕ) (wrong_after few : Bool) where
               here.1 go
               (heard-begins true n wrong c here.0 each.0 here.3) each.1 here.6))
           | inr within ↦
-              subst (FirstResultIsPacket few given (given && (gap || part.after_break)) s between
+              subst (YieldsAtMostOneResult few given (given && (gap || part.after_break)) s between
               skipped more)
               (sym
               (ap (carried_from part given gap) here.2

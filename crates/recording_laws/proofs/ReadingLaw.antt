@@ -13,8 +13,8 @@ use Rattle.mpeg_ts.specs.Parts.{parts_from}
 use Rattle.recording_laws.specs.Laws.{LawOfPace}
 use Rattle.std.proofs.lemmas.Bool.{cases_Bool}
 use Rattle.std.proofs.lemmas.Bool.Decides.{nat_tests}
-use Rattle.recording_laws.specs.Losses.{AreLosses, loses_few_in_row, records_all_following, arrives}
-use Rattle.recording_laws.specs.Losses.{is_recorded}
+use Rattle.recording_laws.specs.Losses.{IsRecordingWithLosses, loses_few_in_row, arrives}
+use Rattle.recording_laws.specs.Losses.{is_recorded, records_all_following}
 use Rattle.recording_laws.specs.Losses.{is_damaged_after, units_before_copy, units_after_copy}
 use Rattle.recording_laws.specs.Losses.{SentUnit}
 use Rattle.recording_laws.specs.Losses.{any_unit_damaged}
@@ -31,7 +31,7 @@ use Rattle.recording_laws.proofs.LossyCarriedLemmas.{all-carriers-left, all-pes,
 use Rattle.recording_laws.proofs.LossyCarriedLemmas.{first_counter, pes-rising, IsLossyPes}
 use Rattle.recording_laws.proofs.OpenPartLemmas.{closed-by, payloads_of, YieldsResults}
 use Rattle.recording_laws.proofs.OpenPartLemmas.{ContinuesReading}
-use Rattle.recording_laws.proofs.OpenPartLemmas.{FirstResultIsPacket}
+use Rattle.recording_laws.proofs.OpenPartLemmas.{YieldsAtMostOneResult}
 use Rattle.recording_laws.proofs.OpenPartLemmas.{carried_from, previous_with_marker, closing}
 use Rattle.recording_laws.proofs.OpenPartLemmas.{going-ends, BeginsPes}
 use Rattle.recording_laws.proofs.OpenPartLemmas.{gives-later, gives-one, gives-opened, going-fits}
@@ -217,7 +217,7 @@ module _ (distance number : ℕ) (wrong_after few : Bool) where
       → BeginsPes distance number wrong_after few part s
       → PartContinues distance number wrong_after few part s between skipped n wrong []
       → goods ≡ []
-      → FirstResultIsPacket few given (given && (gap || part.after_break)) s between skipped []
+      → YieldsAtMostOneResult few given (given && (gap || part.after_break)) s between skipped []
       (carried_from distance number wrong_after few part given gap goods)
   unfolding parts_from
   end-open part given gap s between skipped n wrong goods first going none =
@@ -294,7 +294,7 @@ module _ (distance number : ℕ) (wrong_after few : Bool) where
       → IsGoodCopy distance number few true n wrong t.first g
       → (few ≡ true → wrong_after_good ≡ any_unit_damaged (units_after_copy t.first))
       → AreTraced distance number few true 0 wrong_after_good (t.others ++ carriers_of more) later
-      → FirstResultIsPacket few given (given && (gap || part.after_break)) s between skipped
+      → YieldsAtMostOneResult few given (given && (gap || part.after_break)) s between skipped
       (t ∷ more)
       (carried_from distance number wrong_after few part given gap (g ∷ later))
   next-opened t more part given gap s between skipped n wrong g later wrong_after_good go is holds
@@ -354,7 +354,7 @@ module _ (distance number : ℕ) (wrong_after few : Bool) where
       → BeginsPes distance number wrong_after few part s
       → PartContinues distance number wrong_after few part s between skipped n wrong []
       → AreTraced distance number few true n wrong (t.first ∷ (t.others ++ carriers_of more)) goods
-      → FirstResultIsPacket few given (given && (gap || part.after_break)) s between skipped
+      → YieldsAtMostOneResult few given (given && (gap || part.after_break)) s between skipped
       (t ∷ more)
       (carried_from distance number wrong_after few part given gap goods)
   next-open t more part given gap s between skipped n wrong goods go is holds first going
@@ -371,7 +371,7 @@ module _ (distance number : ℕ) (wrong_after few : Bool) where
         | inr here ↦
             subst
             (λ (l : List GoodPacket).
-            FirstResultIsPacket few given (given && (gap || part.after_break)) s between skipped
+            YieldsAtMostOneResult few given (given && (gap || part.after_break)) s between skipped
             (t ∷ more)
             (carried_from distance number wrong_after few part given gap l))
             (sym here.2)
@@ -456,7 +456,7 @@ module _ (distance number : ℕ) (wrong_after few : Bool) where
 -- missing, or the first TS packet of each PES packet contains its PTS.
 pub law_of_reading : (number distance : ℕ) (few : Bool) (m : Multiplex SentUnit)
     (recording : List ℕ)
-    → AreLosses number distance m recording
+    → IsRecordingWithLosses number distance m recording
     → (few ≡ true → loses_few_in_row 0 (carriers_of m.sent) ≡ true)
     → (few ≡ false → AllByRecursion (FirstPacketContainsPts distance) m.sent)
     → YieldsResults few Nothing m.sent (carried_bytes number distance recording)

@@ -55,9 +55,9 @@ IsMarkerExpected few previous s marked =
     few ≡ true → marked ≡
     (has_previous previous && (is_gap previous || any_unit_damaged (units_before_copy s.first)))
 
--- The results of reading PES packets, in order. Each result has the same start as its PES packet.
--- If fewer than 15 consecutive TS packets with payload are missing, the results are exactly the PES
--- packets that arrive.
+-- The results of reading PES packets, in order, with gap markers between them. Each result that is
+-- no gap marker has the same start as its PES packet. If fewer than 15 consecutive TS packets with
+-- payload are missing, these results are exactly the PES packets that arrive.
 abbrev pub ReadsSent : Bool → PreviousResult → List (SentPes SentUnit) → List (List ℕ) → Type 0
 ReadsSent few previous [] pes_packets =
     (marked : Bool) × (pes_packets ≡ gap_markers_where marked) × (marked ≡ true → has_previous

@@ -1,8 +1,8 @@
 -- Two complete recordings, byte by byte: one without losses and one with losses.
 use Rattle.std.specs.Prelude.{◌≡◌, ℕ, false, List, [], ◌∷◌, ◌++◌, None, replicate}
 use Rattle.mpeg_ts.specs.CarriedPackets.{gap_marker}
-use Rattle.recording_laws.specs.Losses.{UnitFate, SentUnit, IsLossy, RecordedIntact, NotRecorded}
-use Rattle.recording_laws.specs.Losses.{RecordedDamaged, arriving_bytes}
+use Rattle.recording_laws.specs.Losses.{UnitFate, SentUnit, HasOnlyShortLosses, RecordedIntact}
+use Rattle.recording_laws.specs.Losses.{NotRecorded, RecordedDamaged, arriving_bytes}
 use Rattle.recording_laws.specs.Multiplex.{IsMultiplexed, Multiplex, SentPes}
 
 -- A PES packet of 184 bytes: packet_start_code_prefix, stream_id and PES_packet_length, and then
@@ -77,7 +77,7 @@ recording_with_losses =
 -- The recording of four PES packets satisfies the definition of a recording with losses. The first
 -- and the last PES packet arrive, with a gap marker between them.
 pub record ExampleOfLosses : Type 0 where
-  pub lossy : IsLossy 257 188 four_packets_with_losses recording_with_losses
+  pub lossy : HasOnlyShortLosses 257 188 four_packets_with_losses recording_with_losses
   pub arrives : arriving_bytes false false four_packets_with_losses.sent ≡ pes_packet_filled_with
       0x20 ++
       (gap_marker ++ pes_packet_filled_with 0x23)

@@ -98,8 +98,8 @@ loses_few_in_row gone (c ∷ more) =
     if is_recorded c then loses_few_in_row 0 more
     else nat_lt (gone + 1) 15 && loses_few_in_row (gone + 1) more
 
--- All TS packets with payload after the TS packet of `c` are recorded intact, with no damaged unit
--- between them.
+-- All TS packets with payload after the TS packet of `c`, or their repeats, are recorded intact,
+-- with no damaged unit between them.
 abbrev pub records_all_following : Carrier SentUnit → List (Carrier SentUnit) → Bool
 records_all_following c [] = true
 records_all_following c (d ∷ more) =
@@ -124,9 +124,9 @@ is_damaged_after s = any_unit_damaged (units_after_copy (last_carrier s.first s.
 -- ---- the PES packets in a recording
 
 -- The bytes of the arriving PES packets, in order, with gap markers. `given` means that an earlier
--- PES packet arrived, and `gap` that PES packets are missing after it. There is one gap marker
--- between two arriving PES packets if PES packets are missing between them, or if a unit of the PID
--- was damaged between their first TS packets.
+-- PES packet arrived, and `gap` that PES packets are missing, or a unit was damaged, after it.
+-- There is one gap marker between two arriving PES packets if PES packets are missing between them,
+-- or if a unit of the PID was damaged between their first TS packets.
 unfoldable pub arriving_bytes : Bool → Bool → List (SentPes SentUnit) → List ℕ
 arriving_bytes given gap [] = []
 arriving_bytes given gap (s ∷ more) =
@@ -143,7 +143,7 @@ pub record CarriesArrivingPackets (sent : List (SentPes SentUnit)) (bytes : List
 
 -- A recording with any number of losses. The multiplexer announced no jumps of the continuity
 -- counter.
-pub record AreLosses (number distance : ℕ) (m : Multiplex SentUnit) (recording : List ℕ)
+pub record IsRecordingWithLosses (number distance : ℕ) (m : Multiplex SentUnit) (recording : List ℕ)
     : Type 0 where
   pub is_multiplex : IsMultiplex (sent_packet distance) number m
   pub sent : List ℕ
@@ -158,7 +158,7 @@ pub record AreLosses (number distance : ℕ) (m : Multiplex SentUnit) (recording
   pub left : recording ≡ concat (recorded_units (items_of_multiplex m))
 
 -- A recording in which fewer than 15 consecutive TS packets with payload are missing.
-pub record IsLossy (number distance : ℕ) (m : Multiplex SentUnit) (recording : List ℕ) : Type 0
-  where
-    pub losses : AreLosses number distance m recording
-    pub few : loses_few_in_row 0 (carriers_of m.sent) ≡ true
+pub record HasOnlyShortLosses (number distance : ℕ) (m : Multiplex SentUnit) (recording : List ℕ)
+    : Type 0 where
+  pub losses : IsRecordingWithLosses number distance m recording
+  pub few : loses_few_in_row 0 (carriers_of m.sent) ≡ true

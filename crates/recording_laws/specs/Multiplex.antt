@@ -10,7 +10,7 @@ use Rattle.std.specs.Prelude.{[], ◌∷◌, ◌++◌, length, map, take, drop, 
 use Rattle.std.specs.List.{AllByRecursion, concat, flat_map, list_any}
 use Rattle.std.specs.Option.{option_to_list, is_some}
 use Rattle.ttx_pes.specs.PesPackets.{IsPesPacket}
-use Rattle.mpeg_ts.specs.GoodPackets.{counter_is_next, is_same}
+use Rattle.mpeg_ts.specs.GoodPackets.{counter_is_next, has_same_header_and_payload}
 use Rattle.mpeg_ts.specs.PacketsInStep.{lead_size, max_stream_bytes}
 use Rattle.mpeg_ts.specs.TransportPacket.{packet_size, sync_byte, pid, begins, is_unusable}
 use Rattle.mpeg_ts.specs.TransportPacket.{has_payload, announces_jump, payload}
@@ -32,13 +32,14 @@ pid_announces_jump number p = (pid p == number) && announces_jump p
 -- The TS packet `q` repeats the packet `p`, and announces a jump only if `p` does.
 pub record IsRepetition (number : ℕ) (p q : List ℕ) : Type 0 where
   pub carries : carries number q ≡ true
-  pub same : is_same p q ≡ true
+  pub same : has_same_header_and_payload p q ≡ true
   pub jump : announces_jump q ≡ true → announces_jump p ≡ true
 
 -- ---- the grammar of a multiplex
 
--- A carrier: a TS packet with payload, and the items up to the next TS packet with payload. These
--- items are packets without payload and at most one repeat of the first packet.
+-- A carrier: a TS packet of the PID with payload, and the items up to the next such TS packet.
+-- These items are TS packets of the PID without payload, TS packets of other PIDs, and at most one
+-- repeat of the first packet.
 pub record Carrier (A : Type 0) : Type 0 where
   pub packet : A
   pub before : List A
@@ -102,7 +103,8 @@ abbrev pub IsJumpBetween : {A : Type 0} → (A → List ℕ) → ℕ → Carrier
 IsJumpBetween packet_of number c d =
     (list_any (λ x. pid_announces_jump number (packet_of x)) c.after ≡ true)
     ⊎ ((announces_jump (packet_of d.packet) ≡ true)
-    × ((is_some c.again || not (is_same (packet_of c.packet) (packet_of d.packet))) ≡ true))
+    × ((is_some c.again
+    || not (has_same_header_and_payload (packet_of c.packet) (packet_of d.packet))) ≡ true))
 
 -- The packet of carrier `d` may follow the packet of carrier `c`: it has the next continuity
 -- counter, or a jump is announced. No jump is announced within a PES packet.
@@ -161,7 +163,7 @@ AreRecordedUnits distance (unit ∷ more) =
     × ((more ≡ []) ⊎ (length unit ≡ distance))
     × AreRecordedUnits distance more
 
--- The recording consists of these units.
+-- The recording consists of these units, and has at most `max_stream_bytes` bytes.
 pub record IsRecording (distance : ℕ) (units : List (List ℕ)) (recording : List ℕ) : Type 0 where
   pub each : AreRecordedUnits distance units
   pub joined : recording ≡ concat units

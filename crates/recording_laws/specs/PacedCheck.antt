@@ -4,7 +4,7 @@ use Rattle.std.specs.List.{AllByRecursion, concat}
 use Rattle.ttx_pes.specs.PesPackets.{IsPesPacket}
 use Rattle.ttx_pes.specs.Reading.{pts_bits}
 use Rattle.mpeg_ts.specs.CarriedPackets.{carried_bytes}
-use Rattle.recording_laws.specs.Losses.{AreLosses, SentUnit}
+use Rattle.recording_laws.specs.Losses.{IsRecordingWithLosses, SentUnit}
 use Rattle.recording_laws.specs.Multiplex.{Multiplex, sent_pes_packets}
 use Rattle.recording_laws.specs.Pace.{AreFarApart, FirstPacketContainsPts, up_to_pts}
 use Rattle.stl_rows.specs.Programme.{ProgrammeValue}
@@ -31,18 +31,19 @@ pub record AreConsecutiveSent (sent packets : List (List ℕ)) : Type 0 where
   pub sent_bytes_eq : sent ≡ earlier ++ (run ++ (next ∷ later))
   pub last_matches_up_to_pts : up_to_pts next ≡ up_to_pts last
 
--- The law of `check --pace`. Assumptions: the first TS packet of each PES packet contains its PTS,
--- and two PES packets are more than `pace` frames apart by the clock of the options if 16 or more
--- TS packets with payload come between their starts. If all PES packets in a recording, or a range,
--- form a good transmission by options with this maximum distance, they were sent one after another,
--- for any number of lost TS packets. `check --pace` accepts only such transmissions. So if it
--- accepts a recording, no loss went unnoticed.
+-- The law of `check --pace`. Assumptions: the multiplexer announces no jump of the continuity
+-- counter, the first TS packet of each PES packet contains its PTS, and two PES packets are more
+-- than `pace` frames apart by the clock of the options if 16 or more TS packets with payload come
+-- between their starts. If all PES packets in a recording, or a range, form a good transmission by
+-- options with this maximum distance, they were sent one after another, for any number of lost TS
+-- packets. `check --pace` accepts only such transmissions. So if it accepts a recording, no loss
+-- went unnoticed.
 abbrev pub LawOfPacedCheck : Type 0
 LawOfPacedCheck =
     (number distance pace : ℕ) (m : Multiplex SentUnit) (recording : List ℕ)
     (before packets following : List (List ℕ))
     (programme : ProgrammeValue) (transmission : Transmission) (options : OptionsValue)
-    → AreLosses number distance m recording
+    → IsRecordingWithLosses number distance m recording
     → AllByRecursion (FirstPacketContainsPts distance) m.sent
     → AreFarApart (frame_by_clock options) pace m.sent
     → AllByRecursion IsPesPacket (before ++ (packets ++ following))

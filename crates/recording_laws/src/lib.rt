@@ -1,5 +1,6 @@
-//! Laws about recordings: the PES packets that a multiplexer sends are read again, no loss creates
-//! a PES packet, and no loss goes unnoticed in a recording that `check --pace` accepts.
+//! Laws about recordings: the PES packets that a multiplexer sends are read again; no loss of at
+//! most 14 consecutive TS packets with payload creates a PES packet; and under three assumptions
+//! about the multiplex, no loss goes unnoticed in a recording that `check --pace` accepts.
 //!
 //! `mpeg_ts` defines what the TS packets of a PID carry, and `sub_rules` the rules for a
 //! transmission. This crate contains no program: `specs/` defines what a multiplexer sends and
@@ -7,7 +8,7 @@
 //!
 //! ```text
 //! law_of_multiplex: IsMultiplexed number distance packets recording
-//! → carried number distance recording ≡ concat packets
+//! → carried_bytes number distance recording ≡ concat packets
 //! ```
 #![tactic(auto)]
 

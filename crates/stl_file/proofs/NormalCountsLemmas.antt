@@ -11,7 +11,7 @@ use Rattle.sub_io.proofs.DeviceLemmas.{Writes-after}
 use Rattle.stl_file.specs.declared.counts.Counts.{Counts}
 use Rattle.stl_file.specs.declared.fault.NormalFault.{NormalFault}
 use Rattle.stl_file.specs.declared.fault.StlFault.{StlFault}
-use Rattle.stl_file.specs.Reader.{GivesNextSubtitle, ReaderValue, ConsumesSubtitle}
+use Rattle.stl_file.specs.Reader.{GivesNextResult, ReaderValue, ConsumesSubtitle}
 use Rattle.stl_file.specs.Reader.{yielded_subtitle}
 use Rattle.stl_file.specs.Reader.{remaining_outcome}
 use Rattle.stl_file.specs.Subtitle.{SubtitleValue}
@@ -29,7 +29,7 @@ same_count_means_no_failure b e = grind (arith, nat_tests)
 pub call_splits_the_outcome : (old new : ReaderValue) (rest next : List ℕ)
     (r : Result Bool StlFault)
     (s : SubtitleValue)
-    → GivesNextSubtitle old rest new (Some next) (yielded_subtitle r s)
+    → GivesNextResult old rest new (Some next) (yielded_subtitle r s)
     → subtitles_of (remaining_outcome old rest)
     ≡ subtitles_from_call r s new.block (subtitles_of (remaining_outcome new next))
 call_splits_the_outcome old new rest next r s a = grind (arith, nat_tests, same_Some)

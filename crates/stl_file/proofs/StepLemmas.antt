@@ -157,8 +157,8 @@ later_block_reaches_state scope o kept b r size none e h k =
       append-nil,
     )
 
--- If a block that is not skipped is read without a fault, the block belongs to the current
--- subtitle.
+-- If a block that is not skipped is read without a fault, the state after it agrees with the blocks
+-- read.
 subtitle_block_reaches_state : (scope : Scope) (begun : Option StartedSubtitle)
     (kept : List (List ℕ)) (b : List ℕ)
     (r : BlockStep)
@@ -178,7 +178,8 @@ unchanged_state_is_reached : (scope : Scope) (begun : Option StartedSubtitle) (k
     → ReachesState scope kept (More begun)
 unchanged_state_is_reached scope begun kept h = grind (arith, nat_tests)
 
--- If a block is read without a fault, the block belongs to the current subtitle or is skipped.
+-- If a block is read without a fault, the state after it agrees with the blocks read, without
+-- skipped blocks.
 pub any_block_reaches_state : (scope : Scope) (begun : Option StartedSubtitle)
     (kept : List (List ℕ))
     (b : List ℕ)

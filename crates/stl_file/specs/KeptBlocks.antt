@@ -37,8 +37,7 @@ scope_blocks scope within (b ∷ bs) =
 abbrev pub whole_day_scope : Scope → Scope
 whole_day_scope scope = record scope { from = 0; to = day }
 
--- The reader reaches the end of the file: the file is complete, and the blocks of each subtitle are
--- linked.
+-- The reader reaches the end of the file: no fault ends reading, though subtitles may be rejected.
 abbrev pub is_read_to_the_end : Findings → Bool
 is_read_to_the_end no_more = true
 is_read_to_the_end (breaks f block) = false

@@ -65,7 +65,7 @@ outcome_after_call r rest (Ok (Some s)) = gives s r.block (remaining_outcome r r
 
 -- The call returns the first of the remaining results, with its block, and leaves the other
 -- results.
-pub record GivesNextSubtitle
+pub record GivesNextResult
     (old : ReaderValue) (bytes : List ℕ) (new : ReaderValue) (now : Option (List ℕ))
     (result : Result (Option SubtitleValue) StlFault)
     : Type 0 where
@@ -87,7 +87,7 @@ abbrev pub reported_block : ℕ → Result (Option SubtitleValue) StlFault → �
 reported_block block (Err f) = block_of_fault block f
 reported_block block (Ok found) = block
 
--- If the bytes end with a complete block, that block is neither user data nor a comment.
+-- If the bytes end with a complete block, that block is not a skipped block.
 abbrev pub LastIsSubtitleBlock : List ℕ → Type 0
 LastIsSubtitleBlock bytes =
     (prefix last : List ℕ) → bytes ≡ prefix ++ last → IsBlock last → is_subtitle_block last ≡ true
@@ -149,8 +149,9 @@ FindsFrom block (breaks f at) = block ≤ at
 FindsFrom block (finds s at more) = (block ≤ at) × FindsFrom block more
 FindsFrom block (refuses f at more) = (block ≤ at) × FindsFrom block more
 
--- The source failed: `to` is the block of the first byte that could not be read. Whatever follows
--- the bytes consumed, the results have at least this block number, in the sense of `FindsFrom`.
+-- What is true if the source failed: `to` is the block of the first byte after the consumed bytes,
+-- and whatever follows these bytes, the results have at least this block number, in the sense of
+-- `FindsFrom`.
 pub record FailsReading
     (scope : Scope) (from to : ℕ) (refused : Option StartedSubtitle) (old new : Option (List ℕ))
     : Type 0 where

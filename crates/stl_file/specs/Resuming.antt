@@ -77,9 +77,9 @@ progress_after_finding (Ok found.End) = AtEnd
 progress_after_finding (Ok _) = Reading
 
 -- If a subtitle is rejected, the fault is a fault of its first block.
-abbrev pub IsFirstBlockFault : Found → Type 0
-IsFirstBlockFault (found.Refused f) = is_first_block_fault f ≡ true
-IsFirstBlockFault _ = ⊤
+abbrev pub IsFirstBlockFaultIfRefused : Found → Type 0
+IsFirstBlockFaultIfRefused (found.Refused f) = is_first_block_fault f ≡ true
+IsFirstBlockFaultIfRefused _ = ⊤
 
 -- The result of a call, after the reader has read blocks up to the last block of a subtitle, the
 -- end of the file or a fault. A fault of a subtitle's first block only rejects the subtitle.

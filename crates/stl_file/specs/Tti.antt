@@ -107,12 +107,13 @@ bytes_before_unused_space (x ∷ xs) = if x == unused_space then [] else x ∷ b
 abbrev pub text_of_block : List ℕ → List ℕ
 text_of_block b = bytes_before_unused_space (tf b)
 
--- The block is skipped, because it is user data (whatever its CF) or a comment.
+-- The block is skipped, because it is user data (whatever its CF), or a comment whose EBN is not
+-- reserved.
 abbrev pub is_skipped_block : List ℕ → Bool
 is_skipped_block b =
     (ebn b == user_data_ebn)
     || ((nat_lt (ebn b) first_reserved_ebn || (ebn b == last_block_ebn)) && (cf b == comment_flag))
 
--- The block is not skipped: it is neither user data nor a comment.
+-- The block is not skipped. So it may be a comment with a reserved EBN, which is a fault.
 abbrev pub is_subtitle_block : List ℕ → Bool
 is_subtitle_block b = not (is_skipped_block b)

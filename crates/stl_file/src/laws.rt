@@ -12,7 +12,8 @@ ghost use Rattle.stl_file.specs.declared.scope.Scope.{Scope};
 /// Bytes are a file with certain subtitles if and only if reading these bytes returns exactly these
 /// subtitles and no fault.
 ///
-/// So the definition of a file determines the results of every reader.
+/// So the definition of a file determines which subtitles a reader returns, and whether it reports
+/// a fault.
 pub fn law_of_files()
     ensures { (scope : Scope)
         → (s g : List ℕ)

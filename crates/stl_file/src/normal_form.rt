@@ -63,7 +63,7 @@ fn compute_counts(gsi: Gsi, body: &[u8]) -> Result<Counts, NormalFault>
     let mut subtitle = Subtitle::empty();
     let mut counts = Counts { tnb: 0, tns: 0 };
     'subtitles: loop {
-        match read_ahead(&mut reader, &mut source, &mut subtitle) {
+        match read_next_subtitle(&mut reader, &mut source, &mut subtitle) {
             Ok(true) => {
                 counts.tnb += block_count_of(&subtitle);
                 counts.tns += 1;
@@ -81,7 +81,7 @@ fn compute_counts(gsi: Gsi, body: &[u8]) -> Result<Counts, NormalFault>
 
 // Reads the next subtitle. A subtitle in the file has at least as many blocks as its normal form,
 // so the counts cannot overflow.
-fn read_ahead(
+fn read_next_subtitle(
     reader: &mut StlReader,
     source: &mut MemSource,
     subtitle: &mut Subtitle,
@@ -134,7 +134,7 @@ fn write_subtitles<K: Sink>(gsi: Gsi, body: &[u8], sink: &mut K) -> Result<(), F
     let mut reader = StlReader::at_first_block(gsi);
     let mut subtitle = Subtitle::empty();
     'subtitles: loop {
-        match read_ahead(&mut reader, &mut source, &mut subtitle) {
+        match read_next_subtitle(&mut reader, &mut source, &mut subtitle) {
             Ok(true) => {
                 write_subtitle(&subtitle, sink)?;
             }

@@ -3,8 +3,8 @@
 /// The progress of a reader of subtitle files: whether it can continue.
 #[derive(Clone, Copy, Debug, PartialEq, Eq)]
 pub enum Progress {
-    /// The reader is between two subtitles: the next block begins a subtitle or is skipped, or the
-    /// file ends.
+    /// The reader can continue: the next block begins a subtitle or is skipped, or the file ends.
+    /// In a `ResumingReader` the next block may also belong to a rejected subtitle.
     Reading,
     /// The file has ended: each later call of the reader returns `None`.
     AtEnd,

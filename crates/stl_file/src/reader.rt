@@ -12,7 +12,7 @@ ghost use Rattle.stl_file.specs.Fault.{is_file_format_fault, is_file_read_failur
 ghost use Rattle.stl_file.specs.Gsi.{IsGsi, IsGsiFor};
 ghost use Rattle.stl_file.specs.Reader.{block_of_fault, reported_block, checked_gsi_of_file};
 ghost use Rattle.stl_file.specs.Reader.{open_result, FailsReading};
-ghost use Rattle.stl_file.specs.Reader.{HasValidBlockNumber, GivesNextSubtitle, Refuses};
+ghost use Rattle.stl_file.specs.Reader.{HasValidBlockNumber, GivesNextResult, Refuses};
 ghost use Rattle.stl_file.specs.Reader.{RefusesOpening};
 ghost use Rattle.stl_file.specs.Reader.{RefusesOpeningFor, ConsumesByResult, ConsumesSkippedBlocks};
 ghost use Rattle.stl_file.specs.Reader.{ConsumesSubtitle, yielded_subtitle, progress_after_result};
@@ -140,7 +140,7 @@ impl StlReader {
         // result, its block number and the bytes left.
         ensures exact { IfKnown (S.remaining source.old) (λ bytes.
             failed is_file_read_failure result ≡ false →
-            GivesNextSubtitle self.old bytes self.new (S.remaining source.new) result) }
+            GivesNextResult self.old bytes self.new (S.remaining source.new) result) }
 
         // The bytes consumed are the blocks of the returned subtitle, with the skipped blocks
         // before and inside them.
@@ -202,7 +202,7 @@ impl StlReader {
         // result, its block number and the bytes left.
         ensures exact { IfKnown (S.remaining source.old) (λ bytes.
             failed is_file_read_failure result ≡ false →
-            GivesNextSubtitle self.old bytes self.new (S.remaining source.new)
+            GivesNextResult self.old bytes self.new (S.remaining source.new)
             (yielded_subtitle result subtitle.new)) }
 
         // If the result is `true`, the bytes consumed are the blocks of the subtitle; if `false`,
@@ -325,7 +325,7 @@ pub(crate) fn read_blocks<S: Source>(
         if read_count < 128 {
             return Err(StlFault::Truncated);
         }
-        let tti = Tti::read(&bytes);
+        let tti = Tti::of_bytes(&bytes);
         match take_block(scope, subtitle, &mut read, &tti) {
             Ok(false) => {}
             Ok(true) => {
@@ -348,7 +348,7 @@ fn resume(subtitle: &mut Subtitle, refused: &Option<Tti>) -> BlocksRead
     let count = match refused {
         None => 0,
         Some(block) => {
-            subtitle.skip_subtitle(block);
+            subtitle.begin_skipped(block);
             1
         }
     };

@@ -11,7 +11,8 @@ ghost use Rattle.stl_file.specs.Fault.{is_file_format_fault, is_file_read_failur
 ghost use Rattle.stl_file.specs.Gsi.{IsGsiFor};
 ghost use Rattle.stl_file.specs.Reader.{FailsReading, HasValidBlockNumber, RefusesOpeningFor};
 ghost use Rattle.stl_file.specs.Reading.{skipped_subtitle_from};
-ghost use Rattle.stl_file.specs.Resuming.{IsFirstBlockFault, LeadsToResult, resuming_open_result};
+ghost use Rattle.stl_file.specs.Resuming.{IsFirstBlockFaultIfRefused, LeadsToResult};
+ghost use Rattle.stl_file.specs.Resuming.{resuming_open_result};
 ghost use Rattle.stl_file.specs.Resuming.{progress_after_finding};
 
 use crate::fault::StlFault;
@@ -125,9 +126,10 @@ impl ResumingReader {
     /// Finds the next item of the file, and reads a subtitle into `subtitle`. After `End` or an
     /// error, do not call `next_into` again.
     ///
-    /// A returned subtitle is equal to the subtitle that `StlReader::next` would return. If no
-    /// subtitle is returned, the contents of `subtitle` are unspecified. The reader skips comments,
-    /// user data, subtitles outside the scope, and the later blocks of a rejected subtitle.
+    /// If no subtitle was rejected before it, a returned subtitle is equal to the subtitle that
+    /// `StlReader::next` would return. If no subtitle is returned, the contents of `subtitle` are
+    /// unspecified. The reader skips comments, user data, subtitles outside the scope, and the
+    /// later blocks of a rejected subtitle.
     ///
     /// # Errors
     ///
@@ -149,7 +151,7 @@ impl ResumingReader {
         ensures failed { failed is_file_read_failure result ≡ true →
             FailsReading self.old.scope self.old.block self.new.block self.old.refused
             (S.remaining source.old) (S.remaining source.new) }
-        ensures first { IfOk result IsFirstBlockFault }
+        ensures first { IfOk result IsFirstBlockFaultIfRefused }
         ensures never { IfErr result (λ fault. fault ≢ Ended) }
         ensures scope { self.new.scope ≡ self.old.scope }
         ensures progress { self.new.progress ≡ progress_after_finding result }

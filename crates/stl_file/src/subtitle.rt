@@ -209,7 +209,7 @@ impl Subtitle {
     }
 
     // Replaces the contents by the skipped subtitle that starts with `block`.
-    pub(crate) fn skip_subtitle(&mut self, block: &Tti)
+    pub(crate) fn begin_skipped(&mut self, block: &Tti)
         ensures { self.new ≡ record empty_subtitle { sgn = sgn block.now; sn = sn block.now } }
     {
         *self = Subtitle::empty();

@@ -97,7 +97,7 @@ fn take_first_block(
 {
     let is_last = block.ebn() == 0xff;
     if scope.is_outside(block) {
-        subtitle.skip_subtitle(block);
+        subtitle.begin_skipped(block);
         read.count = if is_last { 0 } else { 1 };
         read.is_skipped = true;
         return Ok(false);

@@ -27,14 +27,14 @@ impl Model for Tti {
 
 impl Tti {
     /// Creates a TTI block from any 128 bytes.
-    pub fn read(bytes: &[u8; 128]) -> Tti
+    pub fn of_bytes(bytes: &[u8; 128]) -> Tti
         ensures { result ≡ bytes.now }
     {
         Tti { bytes: *bytes }
     }
 
     /// Returns the 128 bytes of the TTI block.
-    pub fn write(&self) -> [u8; 128]
+    pub fn block_bytes(&self) -> [u8; 128]
         ensures { result ≡ self.now }
     {
         self.bytes

@@ -98,7 +98,8 @@ later_fault_is_at_block : (block at : ℕ) (kind : LoadFaultKind)
     → (kind ≡ File Unfinished) ⊎ (block ≤ at)
 later_fault_is_at_block block at kind h = grind (arith, nat_tests)
 
--- If the source failed and no fault was reported, no fault of the file comes before that block.
+-- If the source failed at a block and no fault was reported, no fault of the file comes before that
+-- block.
 pub none-reported : (drawing : Drawing) (old new : Option (List ℕ)) (block : ℕ)
     (reported : Option LoadFault)
     → (is_some reported ≡ true → ⊥)

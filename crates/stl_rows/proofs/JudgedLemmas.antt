@@ -14,10 +14,12 @@ use Rattle.stl_rows.specs.declared.layout.Drawing.{Drawing}
 use Rattle.stl_rows.specs.declared.times.Times.{Times}
 use Rattle.stl_rows.specs.DrawnPage.{drawn}
 use Rattle.stl_rows.specs.EveryFault.{faults, faults_after, load_fault}
-use Rattle.stl_rows.specs.Judged.{AllJudged, JudgedSubtitle, LawOfFaultlessFiles, LawOfJudged}
+use Rattle.stl_rows.specs.Judged.{ReliableSubtitles, ReliableSubtitle, LawOfFaultlessFiles}
+use Rattle.stl_rows.specs.Judged.{LawOfReliableSubtitles}
 use Rattle.stl_rows.specs.Judged.{LawOfReliableFiles, is_followed_in_order, is_undecided_in}
 use Rattle.stl_rows.specs.Judged.{judged_subtitles_with_bits}
-use Rattle.stl_rows.specs.Judged.{is_undecided_from, with_judged_in_front, judged_after, judged_of}
+use Rattle.stl_rows.specs.Judged.{is_undecided_from, with_judged_in_front, judged_after}
+use Rattle.stl_rows.specs.Judged.{reliable_subtitles_of}
 use Rattle.stl_rows.specs.Loading.{subtitles_of_findings}
 use Rattle.stl_rows.specs.Programme.{faults_of_next_subtitle, row_faults, times_of}
 use Rattle.stl_rows.specs.TextCode.{first_of}
@@ -32,7 +34,7 @@ faultless_subtitle_is_drawn (k ∷ ks) r none = absurd cc
 
 every_judged_subtitle_is_drawn : (drawing : Drawing) (before : Option Times) (other : Bool)
     (left : Findings)
-    → All (λ (j : JudgedSubtitle). IsOk (drawn drawing j.subtitle))
+    → All (λ (j : ReliableSubtitle). IsOk (drawn drawing j.subtitle))
     (judged_after drawing before other left).judged
 unfolding judged_after
 every_judged_subtitle_is_drawn drawing before other no_more = grind (arith, nat_tests)
@@ -48,12 +50,12 @@ every_judged_subtitle_is_drawn drawing before other (finds t block left) =
       (every_judged_subtitle_is_drawn drawing (Some (times_of t)) false left),
     )
 
-pub judged_subtitles_can_be_drawn : LawOfJudged
-unfolding judged_of
+pub judged_subtitles_can_be_drawn : LawOfReliableSubtitles
+unfolding reliable_subtitles_of
 judged_subtitles_can_be_drawn drawing file = every_judged_subtitle_is_drawn drawing None false
     (findings_within_scope drawing.scope file)
 
-abbrev AllDecided : AllJudged → Type 0
+abbrev AllDecided : ReliableSubtitles → Type 0
 AllDecided all =
     (all.is_before_unreliable ≡ false)
     × ((start frame : ℕ) → is_undecided_from start all.judged all.is_before_unreliable frame ≡
@@ -62,7 +64,7 @@ AllDecided all =
 empty_judgement_is_decided : AllDecided (record { judged = []; is_before_unreliable = false })
 empty_judgement_is_decided = (refl, λ start frame. grind (arith, nat_tests))
 
-clean_subtitle_stays_decided : (t : SubtitleValue) (all : AllJudged)
+clean_subtitle_stays_decided : (t : SubtitleValue) (all : ReliableSubtitles)
     → AllDecided all
     → AllDecided (with_judged_in_front (record { subtitle = t; is_after_unreliable = false }) all)
 clean_subtitle_stays_decided t all h =
@@ -92,7 +94,7 @@ followed drawing t (finds u block left) none =
 
 faultless_findings_are_reliable : (drawing : Drawing) (before : Option Times) (left : Findings)
     → faults_after drawing before left ≡ []
-    → (map (λ (j : JudgedSubtitle). j.subtitle) (judged_after drawing before false left).judged
+    → (map (λ (j : ReliableSubtitle). j.subtitle) (judged_after drawing before false left).judged
     ≡ subtitles_of_findings left)
     × AllDecided (judged_after drawing before false left)
 unfolding faults_after judged_after
@@ -112,7 +114,7 @@ faultless_findings_are_reliable drawing before (finds t block left) none =
     )
 
 pub faultless_file_is_decided : LawOfFaultlessFiles
-unfolding faults judged_of
+unfolding faults reliable_subtitles_of
 faultless_file_is_decided drawing file none =
     let all = faultless_findings_are_reliable drawing None (findings_within_scope drawing.scope
     file) none in
@@ -170,8 +172,8 @@ undecided-last (t ∷ ts) (bit ∷ bits) other start frame le each past =
     (λ k d h. each (suc k) d (omega arith)) (λ k d h. past (suc k) d (omega arith)) in
     grind (arith, nat_tests)
 
--- If a subtitle ends after the frame, its bit and its TCI decide whether the expected page is
--- unknown.
+-- The first subtitle that ends after the frame decides, by its bit and its TCI, whether the
+-- expected page is unknown.
 pub undecided-next : (ts : List SubtitleValue) (bits : List Bool) (other : Bool)
     (start frame at : ℕ) (d : SubtitleValue)
     → start ≤ frame

@@ -19,7 +19,7 @@ use Rattle.stl_rows.specs.declared.fault.LoadFault.{LoadFault}
 use Rattle.stl_rows.specs.declared.fault.LoadFaultKind.{LoadFaultKind}
 use Rattle.stl_rows.specs.declared.layout.Drawing.{Drawing}
 use Rattle.stl_rows.specs.declared.times.Times.{Times}
-use Rattle.stl_rows.specs.Judged.{AllJudged, JudgedSubtitle, are_in_order}
+use Rattle.stl_rows.specs.Judged.{ReliableSubtitles, ReliableSubtitle, are_in_order}
 use Rattle.stl_rows.specs.Judged.{is_followed_in_order}
 use Rattle.stl_rows.specs.Judged.{with_judged_in_front, judged_after, start_no_earlier_than}
 use Rattle.stl_rows.specs.Judged.{judged_subtitles_with_bits}
@@ -36,7 +36,7 @@ use Rattle.stl_rows.proofs.ProgrammeLemmas.{last_element-push}
 use Rattle.stl_rows.specs.DrawnPage.{drawn}
 use Rattle.stl_rows.specs.TextCode.{first_of}
 
-abbrev with_bit : SubtitleValue → Bool → JudgedSubtitle
+abbrev with_bit : SubtitleValue → Bool → ReliableSubtitle
 with_bit t bit = record { subtitle = t; is_after_unreliable = bit }
 
 taking_from_empty_is_empty : (n : ℕ) → take {A = Bool} n [] ≡ []
@@ -55,12 +55,12 @@ judged_subtitles_with_bits-set (s ∷ ts) [] t =
     let rest = judged_subtitles_with_bits-set ts [] t in
     let left : suc (length ts) - 0 ≡ suc (length ts) = omega arith in
     let same : length ts - 0 ≡ length ts = omega arith in
-    rw left (ap (λ (l : List JudgedSubtitle). with_bit s false ∷ l)
+    rw left (ap (λ (l : List ReliableSubtitle). with_bit s false ∷ l)
     (rw (same, taking_from_empty_is_empty (length ts)) at rest))
 judged_subtitles_with_bits-set (s ∷ ts) (bit ∷ bits) t =
     let left : suc (length ts) - suc (length bits) ≡ length ts - length bits = omega arith in
-    rw left (ap (λ (l : List JudgedSubtitle). with_bit s bit ∷ l) (judged_subtitles_with_bits-set ts
-    bits t))
+    rw left (ap (λ (l : List ReliableSubtitle). with_bit s bit ∷ l)
+    (judged_subtitles_with_bits-set ts bits t))
 
 pub judged_subtitles_with_bits-unset : (ts : List SubtitleValue) (bits : List Bool)
     (t : SubtitleValue)
@@ -70,10 +70,10 @@ pub judged_subtitles_with_bits-unset : (ts : List SubtitleValue) (bits : List Bo
 judged_subtitles_with_bits-unset [] [] t fits = refl
 judged_subtitles_with_bits-unset [] (bit ∷ bits) t fits = absurd (omega arith)
 judged_subtitles_with_bits-unset (s ∷ ts) [] t fits =
-    ap (λ (l : List JudgedSubtitle). with_bit s false ∷ l) (judged_subtitles_with_bits-unset ts [] t
-    (omega arith))
+    ap (λ (l : List ReliableSubtitle). with_bit s false ∷ l)
+    (judged_subtitles_with_bits-unset ts [] t (omega arith))
 judged_subtitles_with_bits-unset (s ∷ ts) (bit ∷ bits) t fits =
-    ap (λ (l : List JudgedSubtitle). with_bit s bit ∷ l)
+    ap (λ (l : List ReliableSubtitle). with_bit s bit ∷ l)
     (judged_subtitles_with_bits-unset ts bits t (omega arith))
 
 pub judged_subtitles_with_bits-take : (n : ℕ) (ts : List SubtitleValue) (bits : List Bool)
@@ -82,13 +82,14 @@ pub judged_subtitles_with_bits-take : (n : ℕ) (ts : List SubtitleValue) (bits 
 judged_subtitles_with_bits-take zero ts bits = refl
 judged_subtitles_with_bits-take (suc n) [] bits = refl
 judged_subtitles_with_bits-take (suc n) (s ∷ ts) [] =
-    ap (λ (l : List JudgedSubtitle). with_bit s false ∷ l)
+    ap (λ (l : List ReliableSubtitle). with_bit s false ∷ l)
     (rw (taking_from_empty_is_empty n) at (judged_subtitles_with_bits-take n ts []))
 judged_subtitles_with_bits-take (suc n) (s ∷ ts) (bit ∷ bits) =
-    ap (λ (l : List JudgedSubtitle). with_bit s bit ∷ l) (judged_subtitles_with_bits-take n ts bits)
+    ap (λ (l : List ReliableSubtitle). with_bit s bit ∷ l)
+    (judged_subtitles_with_bits-take n ts bits)
 
 pub judged_subtitles_with_bits-subtitles : (ts : List SubtitleValue) (bits : List Bool)
-    → map (λ (j : JudgedSubtitle). j.subtitle) (judged_subtitles_with_bits ts bits) ≡ ts
+    → map (λ (j : ReliableSubtitle). j.subtitle) (judged_subtitles_with_bits ts bits) ≡ ts
 judged_subtitles_with_bits-subtitles [] bits = refl
 judged_subtitles_with_bits-subtitles (s ∷ ts) [] =
     ap (λ (l : List SubtitleValue). s ∷ l) (judged_subtitles_with_bits-subtitles ts [])
@@ -111,11 +112,11 @@ in_order-bits (t ∷ ts) [] = refl
 in_order-bits (t ∷ ts) (bit ∷ bits) =
     rw (start_no_earlier_than-bits t.tco ts bits, in_order-bits ts bits) refl
 
-pub start_no_earlier_than-0 : (js : List JudgedSubtitle) → start_no_earlier_than 0 js ≡ true
+pub start_no_earlier_than-0 : (js : List ReliableSubtitle) → start_no_earlier_than 0 js ≡ true
 start_no_earlier_than-0 [] = refl
 start_no_earlier_than-0 (j ∷ js) = grind (arith, nat_tests, start_no_earlier_than-0 js)
 
-start_no_earlier_than-earlier : (early late : ℕ) (js : List JudgedSubtitle)
+start_no_earlier_than-earlier : (early late : ℕ) (js : List ReliableSubtitle)
     → early ≤ late
     → start_no_earlier_than late js ≡ true
     → start_no_earlier_than early js ≡ true
@@ -190,11 +191,11 @@ ordered_bits_order_subtitles (t ∷ ts) (bit ∷ bits) h (suc i) (suc j) d below
     ordered_bits_order_subtitles ts bits (grind (arith, nat_tests)) i j d (omega arith)
     (omega arith)
 
-abbrev joined : List JudgedSubtitle → AllJudged → AllJudged
+abbrev joined : List ReliableSubtitle → ReliableSubtitles → ReliableSubtitles
 joined js all = record
     { judged = js ++ all.judged; is_before_unreliable = all.is_before_unreliable }
 
-joined-more : (js : List JudgedSubtitle) (j : JudgedSubtitle) (all : AllJudged)
+joined-more : (js : List ReliableSubtitle) (j : ReliableSubtitle) (all : ReliableSubtitles)
     → joined js (with_judged_in_front j all) ≡ joined (js ++ j ∷ []) all
 joined-more js j all = grind (arith, nat_tests, append_assoc)
 
@@ -204,7 +205,7 @@ is_followed (Some times) left = is_followed_in_order times left
 
 -- The reliable subtitles of a file are the kept subtitles, without the last if the next one starts
 -- before its TCI or overlaps it, followed by the reliable subtitles of the rest.
-abbrev pub judged_with_kept : Drawing → Option Times → KeptRecords → Findings → AllJudged
+abbrev pub judged_with_kept : Drawing → Option Times → KeptRecords → Findings → ReliableSubtitles
 judged_with_kept drawing before k left =
     if k.was_last_kept && not (is_followed before left)
     then joined (take (length k.records - 1) (all_kept k)) (judged_after drawing before true left)
@@ -214,8 +215,8 @@ pub judged-start : (drawing : Drawing) (left : Findings)
     → judged_after drawing None false left ≡ judged_with_kept drawing None no_subtitles_yet left
 judged-start drawing left = refl
 
-appending_empty_changes_nothing : (latest other : Bool) (js : List JudgedSubtitle)
-    (given : AllJudged)
+appending_empty_changes_nothing : (latest other : Bool) (js : List ReliableSubtitle)
+    (given : ReliableSubtitles)
     → (if latest && false then given
     else record { judged = js ++ []; is_before_unreliable = other })
     ≡ record { judged = js; is_before_unreliable = other }
@@ -282,7 +283,7 @@ keeping_appends_judged_subtitle k t fits = grind (
   judged_subtitles_with_bits-unset,
 )
 
-take_drops_last_element : (js : List JudgedSubtitle) (j : JudgedSubtitle) (n : ℕ)
+take_drops_last_element : (js : List ReliableSubtitle) (j : ReliableSubtitle) (n : ℕ)
     → n ≡ length js
     → take n (js ++ j ∷ []) ≡ js
 take_drops_last_element js j n is = rw is (take-append_seam js (j ∷ []))
@@ -293,8 +294,9 @@ bits_keep_subtitle_count [] bits = refl
 bits_keep_subtitle_count (t ∷ ts) [] = ap suc (bits_keep_subtitle_count ts [])
 bits_keep_subtitle_count (t ∷ ts) (bit ∷ bits) = ap suc (bits_keep_subtitle_count ts bits)
 
-judging_clean_subtitle_step : (latest followed : Bool) (given following other_after : AllJudged)
-    (js then_kept : List JudgedSubtitle) (j : JudgedSubtitle) (n : ℕ)
+judging_clean_subtitle_step : (latest followed : Bool)
+    (given following other_after : ReliableSubtitles)
+    (js then_kept : List ReliableSubtitle) (j : ReliableSubtitle) (n : ℕ)
     → then_kept ≡ js ++ j ∷ []
     → n ≡ length js
     → (if latest && not true then given

@@ -29,13 +29,14 @@ use Rattle.stl_rows.specs.declared.fault.LoadFaultKind.{LoadFaultKind}
 use Rattle.stl_rows.specs.declared.fault.LoadFaultKind.TheVariants.{File, OutOfOrder, Overlap, Row}
 use Rattle.stl_rows.specs.declared.times.Times.{Times}
 use Rattle.stl_rows.specs.DrawnPage.{drawn}
-use Rattle.stl_rows.specs.EveryFault.{StopsAtOneOf, ReportsFaults, ReportsSomeFileFaults, faults}
+use Rattle.stl_rows.specs.EveryFault.{ReportsNonemptyPrefix, ReportsFaults, ReportsSomeFileFaults}
+use Rattle.stl_rows.specs.EveryFault.{faults}
 use Rattle.stl_rows.specs.EveryFault.{faults_after}
 use Rattle.stl_rows.specs.EveryFault.{ends_in_subtitle, is_reported_before, is_file_fault}
 use Rattle.stl_rows.specs.EveryFault.{EndsSubtitleAfter, RunsOutOfMemory, load_fault}
-use Rattle.stl_rows.specs.Judged.{AllJudged, JudgedSubtitle, JudgesFile, are_in_order}
+use Rattle.stl_rows.specs.Judged.{ReliableSubtitles, ReliableSubtitle, JudgesFile, are_in_order}
 use Rattle.stl_rows.specs.Judged.{has_any_subtitle}
-use Rattle.stl_rows.specs.Judged.{judged_of, can_judge}
+use Rattle.stl_rows.specs.Judged.{reliable_subtitles_of, can_judge}
 use Rattle.stl_rows.specs.Keeping.{KeptRecords, all_kept, has_no_bits, is_checkable, are_all_kept}
 use Rattle.stl_rows.specs.Keeping.{judged_value_of}
 use Rattle.stl_rows.specs.Keeping.{records_after_subtitle, no_subtitles_yet}
@@ -128,7 +129,7 @@ stops-whole : {D : Type 0} {IsReported : D → LoadFault → D → Type 0} {old 
     {items : List LoadFault}
     → 0 < length items
     → Reports IsReported old new items
-    → StopsAtOneOf IsReported old new items
+    → ReportsNonemptyPrefix IsReported old new items
 stops-whole {items = items} some reported = search (rules, take-length)
 
 pub stops-last : (drawing : Drawing) (before : Option Times) (t : SubtitleValue) (block : ℕ)
@@ -139,7 +140,7 @@ pub stops-last : (drawing : Drawing) (before : Option Times) (t : SubtitleValue)
     → is_none row ≡ false
     → Reports IsReported old mid (map (load_fault block) (first_as_list order))
     → Reports IsReported mid new (map (load_fault block) (first_as_list row))
-    → StopsAtOneOf IsReported old new
+    → ReportsNonemptyPrefix IsReported old new
     (map (load_fault block) (faults_of_next_subtitle drawing before t))
 stops-last drawing before t block old mid new order row is_order is_row some p q =
     grind (
@@ -159,7 +160,7 @@ pub record LoadingInvariant (drawing : Drawing) (file : List ℕ) (left : Findin
     (before : Option Times)
     (kept : KeptRecords) (early : List LoadFault) : Type 0 where
   pub same : faults drawing file ≡ early ++ faults_after drawing before left
-  pub judged : judged_of drawing file ≡ judged_with_kept drawing before kept left
+  pub judged : reliable_subtitles_of drawing file ≡ judged_with_kept drawing before kept left
   pub whole : is_read_to_the_end (findings_within_scope drawing.scope file) ≡ is_read_to_the_end
       left
   pub ends_after : (rest : List LoadFault) (at : ℕ)
@@ -169,7 +170,7 @@ pub record LoadingInvariant (drawing : Drawing) (file : List ℕ) (left : Findin
 pub continues-start : (drawing : Drawing) (file : List ℕ)
     → LoadingInvariant drawing file (findings_within_scope drawing.scope file) None no_subtitles_yet
     []
-unfolding faults judged_of
+unfolding faults reliable_subtitles_of
 continues-start drawing file = grind (arith, nat_tests, judged-start)
 
 module _ {drawing : Drawing} {file : List ℕ} {rest : Findings} {before : Option Times}
@@ -205,8 +206,8 @@ reports-all same some reported = rw same
 module _ {D : Type 0} {IsReported : D → LoadFault → D → Type 0} {old mid new : D} where
   stops-more : (early items rest : List LoadFault)
       → Reports IsReported old mid early
-      → StopsAtOneOf IsReported mid new items
-      → StopsAtOneOf IsReported old new (early ++ (items ++ rest))
+      → ReportsNonemptyPrefix IsReported mid new items
+      → ReportsNonemptyPrefix IsReported old new (early ++ (items ++ rest))
   stops-more early items rest reported s =
       let bound : s.0 ≤ length items = s.2 in
       let prefix_eq : take (length early + s.0) (early ++ (items ++ rest)) ≡ early ++
@@ -222,7 +223,7 @@ module _ {D : Type 0} {IsReported : D → LoadFault → D → Type 0} {old mid n
   pub fault_is_in_file-stopped : (early items : List LoadFault) {block : ℕ}
       → All (IsReportedUpToBlock block) (early ++ items)
       → Reports IsReported old mid early
-      → StopsAtOneOf IsReported mid new items
+      → ReportsNonemptyPrefix IsReported mid new items
       → ReportsSomeFileFaults IsReported old new
   fault_is_in_file-stopped early items {block} h reported s =
       let stops = stops-more early items [] reported s in
@@ -235,7 +236,8 @@ module _ {D : Type 0} {IsReported : D → LoadFault → D → Type 0} {old mid n
         reported = stops.3;
       }
 
-  -- The fault that ends reading is in the bytes of the file, unless the source failed.
+  -- If reading ended with a fault of the file, not with a failed read of the source, the reported
+  -- faults are at least one, and all are in the bytes of the file.
   pub fault_is_in_file-end : (early : List LoadFault) (fault : StlFault) {from block : ℕ}
       → All (IsReportedUpToBlock from) early
       → is_file_read_failure fault ≡ false
@@ -287,7 +289,7 @@ module _ {D : Type 0} {IsReported : D → LoadFault → D → Type 0} {old mid :
   reports-some : {new : D} (items rest : List LoadFault) (has_stopped : Bool)
       → faults_after drawing before left ≡ items ++ rest
       → has_stopped ≡ true
-      → StopsAtOneOf IsReported mid new items
+      → ReportsNonemptyPrefix IsReported mid new items
       → ReportsFaults IsReported old new has_stopped (faults drawing file)
   reports-some items rest has_stopped is is_stopped q =
       let s = stops-more early items rest reported q in
@@ -297,7 +299,7 @@ module _ {D : Type 0} {IsReported : D → LoadFault → D → Type 0} {old mid :
       (has_stopped : Bool)
       → left ≡ finds t block rest
       → has_stopped ≡ true
-      → StopsAtOneOf IsReported mid new
+      → ReportsNonemptyPrefix IsReported mid new
       (map (load_fault block) (faults_of_next_subtitle drawing before t))
       → ReportsFaults IsReported old new has_stopped (faults drawing file)
   unfolding faults_after
@@ -330,7 +332,7 @@ module _ {drawing : Drawing} {file : List ℕ} {left : Findings} {before : Optio
     {kept : KeptRecords} {early : List LoadFault}
     (on : LoadingInvariant drawing file left before kept early) where
   module _ (is : left ≡ no_more) where
-    judged_equals_kept : judged_of drawing file
+    judged_equals_kept : reliable_subtitles_of drawing file
         ≡ record { judged = all_kept kept; is_before_unreliable = kept.is_before_unreliable }
     judged_equals_kept = rw is at on.judged ∙ judged-end drawing before kept
 
@@ -363,7 +365,7 @@ module _ {drawing : Drawing} {file : List ℕ} {left : Findings} {before : Optio
           let records : subtitles_of_findings (findings_within_scope drawing.scope file) ≡
           kept.records =
           sym (faultless_file_is_decided drawing file none).0
-          ∙ ap (λ (all : AllJudged). map (λ (j : JudgedSubtitle). j.subtitle) all.judged)
+          ∙ ap (λ (all : ReliableSubtitles). map (λ (j : ReliableSubtitle). j.subtitle) all.judged)
           judged_equals_kept
           ∙ judged_subtitles_with_bits-subtitles kept.records kept.after_unreliable_bits in
           (rw (none, records) refl, rw (bits.0, bits.1) refl);
@@ -457,7 +459,7 @@ unread {drawing} {left = left} {before} {early = early} from block lt early_repo
       later_findings_are_not_before drawing before block left names,
     ) (append-nil early)
 
--- If the source failed, exactly the faults before that block had been reported.
+-- If the source failed at a block, exactly the faults before that block had been reported.
 pub reports-unread : {D : Type 0} {IsReported : D → LoadFault → D → Type 0} {old new : D}
     {drawing : Drawing} {file : List ℕ} {left : Findings} {before : Option Times}
     {kept : KeptRecords} {early : List LoadFault} (from block : ℕ)

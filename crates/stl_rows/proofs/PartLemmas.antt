@@ -1,4 +1,5 @@
--- Loading a part of a file gives the same result as loading the file without the other subtitles.
+-- If no fault ends reading, loading a part of a file gives the same result as loading the file
+-- without the other subtitles, apart from block numbers.
 use Rattle.std.proofs.Common.{◌≡◌, ℕ, List, [], ◌∷◌, Option, Some, None, map, refl, sym}
 use Rattle.std.proofs.Common.{ap, ◌∙◌}
 use Rattle.std.proofs.lemmas.List.{map-append}

@@ -7,12 +7,13 @@ use Rattle.std.specs.List.{list_all}
 use Rattle.std.proofs.Math.Seq.{take-append-add}
 use Rattle.stl_rows.specs.declared.layout.LayoutItems.{LayoutItems}
 use Rattle.stl_rows.specs.Layout.{codes_of_places}
-use Rattle.stl_rows.specs.PreparedLine.{line_with_layout_codes, line_with_before_codes, trailing}
+use Rattle.stl_rows.specs.PreparedLine.{line_with_layout_codes, line_with_before_codes}
+use Rattle.stl_rows.specs.PreparedLine.{trailing_count}
 use Rattle.stl_rows.specs.TextCode.{is_within}
 
 pub all_within_are_trailing : (first last : ℕ) (cells : List ℕ)
     → list_all (is_within first last) cells ≡ true
-    → trailing first last cells ≡ length cells
+    → trailing_count first last cells ≡ length cells
 all_within_are_trailing first last [] all = refl
 all_within_are_trailing first last (c ∷ cells) all = rw all refl
 
@@ -34,7 +35,7 @@ trailing_starts_after_outside : (first last : ℕ) (cells : List ℕ) (at : ℕ)
     → at < length cells
     → is_within first last (get_or cells at 0) ≡ false
     → list_all (is_within first last) (drop (suc at) cells) ≡ true
-    → trailing first last cells ≡ length cells - suc at
+    → trailing_count first last cells ≡ length cells - suc at
 trailing_starts_after_outside first last [] at low not all = omega (arith, low)
 trailing_starts_after_outside first last (c ∷ cells) zero low not all =
     rw (element_outside_breaks_all first last (c ∷ cells) 0 (omega arith) not)
@@ -48,7 +49,7 @@ pub trailing_ends_at_outside : (first last : ℕ) (cells : List ℕ) (left : ℕ
     → left ≤ length cells
     → is_within first last (get_or cells (left - 1) 0) ≡ false
     → list_all (is_within first last) (drop left cells) ≡ true
-    → trailing first last cells ≡ length cells - left
+    → trailing_count first last cells ≡ length cells - left
 trailing_ends_at_outside first last cells left some low not all = grind
     (arith, nat_tests, trailing_starts_after_outside)
 

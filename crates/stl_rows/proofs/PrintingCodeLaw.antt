@@ -108,7 +108,7 @@ abbrev following : LayoutItems → ℕ → ℕ → List ℕ → List (List ℕ) 
 following items number depth line lines =
     placed_lines_from items (number + 1) (depth + pitch items) (has_double_height line) lines
 
--- Each line is at least one row below the line before, so two lines never share a row.
+-- The distance between two lines is at least one row.
 pitch_is_positive : (items : LayoutItems) → 0 < pitch items
 pitch_is_positive items = grind (arith, nat_tests)
 

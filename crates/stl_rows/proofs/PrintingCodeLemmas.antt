@@ -15,7 +15,7 @@ use Rattle.stl_rows.specs.PrintingCodes.{printed_lines, is_printable_cell}
 use Rattle.stl_rows.specs.PrintingCodes.{up_to_last_printable}
 use Rattle.stl_rows.specs.PreparedLine.{codes_to_append, line_with_layout_codes}
 use Rattle.stl_rows.specs.PreparedLine.{line_with_before_codes, leading_count, prepared_by_layout}
-use Rattle.stl_rows.specs.PreparedLine.{row_starting_at, trailing, trimmed, codes_with_colour}
+use Rattle.stl_rows.specs.PreparedLine.{row_starting_at, trailing_count, trimmed, codes_with_colour}
 use Rattle.stl_rows.specs.PreparedLine.{without_leading_spaces}
 use Rattle.stl_rows.specs.TextCode.{is_within}
 use Rattle.stl_rows.proofs.LineLemmas.{row_starting_at-put}
@@ -54,19 +54,21 @@ none-all first last [] low all = tt
 none-all first last (c ∷ cells) low all =
     grind (arith, nat_tests, none-all first last cells low)
 
-trailing-few : (first last : ℕ) (cells : List ℕ) → trailing first last cells ≤ length cells
-trailing-few first last [] = omega arith
-trailing-few first last (c ∷ cells) = grind (arith, nat_tests, trailing-few first last cells)
+trailing_count-few : (first last : ℕ) (cells : List ℕ)
+    → trailing_count first last cells ≤ length cells
+trailing_count-few first last [] = omega arith
+trailing_count-few first last (c ∷ cells) =
+    grind (arith, nat_tests, trailing_count-few first last cells)
 
 none-trailing-by : (first last c : ℕ) (cells : List ℕ) (all : Bool) → last ≤ space
     → list_all (is_within first last) (c ∷ cells) ≡ all
-    → AreNonPrinting (drop (length cells - trailing first last cells) cells)
-    → AreNonPrinting (drop (length (c ∷ cells) - trailing first last (c ∷ cells)) (c ∷ cells))
+    → AreNonPrinting (drop (length cells - trailing_count first last cells) cells)
+    → AreNonPrinting (drop (length (c ∷ cells) - trailing_count first last (c ∷ cells)) (c ∷ cells))
 none-trailing-by first last c cells all low is rest =
-    grind (arith, nat_tests, none-drop, none-all, trailing-few)
+    grind (arith, nat_tests, none-drop, none-all, trailing_count-few)
 
 none-trailing : (first last : ℕ) (cells : List ℕ) → last ≤ space
-    → AreNonPrinting (drop (length cells - trailing first last cells) cells)
+    → AreNonPrinting (drop (length cells - trailing_count first last cells) cells)
 none-trailing first last [] low = tt
 none-trailing first last (c ∷ cells) low =
     none-trailing-by first last c cells (list_all (is_within first last) (c ∷ cells)) low refl

@@ -10,7 +10,8 @@ use Rattle.stl_rows.specs.declared.layout.Drawing.{Drawing}
 use Rattle.stl_rows.specs.DrawnPage.{drawn}
 use Rattle.stl_rows.specs.Programme.{AreInOrder}
 
--- A subtitle is due, and so on the air, from its TCI to the frame before its TCO.
+-- A subtitle is due, so that its page is expected on the air, from its TCI to the frame before its
+-- TCO.
 abbrev pub is_due : ℕ → SubtitleValue → Bool
 is_due frame t = nat_le t.tci frame && nat_lt frame t.tco
 

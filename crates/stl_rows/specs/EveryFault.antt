@@ -75,21 +75,20 @@ ReportsByLoadResult IsReported old new (Ok (Some found)) = ReportsOnlyFileFaults
 ReportsByLoadResult IsReported old new (Ok None) = ReportsSomeFileFaults IsReported old new
 ReportsByLoadResult IsReported old new (Err f) = ReportsSome IsReported old new
 
--- The receiver of the reports stopped them at one of the faults `items`: it got the faults up to
--- and including that one.
-abbrev pub StopsAtOneOf : {D : Type 0}
+-- Of the faults `items`, a prefix with at least one fault was reported.
+abbrev pub ReportsNonemptyPrefix : {D : Type 0}
     → (D → LoadFault → D → Type 0) → D → D → List LoadFault → Type 0
-StopsAtOneOf IsReported old new items =
+ReportsNonemptyPrefix IsReported old new items =
     (n : ℕ) × (0 < n) × (n ≤ length items) × Reports IsReported old new (take n items)
 
--- The receiver of the reports got all of the faults `items`; or, if it stopped the reports, a
--- prefix of them.
+-- At least one of the faults `items` was reported: all of them, or a prefix if the receiver of the
+-- reports stopped them.
 pub record ReportsFaults
     {D : Type 0} (IsReported : D → LoadFault → D → Type 0) (old new : D) (has_stopped : Bool)
     (items : List LoadFault)
     : Type 0 where
   pub all : has_stopped ≡ false → Reports IsReported old new items
-  pub prefix : StopsAtOneOf IsReported old new items
+  pub prefix : ReportsNonemptyPrefix IsReported old new items
 
 -- The fault means that the file ends within a subtitle.
 abbrev pub ends_in_subtitle : LoadFaultKind → Bool

@@ -10,7 +10,7 @@ use Rattle.stl_rows.specs.declared.fault.LoadFaultKind.TheVariants as load
 use Rattle.stl_rows.specs.declared.fault.RowFaultKind.{RowFaultKind}
 use Rattle.stl_rows.specs.declared.fault.RowFaultKind.TheVariants as row
 
--- The number and the name of a fault in a subtitle's text.
+-- The number and the name of a fault in a subtitle's rows.
 abbrev pub row_code : RowFaultKind → FaultCodeValue
 row_code row.Character = fault_code 50 (codes "Character")
 row_code row.Control = fault_code 51 (codes "Control")

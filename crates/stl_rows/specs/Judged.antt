@@ -21,13 +21,13 @@ use Rattle.stl_rows.specs.Programme.{times_of}
 use Rattle.stl_rows.specs.TextCode.{first_of}
 
 -- A reliable subtitle, and whether an unreliable subtitle of the file directly precedes it.
-pub record JudgedSubtitle : Type 0 where
+pub record ReliableSubtitle : Type 0 where
   pub subtitle : SubtitleValue
   pub is_after_unreliable : Bool
 
 -- The reliable subtitles of a file, and whether an unreliable subtitle follows the last one.
-pub record AllJudged : Type 0 where
-  pub judged : List JudgedSubtitle
+pub record ReliableSubtitles : Type 0 where
+  pub judged : List ReliableSubtitle
   pub is_before_unreliable : Bool
 
 -- The next subtitle in the file that is not rejected starts neither before the TCI of `times` nor
@@ -40,14 +40,14 @@ is_followed_in_order times (finds t block more) =
     is_none (first_of (order_faults (Some times) (times_of t)))
 
 -- Puts a reliable subtitle in front of the other reliable subtitles.
-abbrev pub with_judged_in_front : JudgedSubtitle → AllJudged → AllJudged
+abbrev pub with_judged_in_front : ReliableSubtitle → ReliableSubtitles → ReliableSubtitles
 with_judged_in_front j all =
     record { judged = j ∷ all.judged; is_before_unreliable = all.is_before_unreliable }
 
 -- The reliable subtitles of the rest of a file, after a subtitle with the times `before`. `other`:
 -- an unreliable subtitle follows the last reliable one. A subtitle is reliable if it has no fault
 -- and the next subtitle is in order with it.
-unfoldable pub judged_after : Drawing → Option Times → Bool → Findings → AllJudged
+unfoldable pub judged_after : Drawing → Option Times → Bool → Findings → ReliableSubtitles
 judged_after drawing before other no_more = record { judged = []; is_before_unreliable = other }
 judged_after drawing before other (breaks fault block) =
     record { judged = []; is_before_unreliable = other }
@@ -61,23 +61,24 @@ judged_after drawing before other (finds t block more) =
     else judged_after drawing (Some (times_of t)) true more
 
 -- The reliable subtitles of a whole file.
-unfoldable pub judged_of : Drawing → List ℕ → AllJudged
-judged_of drawing file = judged_after drawing None false (findings_within_scope drawing.scope file)
+unfoldable pub reliable_subtitles_of : Drawing → List ℕ → ReliableSubtitles
+reliable_subtitles_of drawing file =
+    judged_after drawing None false (findings_within_scope drawing.scope file)
 
 -- ---- whether a transmission can be checked
 
 -- All subtitles in the list start at this frame or later.
-abbrev pub start_no_earlier_than : ℕ → List JudgedSubtitle → Bool
+abbrev pub start_no_earlier_than : ℕ → List ReliableSubtitle → Bool
 start_no_earlier_than frame [] = true
 start_no_earlier_than frame (j ∷ js) = nat_le frame j.subtitle.tci && start_no_earlier_than frame js
 
 -- No subtitle in the list starts before the TCO of an earlier subtitle.
-abbrev pub are_in_order : List JudgedSubtitle → Bool
+abbrev pub are_in_order : List ReliableSubtitle → Bool
 are_in_order [] = true
 are_in_order (j ∷ js) = start_no_earlier_than j.subtitle.tco js && are_in_order js
 
 -- The list has at least one subtitle.
-abbrev pub has_any_subtitle : List JudgedSubtitle → Bool
+abbrev pub has_any_subtitle : List ReliableSubtitle → Bool
 has_any_subtitle [] = false
 has_any_subtitle (j ∷ js) = true
 
@@ -86,7 +87,7 @@ has_any_subtitle (j ∷ js) = true
 -- subtitles.
 abbrev pub can_judge : Drawing → List ℕ → Bool
 can_judge drawing file =
-    let judged = (judged_of drawing file).judged in
+    let judged = (reliable_subtitles_of drawing file).judged in
     is_read_to_the_end (findings_within_scope drawing.scope file) && has_any_subtitle judged &&
     are_in_order judged
 
@@ -95,7 +96,7 @@ can_judge drawing file =
 -- The frame is in a gap between two reliable subtitles that contains an unreliable subtitle.
 -- `start` is the TCO of the subtitle before the list; after the last subtitle, the gap lasts to the
 -- end of the day.
-abbrev pub is_undecided_from : ℕ → List JudgedSubtitle → Bool → ℕ → Bool
+abbrev pub is_undecided_from : ℕ → List ReliableSubtitle → Bool → ℕ → Bool
 is_undecided_from start [] other frame = nat_le start frame && other
 is_undecided_from start (j ∷ js) other frame =
     (nat_le start frame && nat_lt frame j.subtitle.tci && j.is_after_unreliable)
@@ -103,7 +104,7 @@ is_undecided_from start (j ∷ js) other frame =
 
 -- The expected page is unknown at this frame, because the frame is in a gap with an unreliable
 -- subtitle.
-abbrev pub is_undecided : AllJudged → ℕ → Bool
+abbrev pub is_undecided : ReliableSubtitles → ℕ → Bool
 is_undecided all frame = is_undecided_from 0 all.judged all.is_before_unreliable frame
 
 -- ---- the model of a `JudgedProgramme`
@@ -118,7 +119,7 @@ pub record JudgedValue : Type 0 where
 
 -- Combines each reliable subtitle with its bit: whether an unreliable subtitle directly precedes
 -- it. A missing bit means false.
-abbrev pub judged_subtitles_with_bits : List SubtitleValue → List Bool → List JudgedSubtitle
+abbrev pub judged_subtitles_with_bits : List SubtitleValue → List Bool → List ReliableSubtitle
 judged_subtitles_with_bits [] bits = []
 judged_subtitles_with_bits (t ∷ ts) [] = record { subtitle = t; is_after_unreliable = false } ∷
     judged_subtitles_with_bits ts []
@@ -126,7 +127,7 @@ judged_subtitles_with_bits (t ∷ ts) (bit ∷ bits) =
     record { subtitle = t; is_after_unreliable = bit } ∷ judged_subtitles_with_bits ts bits
 
 -- The reliable subtitles of a `JudgedProgramme`, each with its bit.
-abbrev pub all_judged_of_programme : JudgedValue → AllJudged
+abbrev pub all_judged_of_programme : JudgedValue → ReliableSubtitles
 all_judged_of_programme j = record {
   judged = judged_subtitles_with_bits j.programme.records j.after_unreliable_bits;
   is_before_unreliable = j.is_before_unreliable;
@@ -148,7 +149,7 @@ known programme =
 -- The programme against which a transmission is checked: if the file has no faults, all its
 -- subtitles; otherwise its reliable subtitles, if a transmission can be checked against them.
 pub record JudgesFile (drawing : Drawing) (file : List ℕ) (j : JudgedValue) : Type 0 where
-  pub all : all_judged_of_programme j ≡ judged_of drawing file
+  pub all : all_judged_of_programme j ≡ reliable_subtitles_of drawing file
   pub enough : (can_judge drawing file ≡ true) ⊎ (faults drawing file ≡ [])
   pub whole :
       faults drawing file ≡ []
@@ -162,10 +163,11 @@ LawOfReliableFiles =
     (programme : ProgrammeValue) (frame : ℕ) → is_undecided_in (known programme) frame ≡ false
 
 -- Each reliable subtitle of a file can be drawn.
-abbrev pub LawOfJudged : Type 0
-LawOfJudged =
+abbrev pub LawOfReliableSubtitles : Type 0
+LawOfReliableSubtitles =
     (drawing : Drawing) (file : List ℕ)
-    → All (λ (j : JudgedSubtitle). IsOk (drawn drawing j.subtitle)) (judged_of drawing file).judged
+    → All (λ (j : ReliableSubtitle). IsOk (drawn drawing j.subtitle))
+    (reliable_subtitles_of drawing file).judged
 
 -- If a file has no faults, all its subtitles are reliable, and the expected page is known at every
 -- frame.
@@ -173,6 +175,6 @@ abbrev pub LawOfFaultlessFiles : Type 0
 LawOfFaultlessFiles =
     (drawing : Drawing) (file : List ℕ)
     → faults drawing file ≡ []
-    → (map (λ (j : JudgedSubtitle). j.subtitle) (judged_of drawing file).judged
+    → (map (λ (j : ReliableSubtitle). j.subtitle) (reliable_subtitles_of drawing file).judged
     ≡ subtitles_of_findings (findings_within_scope drawing.scope file))
-    × ((frame : ℕ) → is_undecided (judged_of drawing file) frame ≡ false)
+    × ((frame : ℕ) → is_undecided (reliable_subtitles_of drawing file) frame ≡ false)

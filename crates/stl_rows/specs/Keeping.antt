@@ -8,7 +8,7 @@ use Rattle.stl_rows.specs.declared.layout.Drawing.{Drawing}
 use Rattle.stl_rows.specs.declared.fault.LoadFault.{LoadFault}
 use Rattle.stl_rows.specs.declared.fault.LoadFaultKind.TheVariants.{Memory}
 use Rattle.stl_rows.specs.EveryFault.{ReportsFaults, RunsOutOfMemory, faults}
-use Rattle.stl_rows.specs.Judged.{JudgedSubtitle, JudgedValue, JudgesFile, are_in_order}
+use Rattle.stl_rows.specs.Judged.{ReliableSubtitle, JudgedValue, JudgesFile, are_in_order}
 use Rattle.stl_rows.specs.Judged.{has_any_subtitle}
 use Rattle.stl_rows.specs.Judged.{can_judge, judged_subtitles_with_bits}
 
@@ -32,7 +32,7 @@ no_subtitles_yet =
     }
 
 -- The kept subtitles, each with its bit: whether an unreliable subtitle directly precedes it.
-abbrev pub all_kept : KeptRecords → List JudgedSubtitle
+abbrev pub all_kept : KeptRecords → List ReliableSubtitle
 all_kept k = judged_subtitles_with_bits k.records k.after_unreliable_bits
 
 -- The programme of the kept subtitles, against which a transmission is checked.

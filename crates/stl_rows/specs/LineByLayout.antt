@@ -51,7 +51,7 @@ placed_line_at place line = record {
   cells = line;
 }
 
--- The first fault of a line at a position; `None` if the line takes no row.
+-- The first fault of a line at a position; `None` if the line has no fault or takes no row.
 unfoldable pub line_fault_at : LayoutItems → ℕ → Place → List ℕ → Option RowFault
 line_fault_at items row_shift place line =
     if takes_no_row items line then None

@@ -16,12 +16,12 @@ leading_count first last (c ∷ cells) =
     if is_within first last c then suc (leading_count first last cells) else 0
 
 -- The number of cells at the end of a line that are in a range of codes.
-abbrev pub trailing : ℕ → ℕ → List ℕ → ℕ
-trailing first last [] = 0
-trailing first last (c ∷ cells) =
+abbrev pub trailing_count : ℕ → ℕ → List ℕ → ℕ
+trailing_count first last [] = 0
+trailing_count first last (c ∷ cells) =
     if list_all (is_within first last) (c ∷ cells)
     then length (c ∷ cells)
-    else trailing first last cells
+    else trailing_count first last cells
 
 -- The number of spacing attributes (codes below 20) at the start of a line.
 abbrev pub leading_code_count : List ℕ → ℕ
@@ -29,7 +29,7 @@ leading_code_count cells = leading_count 0 0x1F cells
 
 -- The number of spacing attributes (codes below 20) at the end of a line.
 abbrev pub trailing_code_count : List ℕ → ℕ
-trailing_code_count cells = trailing 0 0x1F cells
+trailing_code_count cells = trailing_count 0 0x1F cells
 
 -- The line without leading spaces.
 abbrev pub without_leading_spaces : List ℕ → List ℕ
@@ -37,7 +37,7 @@ without_leading_spaces cells = drop (leading_count 0x20 0x20 cells) cells
 
 -- The line without trailing spaces.
 abbrev pub without_trailing_spaces : List ℕ → List ℕ
-without_trailing_spaces cells = take (length cells - trailing 0x20 0x20 cells) cells
+without_trailing_spaces cells = take (length cells - trailing_count 0x20 0x20 cells) cells
 
 -- The layout item `trim`: the line without spaces at both ends.
 unfoldable pub trimmed : List ℕ → List ℕ
@@ -95,7 +95,7 @@ uncounted_cells items line =
     )
     else (0, 0)
 
--- The layout item `free_jc`: the JC to use for a subtitle whose JC is 0 (EBU Tech 3264, TTI block,
+-- The layout item `free`: the JC to use for a subtitle whose JC is 0 (EBU Tech 3264, TTI block,
 -- field JC).
 abbrev pub effective_jc : LayoutItems → ℕ → ℕ
 effective_jc items jc = if jc == 0 then items.free_jc else jc

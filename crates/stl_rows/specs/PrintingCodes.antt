@@ -57,8 +57,8 @@ pub record HasPrintingCodes (national : National) (layout : Layout) (text : List
       printed_lines page
       ≡ printed_lines (lines_of_codes (codes_by_layout national (items_of_layout layout) text))
 
--- No layout adds, changes, loses or reorders printable characters. So a layout can change only
--- rows, columns and spacing attributes.
+-- A layout that draws a subtitle adds, changes, loses or reorders no printable characters. So a
+-- layout can change only rows, columns and spacing attributes, or prevent the drawing by a fault.
 abbrev pub LawOfPrintingCodes : Type 0
 LawOfPrintingCodes =
     (national : National) (layout : Layout) (t : SubtitleValue) (page : Rows)

@@ -34,13 +34,13 @@ pub(crate) struct Cue {
 ///
 /// A subtitle takes 24 bytes plus its text, instead of the 1 KB of a `Subtitle`.
 #[derive(Drop)]
-pub struct Cues<A: Allocator + Copy> {
+pub struct StoredSubtitles<A: Allocator + Copy> {
     cues: Vec<Cue, A>,
     // The texts of all subtitles, including removed subtitles.
     texts: Vec<u8, A>,
 }
 
-impl<A: Allocator + Copy> Model for Cues<A> {
+impl<A: Allocator + Copy> Model for StoredSubtitles<A> {
     ghost use Rattle.std.specs.Prelude.{All, List, map};
     ghost use Rattle.stl_file.specs.Subtitle.{SubtitleValue};
 
@@ -69,12 +69,12 @@ fn cue_with_text_at(start: usize, subtitle: &Subtitle) -> Cue
     }
 }
 
-impl<A: Allocator + Copy> Cues<A> {
+impl<A: Allocator + Copy> StoredSubtitles<A> {
     /// Creates an empty list of subtitles.
-    pub(crate) fn new(alloc: A) -> Cues<A>
+    pub(crate) fn new(alloc: A) -> StoredSubtitles<A>
         ensures { result ≡ [] }
     {
-        Cues {
+        StoredSubtitles {
             cues: Vec::new(alloc),
             texts: Vec::new(alloc),
         }

@@ -126,7 +126,8 @@ pub fn law_of_default_layout()
     ensures { LawOfDefaultLayout }
 {}
 
-/// No layout adds, changes, loses or reorders printable characters of a text.
+/// A layout that draws a subtitle adds, changes, loses or reorders no printable characters of its
+/// text.
 pub fn law_of_printing_codes()
     ensures { LawOfPrintingCodes }
 {}

@@ -8,7 +8,8 @@ ghost use Rattle.sub_io.specs.Reporting.{Reports, ReportsSome, first_as_list};
 ghost use Rattle.stl_file.specs.declared.fault.StlFault.TheVariants.{Read};
 ghost use Rattle.stl_file.specs.Fault as stl;
 ghost use Rattle.stl_file.specs.Subtitle.{IsSubtitle};
-ghost use Rattle.stl_rows.specs.EveryFault.{FailsReporting, StopsAtOneOf, ReportsOnlyFileFaults};
+ghost use Rattle.stl_rows.specs.EveryFault.{FailsReporting, ReportsNonemptyPrefix};
+ghost use Rattle.stl_rows.specs.EveryFault.{ReportsOnlyFileFaults};
 ghost use Rattle.stl_rows.specs.EveryFault.{ReportsFaults};
 ghost use Rattle.stl_rows.specs.EveryFault.{ReportsByLoadResult, ReportsSomeFileFaults};
 ghost use Rattle.stl_rows.specs.EveryFault.{RunsOutOfMemory, faults};
@@ -217,7 +218,8 @@ fn report_faults<D: ReportSink<LoadFault>>(
     requires { D.has_stopped report_sink.old ≡ false }
     ensures reported { OnOk result (Reports D.is_reported report_sink.old report_sink.new
         (map (load_fault block) (faults_of_next_subtitle drawing.now before subtitle.now))) }
-    ensures stops { OnErr result (StopsAtOneOf D.is_reported report_sink.old report_sink.new
+    ensures stops { OnErr result (ReportsNonemptyPrefix D.is_reported report_sink.old
+        report_sink.new
         (map (load_fault block) (faults_of_next_subtitle drawing.now before subtitle.now))) }
     ensures clean { IfOk result (λ clean.
         clean ≡ is_none (first_of (faults_of_next_subtitle drawing.now before subtitle.now))) }

@@ -5,7 +5,8 @@ ghost use Rattle.std.specs.Prelude.{◌≡◌};
 use stl_file::StlFault;
 use sub_io::FaultCode;
 
-/// A fault in the text of a subtitle. The order of the variants is the order of reports.
+/// A fault in the rows of a subtitle, which are drawn from its text, VP and JC by a layout. The
+/// order of the variants is the order of reports.
 #[derive(Clone, Copy, Debug, PartialEq, Eq)]
 pub enum RowFaultKind {
     /// Fault code 50: a byte without a cell in the national option's character set.
@@ -14,7 +15,7 @@ pub enum RowFaultKind {
     Control,
     /// Fault code 52: a prepared line of more than 40 cells.
     RowTooLong,
-    /// Fault code 53: a line that isn't empty, below row 23.
+    /// Fault code 53: a line that isn't empty, above row 1 or below row 23.
     PastBottom,
     /// Fault code 54: a line with double height in row 23.
     DoubleRow,
@@ -82,7 +83,8 @@ impl LoadFaultKind {
     }
 }
 
-/// The reason why a subtitle file was not loaded.
+/// A fault that was found while a subtitle file was loaded. `load` returns the first one and no
+/// programme; `load_all` reports each and still loads the reliable subtitles.
 #[derive(Clone, Copy, Debug, PartialEq, Eq)]
 pub struct LoadFault {
     /// The number of the TTI block with the fault, counted from 1; 0 for the GSI block. A fault of

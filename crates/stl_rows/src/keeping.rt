@@ -9,7 +9,7 @@ ghost use Rattle.stl_rows.specs.Keeping.{after_rejected_subtitle, after_faulty_s
 ghost use Rattle.stl_rows.specs.Keeping.{without_last_kept, after_kept_subtitle};
 ghost use Rattle.stl_rows.specs.declared.fault.LoadFaultKind.TheVariants.{Memory};
 
-use crate::cues::Cues;
+use crate::cues::StoredSubtitles;
 use crate::fault::LoadFaultKind;
 use std::alloc::Allocator;
 use std::marker::Model;
@@ -21,7 +21,7 @@ use stl_file::Subtitle;
 /// file directly precedes it; and whether an unreliable subtitle follows the last.
 #[derive(Drop)]
 pub struct KeptSubtitles<A: Allocator + Copy> {
-    pub(crate) subtitles: Cues<A>,
+    pub(crate) subtitles: StoredSubtitles<A>,
     // For each subtitle in order, whether an unreliable subtitle directly precedes it, up to the
     // last bit that is set.
     pub(crate) after_unreliable_bits: Vec<bool, A>,
@@ -59,7 +59,7 @@ fn push_bit<A: Allocator + Copy>(bits: &mut Vec<bool, A>, at: usize) -> Result<(
 }
 
 // Returns whether no subtitle starts before the TCO of an earlier subtitle.
-fn are_in_order<A: Allocator + Copy>(subtitles: &Cues<A>) -> bool
+fn are_in_order<A: Allocator + Copy>(subtitles: &StoredSubtitles<A>) -> bool
     ensures { result ≡ are_in_order (judged_subtitles_with_bits subtitles.now []) }
 {
     let mut last = 0;
@@ -81,7 +81,7 @@ impl<A: Allocator + Copy> KeptSubtitles<A> {
         ensures { result ≡ no_subtitles_yet }
     {
         KeptSubtitles {
-            subtitles: Cues::new(alloc),
+            subtitles: StoredSubtitles::new(alloc),
             after_unreliable_bits: Vec::new(alloc),
             is_before_unreliable: false,
             was_last_kept: false,
@@ -177,7 +177,7 @@ impl<A: Allocator + Copy> KeptSubtitles<A> {
     }
 
     // Returns the kept subtitles without their bits.
-    pub(crate) fn into_subtitles(self) -> Cues<A>
+    pub(crate) fn into_subtitles(self) -> StoredSubtitles<A>
         ensures { result ≡ self.records }
     {
         let KeptSubtitles {

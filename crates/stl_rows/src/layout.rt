@@ -98,7 +98,7 @@ pub(crate) struct LayoutItems {
     pub(crate) left: u8,
     /// Layout item `right`: the number of free columns to the right of a right-aligned line.
     pub(crate) right: u8,
-    /// Layout item `free_jc`: the JC to use for a subtitle with JC 0.
+    /// Layout item `free`: the JC to use for a subtitle with JC 0.
     pub(crate) free_jc: u8,
     /// Layout item `double`: whether lines are two rows apart.
     pub(crate) double: bool,

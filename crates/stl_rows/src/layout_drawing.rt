@@ -186,7 +186,7 @@ impl Place {
 
     // Moves the position to the next line.
     #[tactic(auto, unfolding(crate::specs::LineByLayout::next_place))]
-    fn skip_line(&mut self, items: &LayoutItems, line: &[u8])
+    fn move_to_next_line(&mut self, items: &LayoutItems, line: &[u8])
         requires number { self.old.number ≤ 1008 }
         requires depth { self.old.depth ≤ 3000 }
         ensures { self.new ≡ next_place items.now self.old line.now }
@@ -251,7 +251,7 @@ fn draw_lines(
             return Err(fault);
         }
         draw_line(items, jc, row_shift, &place, line.as_slice(), &mut page);
-        place.skip_line(items, line.as_slice());
+        place.move_to_next_line(items, line.as_slice());
         match following {
             Some(more) => rest = more,
             None => return Ok(page),

@@ -4,7 +4,7 @@
 //! each frame and the next frame at which the expected page can change:
 //!
 //! ```text
-//! let programme = load(alloc, &mut source, National::English, Layout::default())?;
+//! let programme = load(alloc, &mut source, National::English, Layout::default(), Scope::whole())?;
 //! let page = programme.due_page(900_000);
 //! let edge = programme.next_edge(900_000);
 //! ```
@@ -33,7 +33,7 @@ mod text_code;
 mod text_faults;
 mod times;
 
-pub use cues::Cues;
+pub use cues::StoredSubtitles;
 pub use drawing::{draw, law_of_default_layout, law_of_printing_codes};
 pub use every_fault::{load_all, load_all_with_allocator};
 pub use fault::{LoadFault, LoadFaultKind, RowFault, RowFaultKind};

@@ -9,10 +9,10 @@ ghost use Rattle.stl_rows.specs.Layout.{drawing_within};
 ghost use Rattle.stl_rows.specs.declared.fault.LoadFaultKind.TheVariants.{File};
 ghost use Rattle.stl_rows.specs.Loading.{FailsLoading, LawOfLoading, LawOfParts};
 ghost use Rattle.stl_rows.specs.Loading.{IsErrorOfLoad, loaded_programme};
-ghost use Rattle.stl_rows.specs.Judged.{LawOfFaultlessFiles, LawOfJudged};
+ghost use Rattle.stl_rows.specs.Judged.{LawOfFaultlessFiles, LawOfReliableSubtitles};
 ghost use Rattle.stl_rows.specs.Programme.{IsProgramme};
 
-use crate::cues::Cues;
+use crate::cues::StoredSubtitles;
 use crate::every_fault::load_all_with_allocator;
 use crate::fault::LoadFault;
 use crate::layout::{Drawing, Layout};
@@ -25,7 +25,7 @@ use sub_io::{FirstReported, Source};
 /// Loads the subtitles of an STL file, to be drawn with a national option and a layout.
 ///
 /// Subtitles outside the scope are skipped. Each subtitle takes 24 bytes plus its text in memory.
-/// The source is read to its end.
+/// The source is read to its end, or to the first fault.
 ///
 /// # Errors
 ///
@@ -82,7 +82,7 @@ pub fn load_with_allocator<A: Allocator + Copy, S: Source>(
     alloc: A,
     source: &mut S,
     drawing: Drawing,
-) -> Result<Cues<A>, LoadFault>
+) -> Result<StoredSubtitles<A>, LoadFault>
     requires { CanFail (S.failure_count source.old) }
     ensures exact { IfKnown (S.remaining source.old) (λ bytes. IfOk result (λ v.
         loaded_programme drawing bytes ≡ Ok (record { drawing = drawing; records = v }))) }
@@ -114,8 +114,8 @@ pub fn law_of_loading()
     law_of_files();
 }
 
-/// The faults and subtitles of a part of a file are the faults and subtitles of the file without
-/// the blocks of all other subtitles, apart from block numbers.
+/// If no fault ends reading, the faults and subtitles of a part of a file are the faults and
+/// subtitles of the file without the blocks of all other subtitles, apart from block numbers.
 pub fn law_of_parts()
     ensures { LawOfParts }
 {
@@ -125,6 +125,6 @@ pub fn law_of_parts()
 /// Each reliable subtitle can be drawn, even if other subtitles were rejected. If a file has no
 /// faults, all its subtitles are reliable, and the expected page is known at every frame.
 pub fn law_of_judged()
-    ensures drawn { LawOfJudged }
+    ensures drawn { LawOfReliableSubtitles }
     ensures decided { LawOfFaultlessFiles }
 {}

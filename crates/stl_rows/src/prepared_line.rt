@@ -8,7 +8,8 @@ ghost use Rattle.stl_rows.specs.Line.{has_double_height};
 ghost use Rattle.stl_rows.specs.PreparedLine.{line_with_layout_codes, line_with_before_codes};
 ghost use Rattle.stl_rows.specs.PreparedLine.{leading_count, prepared_by_layout};
 ghost use Rattle.stl_rows.specs.PreparedLine.{start_column_by_layout};
-ghost use Rattle.stl_rows.specs.PreparedLine.{trailing, trimmed, uncounted_cells, start_column_for};
+ghost use Rattle.stl_rows.specs.PreparedLine.{trailing_count, trimmed, uncounted_cells};
+ghost use Rattle.stl_rows.specs.PreparedLine.{start_column_for};
 ghost use Rattle.stl_rows.specs.PreparedLine.{effective_jc};
 ghost use Rattle.stl_rows.specs.TextCode.{is_within};
 
@@ -40,8 +41,8 @@ fn leading_count(first: u8, last: u8, cells: &[u8]) -> usize
 }
 
 // Returns the number of cells at the end of a line that are in a range of codes.
-fn trailing(first: u8, last: u8, cells: &[u8]) -> usize
-    ensures value { result ≡ trailing first last cells.now }
+fn trailing_count(first: u8, last: u8, cells: &[u8]) -> usize
+    ensures value { result ≡ trailing_count first last cells.now }
     ensures within { result ≤ length cells.now }
 {
     let mut left = cells.len();
@@ -60,7 +61,7 @@ fn trimmed(cells: &[u8]) -> &[u8]
     ensures few { length result.now ≤ length cells.now }
 {
     let (_, rest) = cells.split_at(leading_count(0x20, 0x20, cells));
-    let (kept, _) = rest.split_at(rest.len() - trailing(0x20, 0x20, rest));
+    let (kept, _) = rest.split_at(rest.len() - trailing_count(0x20, 0x20, rest));
     kept
 }
 
@@ -177,11 +178,11 @@ fn uncounted_cells(items: &LayoutItems, line: &[u8]) -> (usize, usize)
     if ahead == line.len() {
         return (ahead, 0);
     }
-    (ahead, trailing(0, 0x1F, line))
+    (ahead, trailing_count(0, 0x1F, line))
 }
 
-// Returns the JC to use: the value of the layout item `free_jc` for JC 0, otherwise the subtitle's
-// own JC.
+// Returns the JC to use: the value of the layout item `free` for JC 0, otherwise the subtitle's own
+// JC.
 fn effective_jc(items: &LayoutItems, jc: u8) -> u8
     ensures { result ≡ effective_jc items.now jc }
 {

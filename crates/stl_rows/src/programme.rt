@@ -13,7 +13,7 @@ ghost use Rattle.stl_rows.specs.Judged.{is_undecided_from, is_undecided_in};
 ghost use Rattle.stl_rows.specs.Judged.{judged_subtitles_with_bits};
 ghost use Rattle.stl_rows.specs.Programme.{IsProgramme, first_tci, last_tco};
 
-use crate::cues::Cues;
+use crate::cues::StoredSubtitles;
 use crate::drawing::draw_subtitle_on;
 use crate::layout::{Drawing, Layout};
 use crate::national::National;
@@ -28,7 +28,7 @@ use ttx_page::Page;
 #[derive(Drop)]
 pub struct Programme {
     drawing: Drawing,
-    subtitles: Cues<Global>,
+    subtitles: StoredSubtitles<Global>,
 }
 
 impl Model for Programme {
@@ -42,7 +42,7 @@ impl Model for Programme {
 }
 
 // Returns the index of the first subtitle whose TCO is after a frame, by binary search.
-fn first_ending_after(drawing: &Drawing, subtitles: &Cues<Global>, frame: u32) -> usize
+fn first_ending_after(drawing: &Drawing, subtitles: &StoredSubtitles<Global>, frame: u32) -> usize
     requires { IsProgramme drawing.now subtitles.now }
     ensures bound { result ≤ length subtitles.now }
     ensures before { (k : ℕ) (d : SubtitleValue)
@@ -54,7 +54,12 @@ fn first_ending_after(drawing: &Drawing, subtitles: &Cues<Global>, frame: u32) -
 }
 
 // Returns whether the subtitle with the index `at` is the first whose TCO is after a frame.
-fn is_first_ending_after(drawing: &Drawing, subtitles: &Cues<Global>, frame: u32, at: usize) -> bool
+fn is_first_ending_after(
+    drawing: &Drawing,
+    subtitles: &StoredSubtitles<Global>,
+    frame: u32,
+    at: usize,
+) -> bool
     requires { IsProgramme drawing.now subtitles.now }
     ensures bound { IsTrue result → at < length subtitles.now }
     ensures before { IsTrue result → (k : ℕ) (d : SubtitleValue)
@@ -80,7 +85,7 @@ fn is_first_ending_after(drawing: &Drawing, subtitles: &Cues<Global>, frame: u32
 // index before a binary search.
 fn find_first_ending_after(
     drawing: &Drawing,
-    subtitles: &Cues<Global>,
+    subtitles: &StoredSubtitles<Global>,
     frame: u32,
     guess: usize,
 ) -> usize
@@ -107,7 +112,7 @@ fn find_first_ending_after(
 // subtitle found.
 fn draw_expected(
     drawing: &Drawing,
-    subtitles: &Cues<Global>,
+    subtitles: &StoredSubtitles<Global>,
     frame: u32,
     guess: usize,
     page: &mut Page,
@@ -133,7 +138,7 @@ fn draw_expected(
 }
 
 // Returns the next cue (TCI or TCO) after a frame.
-fn next_cue_after(drawing: &Drawing, subtitles: &Cues<Global>, frame: u32) -> Option<u32>
+fn next_cue_after(drawing: &Drawing, subtitles: &StoredSubtitles<Global>, frame: u32) -> Option<u32>
     requires { IsProgramme drawing.now subtitles.now }
     ensures { ReportsNextEdge subtitles.now frame result }
 {
@@ -151,7 +156,7 @@ fn next_cue_after(drawing: &Drawing, subtitles: &Cues<Global>, frame: u32) -> Op
 }
 
 // Returns the TCO of the subtitle before the index `at`, or `None` if `at` is 0.
-fn tco_before(subtitles: &Cues<Global>, at: usize) -> Option<u32>
+fn tco_before(subtitles: &StoredSubtitles<Global>, at: usize) -> Option<u32>
     requires { at ≤ length subtitles.now }
     ensures { MatchOption result (at ≡ 0) (λ tco. (1 ≤ at) × ((d : SubtitleValue)
         → tco ≡ (slice_index_or subtitles.now (at - 1) d).tco)) }
@@ -165,7 +170,7 @@ fn tco_before(subtitles: &Cues<Global>, at: usize) -> Option<u32>
 }
 
 // Returns the last cue (TCI or TCO) at or before a frame.
-fn last_cue_until(drawing: &Drawing, subtitles: &Cues<Global>, frame: u32) -> Option<u32>
+fn last_cue_until(drawing: &Drawing, subtitles: &StoredSubtitles<Global>, frame: u32) -> Option<u32>
     requires { IsProgramme drawing.now subtitles.now }
     ensures { ReportsLastEdge subtitles.now frame result }
 {
@@ -182,7 +187,11 @@ fn last_cue_until(drawing: &Drawing, subtitles: &Cues<Global>, frame: u32) -> Op
 }
 
 // Returns the TCI of the subtitle whose TCO is the frame.
-fn tci_of_ending_subtitle(drawing: &Drawing, subtitles: &Cues<Global>, frame: u32) -> Option<u32>
+fn tci_of_ending_subtitle(
+    drawing: &Drawing,
+    subtitles: &StoredSubtitles<Global>,
+    frame: u32,
+) -> Option<u32>
     requires { IsProgramme drawing.now subtitles.now }
     ensures { result ≡ tci_of_subtitle_ending_at subtitles.now frame }
 {
@@ -214,7 +223,7 @@ fn bit_at(bits: &[bool], at: usize) -> bool
 // Returns whether the expected page is unknown at a frame.
 fn is_undecided_at(
     drawing: &Drawing,
-    subtitles: &Cues<Global>,
+    subtitles: &StoredSubtitles<Global>,
     after_unreliable_bits: &[bool],
     is_before_unreliable: bool,
     frame: u32,
@@ -241,7 +250,7 @@ fn is_undecided_at(
 
 impl Programme {
     // Creates a programme of the subtitles.
-    pub(crate) fn of(drawing: Drawing, subtitles: Cues<Global>) -> Programme
+    pub(crate) fn of(drawing: Drawing, subtitles: StoredSubtitles<Global>) -> Programme
         requires { IsProgramme drawing subtitles }
         ensures { result ≡ record { drawing = drawing; records = subtitles } }
     {
@@ -389,8 +398,8 @@ impl Programme {
     }
 }
 
-/// The expected page at a frame is the page of the subtitle whose TCI is at or before the frame and
-/// whose TCO is after it.
+/// If subtitles do not overlap, the expected page at a frame is the page of the subtitle whose TCI
+/// is at or before the frame and whose TCO is after it.
 #[tactic(auto, using(crate::proofs::DuePageLemmas::due_subtitle_is_drawn))]
 pub fn law_of_due_subtitles()
     ensures { LawOfDueSubtitles }

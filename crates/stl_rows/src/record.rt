@@ -1,4 +1,4 @@
-//! A borrowed subtitle: either a `Subtitle`, or an element of a `Cues`.
+//! A borrowed subtitle: either a `Subtitle`, or an element of a `StoredSubtitles`.
 
 ghost use Rattle.std.specs.Prelude.{◌≡◌};
 ghost use Rattle.stl_file.specs.Subtitle.{IsSubtitle};

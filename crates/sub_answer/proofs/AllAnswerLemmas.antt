@@ -296,7 +296,8 @@ pub count_rises_only_with_fault : (b : Bool) (old new : ℕ) (status : Status)
 count_rises_only_with_fault true old new status rises is = grind (arith, is)
 count_rises_only_with_fault false old new status rises is = grind (arith, nat_tests)
 
--- An answer that reports a failed source has the status `Fault`.
+-- If each fault that passes the test `is_one` is a failure, an answer with such a fault has the
+-- status `Fault`.
 fault-status : (is_one : CheckFault → Bool)
     → ((f : CheckFault) → is_one f ≡ true → is_failure f ≡ true)
     → (first : ℕ) (events : List Event) (answer : Result (Option Accepted) CheckFault)

@@ -84,8 +84,8 @@ every_length_has_counts page frames (suc n) is =
       },
     )
 
--- If the source of the PES file failed, the fault names the PES packet at which it failed. This is
--- a separate lemma because the tactic `cc` is slow when more facts are known.
+-- A fault that reports a failed source of the PES file names a PES packet. This is a separate lemma
+-- because the tactic `cc` is slow when more facts are known.
 failed_read_has_number : (f : CheckFault)
     → is_pes_read_failure f ≡ true
     → (n : ℕ) × (f ≡ fault.Pes n pes_fault.Read)

@@ -92,5 +92,5 @@ printed-reported _ _ out mid _ reported status grows same (inr p) is_fault other
   };
 }
 
--- The lemmas that the proof of `print_survey` uses.
+-- The proof of `print_survey` uses these two lemmas.
 pub ruleset surveys = (printed-done, printed-cut)

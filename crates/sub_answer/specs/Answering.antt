@@ -70,9 +70,9 @@ abbrev pub verdict : ℕ → Result Accepted CheckFault → Listing
 verdict first (Ok a) = done (accepted_line a)
 verdict first (Err f) = fault_listing (counted_from first (check_line f))
 
--- The command `check` has one answer, which depends only on the bytes of both files, and prints its
--- line. The argument `first` is the number of the first PES packet in its file. `Untouched` means
--- that no byte of the PES file was read.
+-- The command `check` has one answer and prints its line. Unless a device failed or memory ran out,
+-- the answer depends only on the bytes of both files. The argument `first` is the number of the
+-- first PES packet in its file. `Untouched` means that no byte of the PES file was read.
 pub record AnswersCheck
     (drawing : Drawing) (options : OptionsValue) (stl pes : SourceCall) (first : FirstNumber)
     (Untouched : Type 0) (out : SinkCall) (status : Status)
@@ -83,26 +83,24 @@ pub record AnswersCheck
   pub starts : failed is_subtitle_fault answer ≡ false → StartsAt first pes number
   -- The line of the answer was printed, or `out` failed and received a prefix of the line.
   pub printed : PrintsOrFails out (verdict number answer) status
-  -- If a source failed, the fault names the block or PES packet at which it failed, unless an
-  -- earlier fault is reported.
+  -- A source failed exactly if the fault reports it. The fault then names the block or PES packet
+  -- at which it failed.
   pub sources :
       ReportsSources (FailsLoading drawing stl.known stl.left)
       (λ index. FailsAfterValidPackets index pes.known pes.left)
       Untouched (failed is_subtitle_fault answer) stl pes answer
-  -- If the bytes of the files are known, they determine the answer. An accepted transmission is
-  -- robust, even if rows are lost: every receiver shows the expected page within the repeat bound,
-  -- except for cells whose byte was damaged. This is true for any earlier state of the receiver
-  -- and, if complete pages are required, for the page on its screen. If `within` is not 0,
-  -- receivers show each expected page at the end of at least one of its frames. A subtitle file
-  -- without a programme is rejected.
+  -- If the bytes of the files are known, they determine the answer, unless a device failed or
+  -- memory ran out. An accepted transmission has the properties of `HasPromisesWithRepeats`; and
+  -- those of `HasPromises` if `within` is 0 and each header of the page has to erase the page. A
+  -- subtitle file without a programme is rejected.
   pub checked : IfKnown stl.known (λ file. AreChecked drawing options file pes.known answer)
   pub ends :
       IsStatusOfFiles drawing options stl pes out (PrintsMemory drawing stl.known out.old out.new)
       status
 
--- The output shows the state of a receiver after the frames of the PES file, or the fault. The
--- receiver stores the code `leaves` in a cell whose byte has even parity. The argument `first` is
--- the number of the first PES packet in its file.
+-- The output shows the state of a receiver after the frames of the PES file up to TIME, or the
+-- fault. In a cell whose byte has even parity, the receiver stores the code that `leaves` returns
+-- for the cell's old code. The argument `first` is the number of the first PES packet in its file.
 pub record PrintsReceived
     (leaves : ℕ → ℕ) (listening : Listening) (first : ℕ) (pes : SourceCall) (out : SinkCall)
     (status : Status)
@@ -115,8 +113,7 @@ pub record PrintsReceived
       → (listing : Listing)
       × Listens leaves listening first frames unread pes.known pes.left listing
       × PrintsOrFails out listing status)
-  -- If the source of PES packets failed, the fault names the PES packet at which it failed, unless
-  -- an earlier fault is reported.
+  -- If the source of PES packets failed, the fault names the PES packet at which it failed.
   pub read :
       pes.new_count ≢ pes.old_count
       → (f : ListenFault)
@@ -151,7 +148,7 @@ input_call remaining failure_count number skipped old new = record {
   number = first_number number skipped old new;
 }
 
--- A source that is read completely, from its first PES packet.
+-- A source of which no part is selected: its first PES packet has the number 0.
 abbrev pub entire_call : {S : Type 0} → (S → Option (List ℕ)) → (S → ℕ) → S → S → InputCall
 entire_call remaining failure_count old new =
     input_call remaining failure_count (λ s. Some 0) (λ s. 0) old new
@@ -231,7 +228,7 @@ Answers (ask.Survey recording options) first second Untouched file out status =
 
 -- Each device fails at most once, and only if the status is `Fault`. A command that needs no memory
 -- has the status `Fault` only if a device failed.
-pub record CountsFaults
+pub record CountsDeviceFailures
     (request : Request) (first second : SourceCall) (file out : SinkCall) (status : Status)
     : Type 0 where
   pub first_count : Counts first.old_count status first.new_count

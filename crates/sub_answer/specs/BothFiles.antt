@@ -31,7 +31,7 @@ pub record ReportsSources
       (f : LoadFault) → answer ≡ Err (Subtitles f) → is_load_read_failure f ≡ true → FailsAtBlock
       f.block
   pub pes_failure_is_at_packet : (index : ℕ) → answer ≡ Err (Pes index Read) → FailsAtPes index
-  -- If the subtitle file is rejected or could not be read, no byte of the PES file is read.
+  -- If the answer concerns the subtitle file, no byte of the PES file is read.
   pub before : concerns_subtitle_file ≡ true → Untouched
 
 -- The meaning of the exit status for both files. `PrintsMemory` specifies the output if memory ran

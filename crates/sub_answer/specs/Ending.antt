@@ -3,7 +3,8 @@
 use Rattle.std.specs.Prelude.{◌≡◌, ◌⊎◌, ℕ, ◌+◌, ◌<◌, List, [], ◌∷◌, ◌++◌, length, Option, Some}
 use Rattle.std.specs.Prelude.{Bool, None, false}
 use Rattle.std.specs.Io.KnownBytes.{Keeps, append_known, prepend_known}
-use Rattle.sub_io.specs.Buffered.{Flushes, BufferState, ReadAhead, failures_with_refused_writes}
+use Rattle.sub_io.specs.Buffered.{Flushes, BufferedSinkValue, BufferedSourceValue}
+use Rattle.sub_io.specs.Buffered.{failures_with_refused_calls}
 use Rattle.sub_io.specs.Calls.{PushesBuffered}
 use Rattle.sub_request.specs.Files.{files_of_request}
 use Rattle.sub_request.specs.declared.files.FileNames.{FileNames}
@@ -48,17 +49,17 @@ CountsBuffered {O} buffered buffer_state = (o : O) → buffered o ≡ length (bu
 -- The state of a buffered sink, given the functions for the contents of the sink behind the buffer
 -- and for its number of failed calls.
 abbrev pub state_of_buffer : {D : Type 0}
-    → (D → Option (List ℕ)) → (D → ℕ) → BufferState D → BufferedSinkState
+    → (D → Option (List ℕ)) → (D → ℕ) → BufferedSinkValue D → BufferedSinkState
 state_of_buffer contents failure_count k = record {
   taken = append_known (contents k.device) k.buffered;
   buffered = k.buffered;
-  count = failures_with_refused_writes (failure_count k.device) k.refused;
+  count = failures_with_refused_calls (failure_count k.device) k.refused;
 }
 
 -- A buffered sink before and after a call, given the functions for the contents of the sink behind
 -- the buffer and for its number of failed calls.
 abbrev pub buffered_call : {D : Type 0}
-    → (D → Option (List ℕ)) → (D → ℕ) → BufferState D → BufferState D → SinkCall
+    → (D → Option (List ℕ)) → (D → ℕ) → BufferedSinkValue D → BufferedSinkValue D → SinkCall
 buffered_call contents failure_count old new =
     sink_call (λ k. (state_of_buffer contents failure_count k).taken)
     (λ k. (state_of_buffer contents failure_count k).count) old new
@@ -94,7 +95,7 @@ abbrev pub BufferHoldsOneLineOnly :
     → Type 0
 BufferHoldsOneLineOnly contents failure_count IsPush =
     BuffersOneLineOnly (λ k. append_known (contents k.device) k.buffered) (λ k. k.buffered)
-    (λ k. failures_with_refused_writes (failure_count k.device) k.refused) (PushesBuffered IsPush)
+    (λ k. failures_with_refused_calls (failure_count k.device) k.refused) (PushesBuffered IsPush)
 
 -- The buffer is empty, and no call has failed since the state `old`.
 pub record BuffersNothing
@@ -104,8 +105,8 @@ pub record BuffersNothing
 
 -- The output was flushed last, after the output file had reached this state.
 pub record FlushesWithFile
-    {O F : Type 0} (IsFlushed : O → BufferState F → Status → O → Status → Type 0)
-    (file : BufferState F) (new : O) (result : Status)
+    {O F : Type 0} (IsFlushed : O → BufferedSinkValue F → Status → O → Status → Type 0)
+    (file : BufferedSinkValue F) (new : O) (result : Status)
     : Type 0 where
   pub printed : O
   pub status : Status
@@ -155,9 +156,9 @@ IsEmptyFile first call = call.old ≡ Some []
 -- failed calls, and by the relation for closing.
 pub record IsClosedAfter
     {D : Type 0} (contents : D → Option (List ℕ)) (failure_count : D → ℕ) (IsClose : D → D → Type 0)
-    (request : Request) (old new : BufferState D) (first : InputCall) (call : SinkCall)
+    (request : Request) (old new : BufferedSinkValue D) (first : InputCall) (call : SinkCall)
     : Type 0 where
-  pub left : BufferState D
+  pub left : BufferedSinkValue D
   pub call_eq : call ≡ buffered_call contents failure_count old left
   pub closed : IsClose left.device new.device
   -- Closing the file does not change the bytes in the file's buffer.
@@ -174,12 +175,13 @@ pub record ReadsPartOfFile
     (file left : I) (input : InputCall)
     : Type 0 where
   pub room : ℕ
-  pub new : ReadAhead I
+  pub new : BufferedSourceValue I
   pub left_eq : left ≡ new.device
   pub is_part :
       IsPartOf part (λ s. prepend_known s.buffered (remaining s.device))
       (λ s. failure_count s.device)
-      (let buffer : ReadAhead I = record { device = file; buffered = []; room = room } in buffer)
+      (let buffer : BufferedSourceValue I =
+      record { device = file; buffered = []; room = room } in buffer)
       new
       input
 
@@ -192,7 +194,7 @@ pub record WritesFile
     (first : InputCall) (call : SinkCall)
     : Type 0 where
   pub room : ℕ
-  pub new : BufferState O
+  pub new : BufferedSinkValue O
   pub left_eq : left ≡ new.device
   pub closed :
       IsClosedAfter contents failure_count IsClose request
@@ -267,8 +269,8 @@ abbrev pub write_devices : {I O : Type 0} → Part → I → O → Devices I O
 write_devices part source file =
     record { first = Some source; part = part; second = None; file = Some file }
 
--- The opened files of a request. The argument `part` is for a first input file of PES packets or a
--- recording; other files are read completely.
+-- The opened files of a request. The argument `part` is for a first input file of PES packets; any
+-- other first input file is read completely.
 abbrev pub devices_of : {I O : Type 0} → Part → OpenedFiles I O → Devices I O
 devices_of part Nothing = sources entire_file None None
 devices_of part (ReadStl stl) = sources entire_file (Some stl) None
@@ -350,7 +352,8 @@ pub record Ends
       new
       result
 
--- The line of a fault was printed, and then flushed.
+-- The line of a fault was printed, or only a prefix of it if the sink failed; and then the sink was
+-- flushed, which may also fail.
 pub record PrintsFault
     (fault : UsageFault) (old new : BufferedSinkState) (result : Status)
     : Type 0 where

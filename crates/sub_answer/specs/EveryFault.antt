@@ -38,8 +38,9 @@ use Rattle.sub_listing.specs.FaultLine.{text_of_fault_line}
 use Rattle.sub_listing.specs.declared.status.Status.{Status}
 use Rattle.sub_listing.specs.declared.status.Status.TheVariants.{Fault}
 
--- The subtitle file was rejected or could not be read. The answer `Ok None` means that too many
--- subtitles were rejected for a check of the PES file.
+-- The answer concerns the subtitle file: it could not be read, or memory ran out, or no
+-- transmission can be checked against its reliable subtitles (`Ok None`), since there are none,
+-- they overlap, or the file was not read to its end.
 abbrev pub concerns_subtitle_file : Result (Option Accepted) CheckFault → Bool
 concerns_subtitle_file (Ok None) = true
 concerns_subtitle_file (Ok (Some a)) = false
@@ -79,7 +80,8 @@ pub record ListsBothFiles
   pub listed : IfKnown pes (λ bytes. ListsPesEvents judged options bytes more answer)
 
 -- The events of both files: all faults of the subtitle file, and then, if the PES file can be
--- checked against it, all events of the PES file.
+-- checked against it, all events of the PES file. If a source failed or memory ran out, only the
+-- events before that.
 abbrev pub ListsAllEvents :
     Drawing → OptionsValue → List ℕ → Option (List ℕ) → List Event
     → Result (Option Accepted) CheckFault → Type 0
@@ -109,8 +111,9 @@ IsCheckAnswer programme options bytes answer =
     IsCheckedBy programme options bytes answer
     × (IsFalse options.keeps → options.within ≡ 0 → IsChecked programme options bytes answer)
 
--- The first event determines the answer of `check`, which is correct for the bytes of both files:
--- an accepted transmission is good and robust.
+-- If no subtitle was rejected and the PES file was read completely, the first fault among the
+-- events determines the answer of `check`, which is correct for the bytes of both files
+-- (`IsCheckAnswer`).
 abbrev pub FitsCheckAnswer :
     Drawing → OptionsValue → List ℕ → List ℕ → List Event → Result (Option Accepted) CheckFault
     → Type 0
@@ -151,7 +154,7 @@ pub record ReportsPes
   pub count : CountRisesIf pes.old_count (is_err answer) pes.new_count
   pub read : (n : ℕ) → answer ≡ Err n → FailsAtPesPacket n pes.known pes.left
   pub cut : new.failed ≡ true → IsOk answer
-  -- If no subtitle was rejected, the first event determines the answer of `check`.
+  -- If no subtitle was rejected, the first fault among the events determines the answer of `check`.
   pub checked :
       new.failed ≡ false
       → IfKnown pes.known (λ bytes.
@@ -162,8 +165,8 @@ pub record ReportsPes
   pub listed : IfKnown pes.known (λ bytes. ListsPesEvents judged options bytes events answer)
 
 -- The answer reports the failures of the two sources: it names the block or the PES packet at which
--- a source failed. If the subtitle file is rejected or can't be read, no byte of the PES file is
--- read.
+-- a source failed. If the answer concerns the subtitle file (`concerns_subtitle_file`), no byte of
+-- the PES file is read.
 abbrev pub ReportsBothSources :
     SourceCall → SourceCall → Type 0 → Result (Option Accepted) CheckFault → Type 0
 ReportsBothSources stl pes Untouched answer =
@@ -197,9 +200,9 @@ pub record ReportsBoth
   pub listed :
       IfKnown stl.known (λ file. ListsAllEvents drawing options file pes.known events answer)
 
--- The command `check --all` prints events and has one answer; both depend only on the bytes of the
--- two files. The argument `first` is the number of the first PES packet in its file. `Untouched`
--- means that no byte of the PES file was read.
+-- The command `check --all` prints events and has one answer; unless a device failed or memory ran
+-- out, both depend only on the bytes of the two files. The argument `first` is the number of the
+-- first PES packet in its file. `Untouched` means that no byte of the PES file was read.
 pub record AnswersCheckAll
     (drawing : Drawing) (options : OptionsValue) (stl pes : SourceCall) (first : FirstNumber)
     (Untouched : Type 0) (out : SinkCall) (status : Status)
@@ -216,13 +219,14 @@ pub record AnswersCheckAll
   -- If the bytes of the files are known, they determine the events.
   pub listed :
       IfKnown stl.known (λ file. ListsAllEvents drawing options file pes.known events answer)
-  -- The PES file is left unread only if it can't be checked against the subtitle file.
+  -- Unless a device failed or memory ran out, the PES file is left unread only if it can't be
+  -- checked against the subtitle file.
   pub no_transmission_is_judged :
       status ≢ Fault
       → answer ≡ Ok None
       → IfKnown stl.known (λ file. can_judge drawing file ≡ false)
-  -- Unless a device failed or memory ran out, the answer of `check`, which follows from the events,
-  -- is correct for the bytes of both files.
+  -- Unless a device failed, memory ran out or a subtitle was rejected, the answer of `check`, which
+  -- follows from the events, is correct for the bytes of both files.
   pub checked :
       status ≢ Fault
       → IfKnown stl.known (λ file.

@@ -44,8 +44,9 @@ listing_of first asks_complete end (Ok _) = done (display_text asks_complete end
 listing_of first asks_complete end (Err f) = fault_listing (counted_from first (listen_line f))
 
 -- The output of `listen` for a file with these frames: the page or screen of a receiver that
--- started with an old page, or a fault. The receiver stores the code `leaves` in a cell whose byte
--- has even parity. The remaining bytes of the file are `known` before and `left` after the run.
+-- started with an old page, or a fault. In a cell whose byte has even parity, the receiver stores
+-- the code that `leaves` returns for the cell's old code. The remaining bytes of the file are
+-- `known` before and `left` after the run.
 pub record Listens
     (leaves : ℕ → ℕ) (l : Listening) (first : ℕ) (frames : Transmission)
     (unread : Option UnreadReason)

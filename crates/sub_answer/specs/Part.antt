@@ -10,7 +10,7 @@ use Rattle.sub_request.specs.declared.request.Request.TheVariants as ask
 use Rattle.sub_answer.specs.Answering.{InputCall}
 use Rattle.sub_answer.specs.declared.part.Part.{Part}
 
--- A complete file that is not a transport stream.
+-- All bytes of a file: no PID and no range is selected.
 abbrev pub entire_file : Part
 entire_file = record { stream = None; range = None }
 
@@ -23,8 +23,8 @@ part_requested (ask.Listen pes listening) = record { stream = pes.stream; range 
 part_requested (ask.Extract recording pes stream) = record { stream = Some stream; range = None }
 part_requested _ = entire_file
 
--- The bytes of PES packets that the selected transport packets carry, if the file is a transport
--- stream; otherwise the bytes of the file.
+-- The bytes of the complete PES packets that the selected transport packets carry, with gap markers
+-- where data is missing; or the bytes of the file if no transport packets are selected.
 abbrev pub carried_bytes_if_stream : Option TransportStream → Option (List ℕ) → Option (List ℕ)
 carried_bytes_if_stream None reported = reported
 carried_bytes_if_stream (Some s) reported = option_map

@@ -17,10 +17,10 @@ pub record EndsInFault (text : List ℕ) : Type 0 where
   pub is_fault : status_of fault.kind ≡ Fault
   pub reported : text ≡ before ++ text_of_fault_line fault
 
--- Some lines were printed, or a prefix of them if the sink failed. If the status is `Done`, the
--- first lines and the last line are those of the requested survey of the recording; the lines
--- between them are not specified. Otherwise the status is `Fault`, and unless the sink failed, the
--- last line reports the failure.
+-- Some lines were printed, or a prefix of them if the sink failed. If the status is `Done`, all of
+-- them were printed, and the first lines and the last line are those of the requested survey of the
+-- recording; the lines between them are not specified. Otherwise the status is `Fault`, and unless
+-- the sink failed, the last line reports the failure.
 pub record PrintsSurvey
     (options : SurveyOptions) (recording : Option (List ℕ)) (out : SinkCall) (status : Status)
     : Type 0 where

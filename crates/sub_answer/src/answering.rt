@@ -9,7 +9,7 @@ mod listen;
 mod survey;
 
 ghost use Rattle.std.specs.Prelude.{◌≡◌, ◌<◌, false};
-ghost use Rattle.sub_answer.specs.Answering.{Answers, AnswersFromInputs, CountsFaults};
+ghost use Rattle.sub_answer.specs.Answering.{Answers, AnswersFromInputs, CountsDeviceFailures};
 ghost use Rattle.sub_answer.specs.Answering.{FlushesBeforeRead};
 ghost use Rattle.sub_answer.specs.Answering.{FlushesOutputFile, WritesBeforeRead, drawing_of};
 ghost use Rattle.sub_answer.specs.Answering.{pes_packets_call};
@@ -74,7 +74,7 @@ pub fn answer<S: Source, T: Source, F: Close, K: Flush>(
 
     // Each device fails at most once, and only if the status is `Fault`. A command that needs no
     // memory has the status `Fault` only if a device failed.
-    ensures fault { CountsFaults request.now
+    ensures fault { CountsDeviceFailures request.now
         (source_call S.remaining S.failure_count first.old first.new)
         (source_call T.remaining T.failure_count second.old second.new)
         (sink_call F.contents F.failure_count file.old file.new)
@@ -152,7 +152,7 @@ pub fn answer_from_inputs<S: Source, P: NumberedPesPackets, F: Close, K: Flush>(
     ensures file { writes_file (files_of_request request.now) ≡ false → file.new ≡ file.old }
 
     // Each device fails at most once, and only if the status is `Fault`.
-    ensures fault { CountsFaults request.now
+    ensures fault { CountsDeviceFailures request.now
         (source_call S.remaining S.failure_count first.old first.new)
         (read_call P.remaining P.left P.failure_count pes.old pes.new)
         (sink_call F.contents F.failure_count file.old file.new)

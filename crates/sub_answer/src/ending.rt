@@ -4,7 +4,7 @@
 //! Each kind of request has a function, which passes empty devices for the files that the request
 //! does not name.
 ghost use Rattle.std.specs.Prelude.{◌≡◌, ⊤, false, true, []};
-ghost use Rattle.sub_io.specs.Buffered.{Flushes, failures_with_refused_writes};
+ghost use Rattle.sub_io.specs.Buffered.{Flushes, failures_with_refused_calls};
 ghost use Rattle.sub_io.specs.Device.{CanFail};
 ghost use Rattle.sub_answer.specs.Answering.{StoresOutputFile, first_input, pes_packets_call};
 ghost use Rattle.sub_answer.specs.Answering.{reads_pes_packets, entire_call};
@@ -27,7 +27,7 @@ pub fn answer_without_input<K: Sink>(
     request: &Request<'_>,
     out: &mut BufferedSink<'_, K>,
 ) -> Status
-    requires { failures_with_refused_writes (K.failure_count out.old.device) out.old.refused ≡ 0 }
+    requires { failures_with_refused_calls (K.failure_count out.old.device) out.old.refused ≡ 0 }
     ensures { EndsWith request.now IsEmptySource IsEmptySource ⊤ IsEmptyFile
         (BufferHoldsOneLineOnly K.contents K.failure_count K.is_push)
         (state_of_buffer K.contents K.failure_count out.old)
@@ -48,7 +48,7 @@ pub fn answer_both_inputs<S: Source, P: NumberedPesPackets, K: Sink>(
 ) -> Status
     requires first { CanFail (S.failure_count first.old) }
     requires pes { CanFail (P.failure_count pes.old) }
-    requires out { failures_with_refused_writes (K.failure_count out.old.device) out.old.refused ≡
+    requires out { failures_with_refused_calls (K.failure_count out.old.device) out.old.refused ≡
         0 }
     ensures ends { EndsWith request.now
         (λ input. input ≡ first_input request.now
@@ -62,8 +62,8 @@ pub fn answer_both_inputs<S: Source, P: NumberedPesPackets, K: Sink>(
         (state_of_buffer K.contents K.failure_count out.new) result }
     ensures device { P.device pes.new ≡ P.device pes.old }
 {
-    let (mut fault_line_without_place, mut room) = ([0; 0], [0; 1]);
-    let mut file = BufferedSink::new(MemSink::new(&mut fault_line_without_place), &mut room);
+    let (mut empty_memory, mut room) = ([0; 0], [0; 1]);
+    let mut file = BufferedSink::new(MemSink::new(&mut empty_memory), &mut room);
     answer_and_flush(alloc, request, first, pes, &mut file, out)
 }
 
@@ -77,7 +77,7 @@ pub fn answer_source<S: Source, F: Close, O: FlushPending<F>>(
 ) -> Status
     requires reads { reads_pes_packets request.now ≡ false }
     requires first { CanFail (S.failure_count first.old) }
-    requires file { (failures_with_refused_writes (F.failure_count file.old.device) file.old.refused
+    requires file { (failures_with_refused_calls (F.failure_count file.old.device) file.old.refused
         ≡ 0)
         × (file.old.buffered ≡ []) }
     requires out { O.failure_count out.old ≡ 0 }
@@ -109,7 +109,7 @@ pub fn answer_pes_packets<P: NumberedPesPackets, F: Close, O: FlushPending<F>>(
 ) -> Status
     requires reads { reads_pes_packets request.now ≡ true }
     requires pes { CanFail (P.failure_count pes.old) }
-    requires file { (failures_with_refused_writes (F.failure_count file.old.device) file.old.refused
+    requires file { (failures_with_refused_calls (F.failure_count file.old.device) file.old.refused
         ≡ 0)
         × (file.old.buffered ≡ []) }
     requires out { O.failure_count out.old ≡ 0 }
@@ -146,7 +146,7 @@ fn answer_and_flush<S: Source, P: NumberedPesPackets, F: Close, O: FlushPending<
 ) -> Status
     requires first { CanFail (S.failure_count first.old) }
     requires pes { CanFail (P.failure_count pes.old) }
-    requires file { (failures_with_refused_writes (F.failure_count file.old.device) file.old.refused
+    requires file { (failures_with_refused_calls (F.failure_count file.old.device) file.old.refused
         ≡ 0)
         × (file.old.buffered ≡ []) }
     requires out { O.failure_count out.old ≡ 0 }
@@ -179,7 +179,7 @@ pub fn print_and_flush_usage_fault<K: Sink>(
     fault: &UsageFault,
     out: &mut BufferedSink<'_, K>,
 ) -> Status
-    requires { failures_with_refused_writes (K.failure_count out.old.device) out.old.refused ≡ 0 }
+    requires { failures_with_refused_calls (K.failure_count out.old.device) out.old.refused ≡ 0 }
     ensures says { PrintsFault fault.now (state_of_buffer K.contents K.failure_count out.old)
         (state_of_buffer K.contents K.failure_count out.new) result }
     ensures status { result ≡ Status.Fault }

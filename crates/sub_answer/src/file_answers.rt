@@ -1,7 +1,7 @@
 //! Opens the files that a request names, and answers the request with these files. Each combination
 //! of files has a function.
 ghost use Rattle.std.specs.Prelude.{◌≡◌, ◌⊎◌, ◌≤◌, ⊤, IfErr, IfOk, None, Some, false, length, true};
-ghost use Rattle.sub_io.specs.Buffered.{failures_with_refused_writes};
+ghost use Rattle.sub_io.specs.Buffered.{failures_with_refused_calls};
 ghost use Rattle.sub_request.specs.Files.{files_of_request};
 ghost use Rattle.sub_files.specs.FileCalls.{CallsInOrder};
 ghost use Rattle.sub_files.specs.Opening.{HaveNoFailures, IsOpeningFault};
@@ -23,21 +23,23 @@ use sub_io::{BufferedSink, BufferedSource, MemSink, Sink};
 use sub_listing::Status;
 use sub_request::{Request, UsageFault};
 
-/// Opens the files that the request names, allocates their buffers, and answers the request. Then
-/// flushes the output, and releases the files in their states after the answer. `files` is called
-/// only for files that the request names.
+/// Allocates the buffers for the files that the request names, opens these files, and answers the
+/// request. Then flushes the output, and releases the files in their states after the answer.
+/// `files` is called only for files that the request names and, before an output is created, for
+/// the file that receives standard output.
 ///
 /// # Errors
 ///
 /// Returns `Memory` if memory runs out before a file is opened, and `Open` if a file can't be
-/// opened. In both cases nothing is printed.
+/// opened or created, or if the output might overwrite another file. In both cases nothing is
+/// printed.
 pub fn open_and_answer<D: FileSystem, K: Sink>(
     alloc: Global,
     files: &mut D,
     request: &Request<'_>,
     out: &mut BufferedSink<'_, K>,
 ) -> Result<Status, UsageFault>
-    requires { failures_with_refused_writes (K.failure_count out.old.device) out.old.refused ≡ 0 }
+    requires { failures_with_refused_calls (K.failure_count out.old.device) out.old.refused ≡ 0 }
     ensures ends { IfOk result (Ends (CallsInOrder D.is_call files.old files.new)
         (file_observations D.Input.remaining D.Input.failure_count
         D.Output.contents D.Output.failure_count D.Output.is_stored)
@@ -73,7 +75,7 @@ fn answer_opened<D: FileSystem, K: Sink>(
     out: &mut BufferedSink<'_, K>,
 ) -> Status
     requires buffers { 2 ≤ length buffers.old }
-    requires out { failures_with_refused_writes (K.failure_count out.old.device) out.old.refused ≡
+    requires out { failures_with_refused_calls (K.failure_count out.old.device) out.old.refused ≡
         0 }
     requires no_failures { HaveNoFailures D.Input.failure_count D.Output.failure_count opened }
     requires fits { Fits (files_of_request request.now) opened }
@@ -113,7 +115,7 @@ fn answer_without_files<K: Sink>(
     request: &Request<'_>,
     out: &mut BufferedSink<'_, K>,
 ) -> Status
-    requires { failures_with_refused_writes (K.failure_count out.old.device) out.old.refused ≡ 0 }
+    requires { failures_with_refused_calls (K.failure_count out.old.device) out.old.refused ≡ 0 }
     ensures { EndsWith request.now IsEmptySource IsEmptySource ⊤ IsEmptyFile
         (BufferHoldsOneLineOnly K.contents K.failure_count K.is_push)
         (state_of_buffer K.contents K.failure_count out.old)
@@ -134,7 +136,7 @@ fn answer_one_file<D: FileSystem, K: Sink>(
 ) -> Status
     requires fits { (part ≡ specs.entire_file) ⊎ (reads_pes_packets request.now ≡ true) }
     requires room { 2 ≤ length room.old }
-    requires out { failures_with_refused_writes (K.failure_count out.old.device) out.old.refused ≡
+    requires out { failures_with_refused_calls (K.failure_count out.old.device) out.old.refused ≡
         0 }
     requires no_failures { D.Input.failure_count file ≡ 0 }
     ensures { EndsWithRelease (CallsInOrder D.is_call files.old files.new)
@@ -145,11 +147,8 @@ fn answer_one_file<D: FileSystem, K: Sink>(
         (state_of_buffer K.contents K.failure_count out.old)
         (state_of_buffer K.contents K.failure_count out.new) result }
 {
-    let (mut fault_line_without_place, mut small_buffer) = ([0; 0], [0; 1]);
-    let mut none = BufferedSink::new(
-        MemSink::new(&mut fault_line_without_place),
-        &mut small_buffer,
-    );
+    let (mut empty_memory, mut small_buffer) = ([0; 0], [0; 1]);
+    let mut none = BufferedSink::new(MemSink::new(&mut empty_memory), &mut small_buffer);
     let whole = BufferedSource::new(file, room);
     let (status, whole) = answer_part(alloc, request, part, whole, &mut none, out);
     files.release_input(whole.into_inner());
@@ -168,7 +167,7 @@ fn answer_with_both_files<D: FileSystem, K: Sink>(
 ) -> Status
     requires reads { reads_pes_packets request.now ≡ false }
     requires buffers { 2 ≤ length buffers.old }
-    requires out { failures_with_refused_writes (K.failure_count out.old.device) out.old.refused ≡
+    requires out { failures_with_refused_calls (K.failure_count out.old.device) out.old.refused ≡
         0 }
     requires no_failures { (D.Input.failure_count stl ≡ 0) × (D.Input.failure_count pes ≡ 0) }
     ensures { EndsWithRelease (CallsInOrder D.is_call files.old files.new)
@@ -208,7 +207,7 @@ fn answer_and_write<D: FileSystem, K: Sink>(
 ) -> Status
     requires reads { reads_pes_packets request.now ≡ false }
     requires buffers { 2 ≤ length buffers.old }
-    requires out { failures_with_refused_writes (K.failure_count out.old.device) out.old.refused ≡
+    requires out { failures_with_refused_calls (K.failure_count out.old.device) out.old.refused ≡
         0 }
     requires no_failures { (D.Input.failure_count stl ≡ 0) × (D.Output.failure_count output ≡ 0) }
     ensures { EndsWithRelease (CallsInOrder D.is_call files.old files.new)
@@ -241,7 +240,7 @@ fn answer_and_extract<D: FileSystem, K: Sink>(
 ) -> Status
     requires reads { reads_pes_packets request.now ≡ true }
     requires buffers { 2 ≤ length buffers.old }
-    requires out { failures_with_refused_writes (K.failure_count out.old.device) out.old.refused ≡
+    requires out { failures_with_refused_calls (K.failure_count out.old.device) out.old.refused ≡
         0 }
     requires no_failures { (D.Input.failure_count recording ≡ 0) ×
         (D.Output.failure_count output ≡ 0) }

@@ -1,7 +1,7 @@
 //! Flushes the printed lines after the output file of a run was closed.
 ghost use Rattle.std.specs.Prelude.{◌≡◌, ℕ, List, true};
 ghost use Rattle.std.proofs.Common.{refl};
-ghost use Rattle.sub_io.specs.Buffered.{BufferState, failures_with_refused_writes};
+ghost use Rattle.sub_io.specs.Buffered.{BufferedSinkValue, failures_with_refused_calls};
 ghost use Rattle.sub_io.specs.Device.{CanFail};
 ghost use Rattle.sub_listing.specs.declared.status.Status.{Status};
 ghost use Rattle.sub_answer.specs.Ending.{CountsBuffered, FlushesBuffer, state_of_sink};
@@ -20,7 +20,7 @@ pub trait FlushPending<F: Close>: Flush {
 
     // Relates the output before flushing, the output file, the status of the answer, the output
     // afterwards, and the status of the run.
-    ghost is_flushed: { Self → BufferState F → Status → Self → Status → Type 0 };
+    ghost is_flushed: { Self → BufferedSinkValue F → Status → Self → Status → Type 0 };
 
     /// Flushes the output of a run whose answer has the status `status`, and returns the status of
     /// the run.
@@ -52,7 +52,7 @@ impl<F: Close, K: Sink> FlushPending<F> for BufferedSink<'_, K> {
 
 /// Flushes the output of a run, and returns its status, or `Fault` if flushing fails.
 pub fn flush_all<K: Sink>(status: Status, out: &mut BufferedSink<'_, K>) -> Status
-    requires { CanFail (failures_with_refused_writes
+    requires { CanFail (failures_with_refused_calls
         (K.failure_count out.old.device) out.old.refused) }
     ensures { FlushesBuffer (state_of_buffer K.contents K.failure_count out.old) status
         (state_of_buffer K.contents K.failure_count out.new) result }

@@ -2,8 +2,8 @@
 //!
 //! `answer` answers a `Request` of `sub_request` with any devices, and `print_usage_fault` prints
 //! the line about invalid arguments. `open_and_answer` opens the files that the request names,
-//! answers the request, and flushes the output. This crate uses all lower crates except
-//! `sub_words`, which parses requests.
+//! answers the request, and flushes the output. This crate does not depend on `sub_words`, which
+//! parses requests.
 //!
 //! ```text
 //! let words = ["subttx", "check", "film.stl", "air.ts", "--pid", "257"];

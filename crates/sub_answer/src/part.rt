@@ -9,7 +9,7 @@ use ttx_pes::PesPacketRange;
 #[derive(Clone, Copy)]
 pub struct Part {
     /// The PID and packet size of the transport packets that carry the PES packets; `None` if the
-    /// file itself consists of PES packets.
+    /// bytes of the file itself are read.
     pub stream: Option<TransportStream>,
     /// The selected PES packets, by their numbers in the file; `None` for all.
     pub range: Option<PesPacketRange>,
@@ -41,7 +41,7 @@ pub fn part_requested(request: &Request<'_>) -> Part
     }
 }
 
-/// Returns the part for a complete file that is not a transport stream.
+/// Returns the part that is a complete file, without selecting transport packets.
 pub fn entire_file() -> Part
     ensures { result ≡ specs.entire_file }
 {

@@ -1,7 +1,7 @@
 //! Answers a request with a part of a source. This module creates the readers of PES packets, for a
 //! file or a recording.
 ghost use Rattle.std.specs.Prelude.{◌≡◌, ◌⊎◌, ⊤, None, Some, [], false, true};
-ghost use Rattle.sub_io.specs.Buffered.{Flushes, failures_with_refused_writes};
+ghost use Rattle.sub_io.specs.Buffered.{Flushes, failures_with_refused_calls};
 ghost use Rattle.sub_io.specs.Device.{CanFail};
 ghost use Rattle.sub_answer.specs.Answering.{StoresOutputFile, reads_pes_packets, entire_call};
 ghost use Rattle.sub_answer.specs.Ending.{BufferHoldsOneLineOnly, EndsWith, BuffersOneLineOnly};
@@ -35,7 +35,7 @@ pub fn answer_part<S: Source + Drop, F: Close, O: FlushPending<F>>(
 ) -> (Status, S)
     requires fits { (part ≡ entire_file) ⊎ (reads_pes_packets request.now ≡ true) }
     requires first { CanFail (S.failure_count whole) }
-    requires file { (failures_with_refused_writes (F.failure_count file.old.device) file.old.refused
+    requires file { (failures_with_refused_calls (F.failure_count file.old.device) file.old.refused
         ≡ 0)
         × (file.old.buffered ≡ []) }
     requires out { O.failure_count out.old ≡ 0 }
@@ -80,7 +80,7 @@ fn answer_range<P: NumberedPesPackets, F: Close, O: FlushPending<F>>(
     requires reads { reads_pes_packets request.now ≡ true }
     requires start { P.first pes_packets.old ≡ Some 0 }
     requires pes_packets { CanFail (P.failure_count pes_packets.old) }
-    requires file { (failures_with_refused_writes (F.failure_count file.old.device) file.old.refused
+    requires file { (failures_with_refused_calls (F.failure_count file.old.device) file.old.refused
         ≡ 0)
         × (file.old.buffered ≡ []) }
     requires out { O.failure_count out.old ≡ 0 }
@@ -99,7 +99,7 @@ fn answer_range<P: NumberedPesPackets, F: Close, O: FlushPending<F>>(
         None => answer_pes_packets(alloc, request, pes_packets, file, out),
         Some(range) => {
             let mut some = PartOfPesPackets {
-                inner: LimitedPesPackets::new(pes_packets, range.most()),
+                inner: LimitedPesPackets::new(pes_packets, range.pes_packet_count()),
                 ahead: PesPacketsAhead::new(range.first()),
             };
             answer_pes_packets(alloc, request, &mut some, file, out)
@@ -120,7 +120,7 @@ pub fn answer_second_part<S: Source, T: Source + Drop, K: Sink>(
     requires reads { reads_pes_packets request.now ≡ false }
     requires first { CanFail (S.failure_count first.old) }
     requires second { CanFail (T.failure_count whole) }
-    requires out { failures_with_refused_writes (K.failure_count out.old.device) out.old.refused ≡
+    requires out { failures_with_refused_calls (K.failure_count out.old.device) out.old.refused ≡
         0 }
     ensures { EndsWith request.now
         (λ input. input ≡ entire_call S.remaining S.failure_count first.old first.new)
@@ -158,7 +158,7 @@ fn answer_second_range<S: Source, P: NumberedPesPackets, K: Sink>(
     requires start { P.first pes_packets.old ≡ Some 0 }
     requires first { CanFail (S.failure_count first.old) }
     requires pes_packets { CanFail (P.failure_count pes_packets.old) }
-    requires out { failures_with_refused_writes (K.failure_count out.old.device) out.old.refused ≡
+    requires out { failures_with_refused_calls (K.failure_count out.old.device) out.old.refused ≡
         0 }
     ensures ends { EndsWith request.now
         (λ input. input ≡ entire_call S.remaining S.failure_count first.old first.new)
@@ -173,7 +173,7 @@ fn answer_second_range<S: Source, P: NumberedPesPackets, K: Sink>(
         None => answer_both_inputs(alloc, request, first, pes_packets, out),
         Some(range) => {
             let mut some = PartOfPesPackets {
-                inner: LimitedPesPackets::new(pes_packets, range.most()),
+                inner: LimitedPesPackets::new(pes_packets, range.pes_packet_count()),
                 ahead: PesPacketsAhead::new(range.first()),
             };
             answer_both_inputs(alloc, request, first, &mut some, out)

@@ -4,7 +4,7 @@ use Rattle.sub_io.specs.Device.{failed}
 use Rattle.sub_rules.specs.Fault.{is_failure}
 use Rattle.sub_rules.specs.declared.fault.CheckFault.{CheckFault}
 use Rattle.sub_laws.proofs.DelayOfFilesLemmas.{carries_longer}
-use Rattle.sub_laws.proofs.RepeatLemmas.{law_of_longer_repeats}
+use Rattle.sub_laws.proofs.RepeatLemmas.{law_of_longer_delay_with_repeats}
 use Rattle.sub_checker.specs.declared.accepted.Accepted.{Accepted}
 use Rattle.sub_check.specs.AcceptedWithin.{LawOfAcceptedWithinMore}
 
@@ -30,7 +30,7 @@ law_of_accepted_within_more
             of.files_mean.carries;
       };
       good =
-          law_of_longer_repeats options.keeps
+          law_of_longer_delay_with_repeats options.keeps
           (record { drawing = drawing; records = of.subtitles }) of.transmission options more longer
           of.good;
     })

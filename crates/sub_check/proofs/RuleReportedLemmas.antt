@@ -20,7 +20,7 @@ use Rattle.sub_rules.specs.PesPacketEvents.{all_events_of_pes_packets}
 use Rattle.sub_rules.specs.PesPacketEvents.{closing_events_of_pes_packets}
 use Rattle.sub_rules.specs.PesPacketEvents.{sent_by_pes_packets}
 use Rattle.sub_rules.specs.PesPacketEvents.{steps_of_each, steps_of_pes_packets}
-use Rattle.sub_rules.specs.PesPacketEvents.{reported_of_pes_packets}
+use Rattle.sub_rules.specs.PesPacketEvents.{ungrouped_events_of_pes_packets}
 use Rattle.sub_rules.specs.PesPacketEvents.{unread_fault_events}
 use Rattle.sub_rules.specs.PesPackets.{PesPacket, PesPacketFileValue, pes_packet_file_of}
 use Rattle.sub_rules.specs.PesPackets.PesPacket.{Skipped, Sent}
@@ -177,8 +177,8 @@ module _ (g : Criteria) (left : (f : PesFault) → g.unread ≡ Some (BadPacket 
 
     packet_events_are_rule_faults : (pes_packets : List PesPacket) → AllByRecursion IsSoundPesPacket
         pes_packets
-        → list_any is_not_rule_event (reported_of_pes_packets g pes_packets) ≡ false
-    unfolding reported_of_pes_packets
+        → list_any is_not_rule_event (ungrouped_events_of_pes_packets g pes_packets) ≡ false
+    unfolding ungrouped_events_of_pes_packets
     packet_events_are_rule_faults pes_packets sound =
         let frames = sent_by_pes_packets g pes_packets in
         let closing = closing_events_of_pes_packets g frames (length pes_packets) (length frames) in
@@ -220,10 +220,11 @@ module _ (programme : ProgrammeValue) (options : OptionsValue) (bytes : List ℕ
   first_reported_breaks_rule f is =
       let g = criteria_of programme options file.unread in
       other_fault_breaks_rule f
-      (first_fault_is_not_bad is_not_rule_fault placing_keeps_rule_fault (reported_of_pes_packets g
-      file.pes_packets) f
+      (first_fault_is_not_bad is_not_rule_fault placing_keeps_rule_fault
+      (ungrouped_events_of_pes_packets g file.pes_packets) f
       (packet_events_are_rule_faults g sound.fault file.pes_packets sound.each)
-      (sym (announced_events_keep_first_fault (reported_of_pes_packets g file.pes_packets)) ∙ is))
+      (sym (announced_events_keep_first_fault (ungrouped_events_of_pes_packets g file.pes_packets))
+      ∙ is))
 
   pub first_in_prefix_breaks_rule : (n : ℕ) (f : CheckFault)
       → first_reported_fault (events_of_first_pes_packets programme options bytes n) ≡ Some f

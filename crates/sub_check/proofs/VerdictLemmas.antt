@@ -27,7 +27,7 @@ use Rattle.sub_rules.specs.PesPackets.{PesPacketFileValue, frames_of, joined}
 use Rattle.sub_rules.specs.PesPackets.{pes_packet_file_of}
 use Rattle.sub_rules.specs.Repeats.{GoodWithRepeats}
 use Rattle.sub_rules.specs.Transmission.{EachPacket, SentFrame, Transmission}
-use Rattle.sub_rules.specs.WrongContent.{IsWrongEverywhere}
+use Rattle.sub_rules.specs.WrongContent.{IsWrongForEveryReceiver}
 use Rattle.sub_rules.specs.declared.fault.CheckFault.{CheckFault}
 use Rattle.sub_rules.specs.declared.fault.CheckFault.TheVariants as fault
 use Rattle.sub_rules.proofs.JoinedLemmas.{joined-within, joined_after-read}
@@ -36,7 +36,7 @@ use Rattle.sub_checker.specs.ReadCounts.{AreCountsOfFrames}
 use Rattle.sub_checker.specs.declared.accepted.Accepted.{Accepted}
 use Rattle.sub_laws.specs.OnScreen.{Complete}
 use Rattle.sub_laws.specs.Planned.{planned}
-use Rattle.sub_laws.proofs.ContentLemmas.{wrong_cell_is_wrong_everywhere}
+use Rattle.sub_laws.proofs.ContentLemmas.{wrong_cell_is_wrong_for_every_receiver}
 use Rattle.sub_laws.proofs.GoodWithRepeatsLemmas.{law_of_good_with_repeats, law_of_no_delay}
 use Rattle.sub_laws.proofs.GoodWithRepeatsLemmas.{law_of_plan_repeats}
 use Rattle.sub_laws.proofs.GoodLemmas.{rising_frames_rise_at_each_index, whole-is}
@@ -311,9 +311,9 @@ module _ (programme : ProgrammeValue) (options : OptionsValue) (is : IsOptions o
               (law_of_good programme t options both.0, both.1);
           content = λ frame row column e.
               subst
-              (λ (t : Transmission). IsWrongEverywhere programme options t frame row column)
+              (λ (t : Transmission). IsWrongForEveryReceiver programme options t frame row column)
               (joined-within options.within (pes_file_of (clock_of options) bytes).frames at_once)
-              (wrong_cell_is_wrong_everywhere programme options _ frame row column none
+              (wrong_cell_is_wrong_for_every_receiver programme options _ frame row column none
               (by.content frame row column e));
         }
       where

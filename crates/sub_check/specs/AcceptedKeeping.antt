@@ -2,7 +2,7 @@
 -- with it; and conversely, if no header keeps the page.
 use Rattle.std.specs.Prelude.{◌≡◌, ℕ, true, false, List, IsFalse, IsOk, Result}
 use Rattle.sub_io.specs.Device.{failed}
-use Rattle.ttx_page.specs.Noise.{ErasesPage}
+use Rattle.ttx_page.specs.Noise.{ErasesPageIfHeader}
 use Rattle.stl_file.specs.Subtitle.{SubtitleValue}
 use Rattle.stl_rows.specs.declared.layout.Drawing.{Drawing}
 use Rattle.sub_plan.specs.Options.{OptionsValue}
@@ -32,7 +32,7 @@ LawOfAcceptedKeeping =
 
 -- A subtitle file and a PES file that are accepted if repeats may keep the page are also accepted
 -- if each header must erase the page (C4), provided that each header of the page in the
--- transmission does.
+-- transmission does, unless a source fails or an allocation is refused.
 abbrev pub LawOfAcceptedWithoutKeeping : Type 0
 LawOfAcceptedWithoutKeeping =
     (drawing : Drawing) (options : OptionsValue) (stl pes : List ℕ)
@@ -41,7 +41,7 @@ LawOfAcceptedWithoutKeeping =
     → IsResultOfCheckFiles drawing (with_keeping options) stl pes answer
     → ((subtitles : List SubtitleValue) (transmission : Transmission)
     → FilesMeanWithin drawing options stl pes subtitles transmission
-    → EachPacket (ErasesPage options.page) transmission)
+    → EachPacket (ErasesPageIfHeader options.page) transmission)
     → IsResultOfCheckFiles drawing options stl pes later
     → failed is_failure later ≡ false
     → IsOk answer

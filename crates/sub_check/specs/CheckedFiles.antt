@@ -36,7 +36,7 @@ use Rattle.sub_laws.specs.Stretch.{HasPromises}
 use Rattle.sub_laws.specs.UnexpectedContent.{IsNotRightOnAir}
 use Rattle.sub_rules.specs.PesPacketEvents.{all_events_of_pes_packets, events_of_pes_packets}
 use Rattle.sub_rules.specs.PesPackets.{frames_of, joined, pes_packet_file_of}
-use Rattle.sub_rules.specs.WrongContent.{IsWrongEverywhere}
+use Rattle.sub_rules.specs.WrongContent.{IsWrongForEveryReceiver}
 use Rattle.sub_checker.specs.ReadCounts.{AreCountsOfFrames}
 use Rattle.sub_checker.specs.declared.accepted.Accepted.{Accepted}
 use Rattle.sub_rules.specs.declared.fault.CheckFault.{CheckFault}
@@ -75,8 +75,9 @@ pub record FilesMean
   -- the PTS and the Teletext packets of that frame.
   pub carries : Carries origin pes transmission
 
--- Both files are accepted with the default options, without any delay: they contain some subtitles
--- and a good transmission of these, with complete pages if the options require them.
+-- Both files are accepted with options that allow no delay and require C4 (erase page) in each
+-- header of the page: they contain some subtitles and a good transmission of these, with complete
+-- pages if the options require them.
 pub record IsAccepted
     (drawing : Drawing) (options : OptionsValue) (stl pes : List ℕ) : Type 0 where
   pub subtitles : List SubtitleValue
@@ -85,8 +86,8 @@ pub record IsAccepted
   pub good : Good (record { drawing = drawing; records = subtitles }) transmission options
   pub complete : IsTrue options.asks_complete → Complete transmission options
 
--- `check_files` may return `answer` for the bytes of both files, with the default options, without
--- any delay.
+-- `check_files` may return `answer` for the bytes of both files, with options that allow no delay
+-- and require C4 (erase page) in each header of the page.
 pub record IsResultWithoutDelay
     (drawing : Drawing) (options : OptionsValue) (stl pes : List ℕ)
     (answer : Result Accepted CheckFault)
@@ -106,8 +107,8 @@ pub record IsResultWithoutDelay
 
 -- ---- the contents of both files, with any options
 
--- The contents of both files with any options: a PTS may be slightly early or late, and PES packets
--- of the same frame are merged.
+-- The contents of both files with any options. If `within` is not 0, a PTS may be slightly early or
+-- late, and consecutive PES packets of the same frame are merged.
 pub record FilesMeanWithin
     (drawing : Drawing) (options : OptionsValue) (stl pes : List ℕ)
     (subtitles : List SubtitleValue) (transmission : Transmission)
@@ -207,10 +208,10 @@ pub record IsCheckedBy
       → answer ≡ Err (fault.Pes pes Read)
       → (pes ≤ length (pes_packet_file_of (clock_of options) bytes).pes_packets)
       × (first_reported_fault (events_of_first_pes_packets programme options bytes pes) ≡ None)
-  -- If the fault is `Content`, the cell that the fault names is wrong for receivers that start at
-  -- the first packet and receive each bit correctly. They show another code or, if repeats may keep
-  -- the page, the row of the cell was not sent again. If the page may still become right later, the
-  -- code that they show was expected at none of the last `within` frames.
+  -- If the fault is `Content`, the cell that the fault names is wrong (`IsNotRightOnAir`) for
+  -- receivers that start at the first packet, receive each bit correctly, and have no old text.
+  -- They have another code or, if repeats may keep the page, the row of the cell was not sent
+  -- again. If the page may still become right later, their code is not allowed (`IsDueWithin`).
   pub content :
       (frame row column : ℕ)
       → answer ≡ Err (fault.Content frame row column)
@@ -227,8 +228,8 @@ pub record IsCheckedBy
       → failed is_pes_read_failure answer ≡ false
       → IsOk answer
 
--- The result with the default options (each header erases the page, and no delay is allowed), in
--- terms of the seven rules. `IsCheckedBy` is true as well.
+-- The result with options that allow no delay and require C4 (erase page) in each header of the
+-- page, in terms of the seven rules. `IsCheckedBy` is true as well.
 pub record IsChecked
     (programme : ProgrammeValue) (options : OptionsValue) (bytes : List ℕ)
     (answer : Result Accepted CheckFault)
@@ -252,12 +253,12 @@ pub record IsChecked
       → HasPromises programme transmission options
       × (IsTrue options.asks_complete → Complete transmission options)
   -- If the fault is `Content`, every receiver that starts at the first packet and receives each bit
-  -- correctly shows a code other than the expected one in the cell that the fault names.
+  -- correctly has a code other than the expected one in the cell that the fault names.
   pub content :
       (frame row column : ℕ)
       → answer ≡ Err (fault.Content frame row column)
-      → IsWrongEverywhere programme options (pes_file_of (clock_of options) bytes).frames frame row
-      column
+      → IsWrongForEveryReceiver programme options (pes_file_of (clock_of options) bytes).frames
+      frame row column
 
 -- The result for the bytes of a subtitle file, and for the bytes of a PES file if these are known.
 pub record AreChecked

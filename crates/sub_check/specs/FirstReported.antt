@@ -24,7 +24,8 @@ rule_fault_in_event (Ended rule frame) = None
 rule_fault_in_event (SkippedUntil f) = None
 rule_fault_in_event (Trusted from to) = None
 
--- How an event changes a `FirstFault`: it stores the first fault, after which no event is reported
--- to it.
+-- How an event changes a `FirstFault`: it stores the fault of the first event that reports a broken
+-- rule, after which no event is reported to it. It stores no fault of the subtitle file and no
+-- device failure.
 abbrev pub KeepsFirstFault : Option CheckFault → Event → Option CheckFault → Type 0
 KeepsFirstFault old event new = (old ≡ None) × (new ≡ rule_fault_in_event event)

@@ -103,7 +103,7 @@ fn report_all_faults<P: PesPackets, A: LiveReportSink<Event>>(
 ///
 /// # Errors
 ///
-/// Returns `Pes` with `Read` if a device failed. The events of all PES packets before the failure
+/// Returns `Pes` with `Read` if the source failed. The events of all PES packets before the failure
 /// have been reported.
 pub fn check_all_pes_packets<P: PesPackets, A: LiveReportSink<Event>>(
     judging: &Judging<'_>,

@@ -25,31 +25,31 @@ use sub_plan::Options;
 use sub_rules::{CheckFault, Event};
 use ttx_pes::{FilePesPackets, PesFault};
 
-/// Checks a PES file against a programme. The file is accepted exactly if it carries a good
-/// transmission of the programme, with complete pages if the options require them. Otherwise the
-/// result is the first fault that `check_all` reports.
+/// Checks a PES file against a programme. The file is accepted exactly if it carries a transmission
+/// of the programme that is good by the options. Otherwise the result is the first fault that
+/// `check_all` reports.
 ///
 /// The check reads one PES packet at a time and allocates no memory. It stores one PES packet, one
-/// received page, the expected page, and a flag for each row received since the last header of the
-/// page. The expected page is drawn again only when a subtitle begins or ends. Packets that begin
-/// with a header of the page and equal those of the PES packet before, byte for byte, are not
-/// examined again.
+/// received page, the expected page, and for each row whether it was received since the last header
+/// of the page and since the last header that erased it. The expected page is drawn again only when
+/// a subtitle begins or ends. Packets that begin with a header that erases the page and equal those
+/// of the PES packet before, byte for byte, are not examined again.
 ///
 /// # Errors
 ///
 /// Returns the first fault in this order. For each PES packet: its own fault as `Pes`, `OffFrame`
-/// or `Order`; for the first PES packet `Early`; for each frame before it `Content`, then `Gap`;
-/// for its Teletext packets in order `Address` to `Enhancement`; for the first PES packet
-/// `NoFirstHeader`; then `Content`, `Gap`, and, if complete pages are required, `Incomplete`. At
-/// the end of the file: `Empty` or `Late`. Returns `Pes` with `Read` exactly if the source failed
-/// in this call.
+/// or `Order`; for the first PES packet `Early`; for each frame before it `Content`, then `Gap`
+/// and, if there is a pace, `Silent`; for its Teletext packets in order `Address` to `Enhancement`;
+/// for the first PES packet `NoFirstHeader`; then `Content`, `Gap`, and, if complete pages are
+/// required, `Incomplete`. At the end of the file: `Empty` or `Late`. Returns `Pes` with `Read`
+/// exactly if the source failed in this call.
 ///
 /// If `within` is not 0, a frame ends at the next PES packet of another frame or at the end of the
-/// file. `Incomplete` is then returned only when the allowed delay has passed. Before that,
-/// `Content` is returned only for a code that was expected at none of the last `within` frames.
-/// `Late` is also returned if the file ends before a page is right, within the allowed delay. If
-/// repeats may keep the page, `Control` allows a header that repeats the page, and `Content` is
-/// returned if a row with text is not sent again.
+/// file. `Incomplete` is then returned only when the page is overdue. Before that, `Content` is
+/// returned only for a code, other than a space, that was expected neither at this frame nor at one
+/// of the `within` frames before. `Late` is also returned if the file ends before a page is right,
+/// within the allowed delay. If repeats may keep the page, `Control` allows a header that repeats
+/// the page, and `Content` is returned if a row with text is not sent again.
 pub fn check<S: Source>(
     programme: &Programme,
     source: &mut S,
@@ -92,7 +92,8 @@ pub fn check<S: Source>(
 /// If no PES packet can be found in the remaining bytes, their fault is the last event.
 ///
 /// If subtitles were refused, the expected page of some frames is unknown. At these frames cells
-/// are not checked, and `Undecided` is reported. Trusted frames are always reported.
+/// are not checked, and `Undecided` is reported, also for the `within` frames after them. Trusted
+/// frames are always reported then.
 ///
 /// Returns the counts: the number of frames from the frame of the first PES packet to the latest
 /// frame, and the number of headers of the page. Returns `None` if the report sink stopped the

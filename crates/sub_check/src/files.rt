@@ -56,7 +56,8 @@ pub fn check_files<S: Source, P: Source>(
         IfKnown (P.remaining pes.old) (λ bytes.
         IsResultOfCheckFiles (drawing_within national layout scope) options.now file bytes
         result)) }
-    // If the bytes are known, they determine the returned fault and its place.
+    // If the bytes are known, they determine the returned fault and its place, unless a source
+    // fails or an allocation is refused.
     ensures checked { IfKnown (S.remaining stl.old) (λ file.
         AreChecked (drawing_within national layout scope) options.now file (P.remaining pes.old)
         result) }

@@ -1,6 +1,7 @@
 //! Laws: files that are accepted with some options are also accepted with others.
 //!
-//! The functions have no body; each contract states a law about the definitions in `specs/`.
+//! The functions have no body; each contract states a law about the definitions in `specs/`. The
+//! laws exclude checks in which a source fails or an allocation is refused.
 ghost use Rattle.sub_check.specs.AcceptedKeeping.{LawOfAcceptedKeeping};
 ghost use Rattle.sub_check.specs.AcceptedKeeping.{LawOfAcceptedWithoutKeeping};
 ghost use Rattle.sub_check.specs.AcceptedWithin.{LawOfAcceptedWithinMore};

@@ -16,7 +16,8 @@ use Rattle.sub_checker.specs.Checker.{is_currently_undecided, current_unexpected
 use Rattle.sub_rules.specs.Events.{no_active_faults, is_silent_for, was_due}
 use Rattle.sub_checker.proofs.UndecidedLemmas.{was-here}
 
--- A code that is expected now was expected within the last frames.
+-- A code that is expected at frame f is one that was expected at frame f or in the n frames before
+-- it.
 code_due_now_was_due : (due : ℕ → Rows) (first f n row column code : ℕ)
     → (cell (due f) row column == code) ≡ true
     → was_due due first f n row column code ≡ true

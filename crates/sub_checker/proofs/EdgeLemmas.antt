@@ -46,7 +46,7 @@ next_cue_stays records frame f (Some edge) reports low before =
       least = λ e is l. reports.least e is (omega arith);
     }
 
--- `IsAtFrame` stays true until the next change of the expected page.
+-- `IsAtFrame` stays true until the next cue.
 pub IsAtFrame-later :
     (p : ProgrammeValue) (every : ℕ) (s : Listener) (first latest_frame last frame : ℕ)
     (edge : Option ℕ) (f : ℕ)
@@ -59,8 +59,8 @@ IsAtFrame-later p every s first latest_frame last frame edge f small is low befo
     let k : frame + (f - frame) ≡ f = omega arith in
     grind (arith, nat_tests, due_until, next_cue_stays)
 
--- If `IsJudged` is true at a frame, it is true at each later frame. From the next change of the
--- expected page on, it requires nothing of `first_known_from`.
+-- If `IsJudged` is true at a frame, it is true at each later frame. From the next cue on, it
+-- requires nothing of `first_known_from`.
 pub IsJudged-later :
     (j : JudgedValue) (p : ProgrammeValue) (any_unreliable : Bool) (first within frame : ℕ)
     (edge : Option ℕ) (first_known_from f : ℕ)

@@ -4,7 +4,7 @@ use Rattle.std.proofs.lemmas.Bool.{true≢false}
 use Rattle.sub_io.proofs.ReportingLemmas.{Reports-none, Reports-trans, ReportsPrefix-first}
 use Rattle.sub_io.proofs.ReportingLemmas.{ReportsPrefix-second, ReportsPrefix-whole}
 use Rattle.std.proofs.Common.{ℕ, ap, inl, inr, not, take}
-use Rattle.sub_io.specs.Flushing.{FlushesIfPending, FlushKeepsReports}
+use Rattle.sub_io.specs.Flushing.{FlushesOnlyIfPending, FlushKeepsReports}
 use Rattle.sub_io.specs.Reporting.{Reports, ReportsInOrder, ReportsPrefix, ReportsSome}
 use Rattle.sub_checker.specs.FusedAudience.{ReportsUnlessStopped}
 use Rattle.sub_rules.specs.declared.event.Event.{Event}
@@ -88,7 +88,7 @@ pub flushing_stopped_device_keeps_it : {A D : Type 0} {IsReported : D → A → 
     {IsFlushed : D → Bool → D → Type 0}
     → FlushKeepsReports IsReported has_stopped has_pending_reports buffered IsFlushed
     → (old new : D) (ok : Bool)
-    → FlushesIfPending has_pending_reports IsFlushed old ok new
+    → FlushesOnlyIfPending has_pending_reports IsFlushed old ok new
     → has_stopped old ≡ false
     → has_stopped new ≡ not ok
 flushing_stopped_device_keeps_it {A} {D} {IsReported} {has_stopped} stays old new ok (inl same)

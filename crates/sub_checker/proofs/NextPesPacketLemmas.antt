@@ -8,10 +8,10 @@ use Rattle.sub_rules.specs.PacketRules.{packets_of_units}
 use Rattle.sub_rules.specs.declared.pes_packet.NextPesPacket.{NextPesPacket}
 use Rattle.sub_rules.specs.declared.pes_packet.NextPesPacket.TheVariants as next
 use Rattle.sub_rules.specs.declared.fault.CheckFault.{CheckFault}
-use Rattle.sub_rules.specs.declared.sending.Sending.{Sending}
+use Rattle.sub_rules.specs.declared.valid_pes_packet.ValidPesPacket.{ValidPesPacket}
 use Rattle.sub_checker.specs.NextPesPackets.{RepeatsLastPacket, is_skipped, last_packets_after_read}
 
-pub result_is_sending : {n : Option NextPesPacket} {r : NextPesPacket} {s : Sending}
+pub result_is_sending : {n : Option NextPesPacket} {r : NextPesPacket} {s : ValidPesPacket}
     → n ≡ Some r
     → r ≡ next.Sent s
     → (let x : Result (Option NextPesPacket) CheckFault = Ok n in x) ≡ Ok (Some (next.Sent s))
@@ -23,7 +23,7 @@ pub again_is : {old new : List UnitValue} {n : Option NextPesPacket} (r : NextPe
     (skipped : Bool)
     (last : List (List ℕ))
     → n ≡ Some r
-    → ((s : Sending)
+    → ((s : ValidPesPacket)
     → (let x : Result (Option NextPesPacket) CheckFault = Ok n in x) ≡ Ok (Some (next.Sent s))
     → s.again ≡ true
     → new ≡ old)

@@ -18,7 +18,7 @@ use Rattle.sub_rules.specs.PacketRules.{packets_of_units}
 use Rattle.sub_rules.specs.PesPacketEvents.{announced_events, all_events_of_pes_packets}
 use Rattle.sub_rules.specs.PesPacketEvents.{events_of_pes_packets, no_run}
 use Rattle.sub_rules.specs.PesPacketEvents.{sent_by_pes_packets, steps_of_each, steps_of_sent}
-use Rattle.sub_rules.specs.PesPacketEvents.{reported_of_pes_packets}
+use Rattle.sub_rules.specs.PesPacketEvents.{ungrouped_events_of_pes_packets}
 use Rattle.sub_rules.specs.PesPackets.{PesPacket, PesPacketFileValue, ReadsPesPacket}
 use Rattle.sub_rules.specs.PesPackets.{ReadsPesPackets, frames_of}
 use Rattle.sub_rules.specs.PesPackets.{ReportsPesPacket, joined_after, pes_packet_of}
@@ -32,7 +32,7 @@ use Rattle.sub_rules.specs.declared.event.Event.TheVariants.{Reported}
 use Rattle.sub_rules.specs.declared.fault.CheckFault.{CheckFault}
 use Rattle.sub_rules.specs.declared.pes_packet.NextPesPacket.{NextPesPacket}
 use Rattle.sub_rules.specs.declared.pes_packet.NextPesPacket.TheVariants as next
-use Rattle.sub_rules.specs.declared.sending.Sending.{Sending}
+use Rattle.sub_rules.specs.declared.valid_pes_packet.ValidPesPacket.{ValidPesPacket}
 use Rattle.sub_rules.proofs.JoinedLemmas.{frames_of-append, joined_after-push}
 use Rattle.sub_rules.proofs.JoinedLemmas.{steps_of_each-append}
 use Rattle.sub_rules.proofs.PesPacketFileLemmas.{pes_packets_at-next}
@@ -45,7 +45,7 @@ use Rattle.sub_checker.specs.NextPesPackets.{frames_after_read, steps_of_read_pa
 use Rattle.sub_checker.specs.Relay.{initial_relay, relayed_events, relay_after}
 use Rattle.sub_checker.specs.PesFileEvents.{MatchesReadFile, ReportsPesPackets, events_with_run_end}
 use Rattle.sub_checker.specs.LastEvents.{FinishesReporting}
-use Rattle.sub_checker.specs.ReadCounts.{CarryFrames, AreComplete, AreCountsOfFrames}
+use Rattle.sub_checker.specs.ReadCounts.{CarryFrames, HaveCompletePackets, AreCountsOfFrames}
 use Rattle.sub_checker.specs.declared.reporter.Relay.{Relay}
 use Rattle.sub_checker.specs.declared.accepted.Accepted.{Accepted}
 use Rattle.sub_checker.proofs.RelayLemmas.{after-append, after-none, skipped-append}
@@ -186,7 +186,7 @@ module _ (g : Criteria) (all : List PesPacket) where
   all_events_are_finished_events : all_events_of_pes_packets g all
       ≡ events_with_run_end initial_relay
       (steps_of_all_pes_packets g all ++ closing)
-  unfolding all_events_of_pes_packets reported_of_pes_packets relayed_events relay_after
+  unfolding all_events_of_pes_packets ungrouped_events_of_pes_packets relayed_events relay_after
   all_events_are_finished_events = grind (arith, nat_tests, reports_agree, append_assoc)
 
   whole : all_events_of_pes_packets g all
@@ -370,7 +370,7 @@ module _ (judging : JudgedValue) {options : OptionsValue} {bytes : List ℕ}
             (subst (λ (l : List PesPacket). CarryFrames clock bytes (frames_of l) at.rest)
             no_packet_is_left
             taken);
-        whole = subst (λ (l : List PesPacket). AreComplete (frames_of l)) no_packet_is_left
+        whole = subst (λ (l : List PesPacket). HaveCompletePackets (frames_of l)) no_packet_is_left
             at.whole;
         counts = subst (λ (l : List PesPacket). AreCountsOfFrames options.page
             (sent_by_pes_packets g l) a)
@@ -497,7 +497,9 @@ module _ (judging : JudgedValue) {options : OptionsValue} {bytes : List ℕ}
         (v : PesValue) (r : NextPesPacket) (e : CheckerValue) (then : Relay) (a b d : D)
         → after ≡ Some (rest_after_pes_packet at.rest)
         → ReportsPesPacket clock pes at.rest at.ahead unread v (Ok (Some r))
-        → ((s : Sending) → r ≡ next.Sent s → TakesValidPesPacket remaining after v × IsPesValue v)
+        → ((s : ValidPesPacket)
+        → r ≡ next.Sent s
+        → TakesValidPesPacket remaining after v × IsPesValue v)
         → BetweenPesPackets g
         (frames_after_read g (frames_sent_by g done) r (packets_of_units v.units))
         (last_packets_after_read last r (packets_of_units v.units)) e

@@ -17,9 +17,9 @@ use Rattle.sub_rules.specs.PesPacketEvents.{SkippedRun}
 use Rattle.sub_checker.specs.declared.trust_tracker.TrustTracker.{TrustTracker}
 use Rattle.sub_rules.proofs.PesPacketEventLemmas.{announced_events-append, skipped_run_after-append}
 use Rattle.sub_checker.specs.FusedAudience.{ReportsUnlessStopped}
-use Rattle.sub_checker.specs.SkippedPesPackets.{skipped_run_of, stored_run}
+use Rattle.sub_checker.specs.StoredSkippedRun.{skipped_run_of, stored_run}
 use Rattle.sub_checker.specs.Relay.{IsRelayed, ReporterRelays, at_step, relay_after, relayed_events}
-use Rattle.sub_checker.specs.declared.skipped_run.SkippedPesPackets.{SkippedPesPackets}
+use Rattle.sub_checker.specs.declared.skipped_run.StoredSkippedRun.{StoredSkippedRun}
 use Rattle.sub_checker.specs.declared.reporter.Relay.{Relay}
 use Rattle.sub_checker.specs.declared.reporter.Reporter.{Reporter}
 use Rattle.sub_checker.proofs.TrustTrackerLemmas.{events_of_steps-append, tracker_after-append}
@@ -108,7 +108,7 @@ reporting_one_step_relays_it IsReported s t m es is tracker reported run = grind
   relay_state_after_one_step,
 )
 
-pub announcing_appends_one_event : (run : SkippedRun) (mid : SkippedPesPackets) (xs : List Event)
+pub announcing_appends_one_event : (run : SkippedRun) (mid : StoredSkippedRun) (xs : List Event)
     (e : Event)
     → mid ≡ stored_run (skipped_run_after_events run xs)
     → announced_events run (xs ++ e ∷ []) ≡ announced_events run xs ++ announced
@@ -121,14 +121,14 @@ announcing_appends_one_event run mid xs e is = grind (
   append-nil,
 )
 
-pub skipped_run_is_kept_after_event : (run : SkippedRun) (mid : SkippedPesPackets) (xs : List Event)
+pub skipped_run_is_kept_after_event : (run : SkippedRun) (mid : StoredSkippedRun) (xs : List Event)
     (e : Event)
     → mid ≡ stored_run (skipped_run_after_events run xs)
     → stored_run (skipped_run_after (skipped_run_of mid) e) ≡ stored_run (skipped_run_after_events
     run (xs ++ e ∷ []))
 unfolding skipped_run_after_events
 skipped_run_is_kept_after_event run mid xs e is =
-    ap (λ (r : SkippedPesPackets). stored_run (skipped_run_after (skipped_run_of r) e)) is
+    ap (λ (r : StoredSkippedRun). stored_run (skipped_run_after (skipped_run_of r) e)) is
     ∙ sym (ap stored_run (skipped_run_after-append run xs (e ∷ [])))
 
 pub emitted_event_reports_trusted_frames : (t u : TrustTracker) (e named : Event)

@@ -13,7 +13,7 @@ use Rattle.ttx_pes.specs.PesPackets.{rest_after_pes_packet}
 use Rattle.sub_rules.specs.Transmission.{SentFrame, Transmission}
 use Rattle.sub_rules.specs.declared.fault.CheckFault.{CheckFault}
 use Rattle.sub_rules.proofs.JoinedLemmas.{frames_of-append}
-use Rattle.sub_checker.specs.ReadCounts.{CarryFrames, AreComplete}
+use Rattle.sub_checker.specs.ReadCounts.{CarryFrames, HaveCompletePackets}
 use Rattle.std.proofs.lemmas.List.Elements.{All-from_recursion}
 use Rattle.std.proofs.lemmas.Slice.Zip.{AllZip-long, all_zipped_more}
 use Rattle.std.specs.List.{AllByRecursion, AllZip}
@@ -49,7 +49,7 @@ pub record ReadsRemainingBytes
   pub taken :
       length (frames_of done) ≡ length done
       → CarryFrames (clock_of options) bytes (frames_of done) rest
-  pub whole : AreComplete (frames_of done)
+  pub whole : HaveCompletePackets (frames_of done)
 
 pub reading_starts_at_all_bytes : (options : OptionsValue) (all : List PesPacket)
     (unread : Option UnreadReason)
@@ -140,9 +140,10 @@ pub read_fault_names_pes_packet : (f : CheckFault) (n pes : ℕ)
 read_fault_names_pes_packet f n pes here is = let same = sym here in cc
 
 has_complete_packets : (frames : Transmission) (v : PesValue) (frame : ℕ)
-    → AreComplete frames
+    → HaveCompletePackets frames
     → IsPesValue v
-    → AreComplete (frames ++ record { frame = frame; packets = packets_of_units v.units } ∷ [])
+    → HaveCompletePackets
+    (frames ++ record { frame = frame; packets = packets_of_units v.units } ∷ [])
 has_complete_packets frames v frame before is =
     let whole = complete_units v.units is.each in
     grind (arith, nat_tests, Each-push, All-from_recursion)
@@ -158,7 +159,7 @@ module _ (options : OptionsValue) (bytes : List ℕ) (all : List PesPacket)
         → (length (frames_of (done ++ p ∷ [])) ≡ length (done ++ p ∷ [])
         → CarryFrames (clock_of options) bytes (frames_of (done ++ p ∷ []))
         (rest_after_pes_packet at.rest))
-        → AreComplete (frames_of (done ++ p ∷ []))
+        → HaveCompletePackets (frames_of (done ++ p ∷ []))
         → ReadsRemainingBytes options bytes all unread after (pes + 1) (done ++ p ∷ [])
     reading_continues_after_packet p next taken whole = record {
       ahead = next.more;
@@ -200,7 +201,8 @@ module _ (options : OptionsValue) (bytes : List ℕ) (all : List PesPacket)
           length-append (frames_of done) (s ∷ []),
           length-append done (Sent s ∷ []),
         ))) at.rest_eq left takes of))
-        (subst AreComplete (sym list) (has_complete_packets (frames_of done) v frame at.whole
+        (subst HaveCompletePackets (sym list)
+        (has_complete_packets (frames_of done) v frame at.whole
         value))
 
     pub reading_continues_after_skipped_packet : (u : UnreadReason)
@@ -213,4 +215,4 @@ module _ (options : OptionsValue) (bytes : List ℕ) (all : List PesPacket)
         let few = frames_are_at_most_packets done in
         reading_continues_after_packet (Skipped u) next
         (λ e. absurd (omega (arith, e, few, ap length list, length-append done (Skipped u ∷ []))))
-        (subst AreComplete (sym list) at.whole)
+        (subst HaveCompletePackets (sym list) at.whole)

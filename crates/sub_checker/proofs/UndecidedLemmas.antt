@@ -15,7 +15,7 @@ use Rattle.sub_rules.specs.Events.{was_undecided}
 use Rattle.sub_rules.specs.FrameRules.{is_due_undecided}
 use Rattle.sub_checker.specs.Checker.{IsKnownFrom, is_before}
 
--- No page change occurs after frame f and up to frame g.
+-- No cue comes after frame f and up to frame g.
 abbrev NoPageChange : List SubtitleValue → ℕ → ℕ → Type 0
 NoPageChange ts f g = (e : ℕ) → IsEdge ts e → f < e → e ≤ g → ⊥
 

@@ -15,11 +15,11 @@ use Rattle.sub_rules.specs.PacketRules.{header_count, packets_of_units}
 use Rattle.sub_rules.specs.Transmission.{SentFrame}
 use Rattle.sub_rules.specs.Trusted.{CheckStep}
 use Rattle.sub_rules.specs.Trusted.CheckStep.{AtEnd, GoesBack, Emits}
-use Rattle.sub_rules.specs.declared.sending.Sending.{Sending}
+use Rattle.sub_rules.specs.declared.valid_pes_packet.ValidPesPacket.{ValidPesPacket}
 use Rattle.sub_rules.specs.declared.active_faults.ActiveFaults.{ActiveFaults}
 use Rattle.sub_packets.specs.StoredPage.{is_kept_page_incomplete, first_unexpected_kept_cell}
 use Rattle.sub_packets.specs.StoredPage.{first_wrong_kept_cell}
-use Rattle.sub_packets.specs.Listener.{KnowsLast, begins_frame_with_header}
+use Rattle.sub_packets.specs.Listener.{KnowsLast, frame_has_text_beginning}
 use Rattle.sub_packets.specs.declared.listener.Listener.{Listener}
 use Rattle.sub_checker.specs.declared.counts.Counts.{Counts}
 use Rattle.sub_plan.specs.Schedule.{due_page_in}
@@ -48,7 +48,7 @@ pub record AreCountsBounded (pes : ℕ) (n : Counts) : Type 0 where
   pub packets : n.packets ≤ 255 * pes
 
 -- The frame of a valid PES packet with these data units.
-abbrev pub sent_frame_of : Sending → List UnitValue → SentFrame
+abbrev pub sent_frame_of : ValidPesPacket → List UnitValue → SentFrame
 sent_frame_of sending units = record { frame = sending.frame; packets = packets_of_units units }
 
 -- ---- the state of the checker
@@ -62,7 +62,8 @@ sent_frame_of sending units = record { frame = sending.frame; packets = packets_
 --   within            the number of frames within which the page must become correct
 --   pace              the longest interval between PES packets in frames, if it is limited
 --   listener          the page that the packets show, and the expected page of `frame`
---   first, latest     the frame of the first PES packet, and the greatest frame number so far
+--   first             the frame of the first PES packet
+--   latest_frame      the greatest frame number so far
 --   frame             the current frame
 --   last              the frame that was ended last
 --   active_faults     the faults that were active at its end
@@ -108,7 +109,7 @@ checker_at_first f c = record (at_frame f c) {
 abbrev pub checker_at_next : ℕ → CheckerValue → CheckerValue
 checker_at_next f c = record (at_frame f c) { latest_frame = max c.latest_frame f }
 
--- The frame comes before the next change of the expected page.
+-- The frame comes before the next cue, or there is no next cue.
 abbrev pub is_before : ℕ → Option ℕ → Bool
 is_before frame None = true
 is_before frame (Some edge) = nat_lt frame edge
@@ -139,7 +140,7 @@ pub record HasHeard
   pub knows : KnowsLast (heard ++ packets) packets listener
   pub count : headers ≡ header_count old.listener.watched.page packets
   pub begins :
-      listener.begun ≡ begins_frame_with_header old.listener.watched from old.listener.begun packets
+      listener.begun ≡ frame_has_text_beginning old.listener.watched from old.listener.begun packets
 
 -- ---- the end of the current frame
 
@@ -162,11 +163,13 @@ current_wrong_cell c = if is_due_page_undecided c c.frame then None else first_w
     c.listener
 
 -- The expected page is unknown at the current frame or at one of the `within` frames before it.
+-- Frames before the first frame do not count.
 abbrev pub is_currently_undecided : CheckerValue → Bool
 is_currently_undecided c = was_undecided (is_due_page_undecided c) c.first c.frame c.within
 
--- The first cell with a code, other than a space, that was not expected within the last `within`
--- frames. `None` if one of these expected pages is unknown.
+-- The first cell with a code, other than a space, that was not expected at the current frame or at
+-- one of the `within` frames before it. `None` if one of these expected pages is unknown. Frames
+-- before the first frame do not count.
 abbrev pub current_unexpected_cell : CheckerValue → Option (ℕ × ℕ)
 current_unexpected_cell c =
     if is_currently_undecided c
@@ -222,7 +225,8 @@ checker_after_end c = record c {
   first_unfinished = if c.within == 0 then c.first_unfinished else current_run_start c;
 }
 
--- No fault is active at the end of the current frame, and none was active at the end before.
+-- No fault is active at the end of the current frame, where the page is finished, and none was
+-- active at the end before.
 pub record IsFaultFreeEnd (c : CheckerValue) : Type 0 where
   pub no_faults_before : c.active_faults ≡ no_active_faults
   pub no_faults_now : active_faults_of c ≡ no_active_faults
@@ -238,8 +242,9 @@ is_currently_pending c =
 
 -- ---- the invariant of the checker
 
--- `first_known_from` decides, up to the next change of the expected page, whether the expected page
--- was unknown in the last `within` frames: exactly for the frames before `first_known_from`.
+-- For each frame from `frame` up to the next cue, the expected page is unknown at that frame or at
+-- one of the `within` frames before it exactly if it comes before `first_known_from`. Frames before
+-- `first` do not count.
 abbrev pub IsKnownFrom : (ℕ → Bool) → ℕ → ℕ → ℕ → Option ℕ → ℕ → Type 0
 IsKnownFrom undecided first within frame edge first_known_from =
     (f : ℕ)
@@ -248,8 +253,7 @@ IsKnownFrom undecided first within frame edge first_known_from =
     → is_before f edge ≡ true
     → nat_lt f first_known_from ≡ was_undecided undecided first f within
 
--- The subtitles and `first_known_from` agree with `judging`, up to the next change of the expected
--- page.
+-- The subtitles agree with `judging` and, up to the next cue, so does `first_known_from`.
 pub record IsJudged
     (judging : JudgedValue) (programme : ProgrammeValue) (any_unreliable : Bool)
     (first within frame : ℕ) (edge : Option ℕ) (first_known_from : ℕ)
@@ -259,7 +263,7 @@ pub record IsJudged
   pub known_from_is_exact : IsKnownFrom (is_due_undecided judging) first within frame edge
       first_known_from
 
--- The expected page and its next change are those of `frame`, and no frame number can overflow.
+-- The expected page and the next cue are those of `frame`, and no frame number can overflow.
 pub record IsAtFrame
     (programme : ProgrammeValue) (every : ℕ) (listener : Listener) (first latest_frame last frame :
     ℕ)

@@ -13,8 +13,8 @@ use Rattle.sub_rules.specs.declared.fault.CheckFault.{CheckFault}
 use Rattle.sub_rules.specs.declared.fault.CheckFault.TheVariants as fault
 
 -- The last fault to report: the fault that ended reading; otherwise `Empty` if there is no PES
--- packet, or `Late` if `late` is true: a subtitle ends after the last frame, or the page is
--- unfinished there but not yet overdue.
+-- packet, or `Late` if there is a frame and `late` is true: a subtitle ends after the last frame,
+-- or the page is unfinished there but not yet overdue.
 abbrev pub last_fault_after : Option CheckFault → ℕ → ℕ → Bool → ℕ → Option CheckFault
 last_fault_after (Some f) frames pes late frame = Some f
 last_fault_after None zero zero late frame = Some fault.Empty

@@ -3,7 +3,7 @@ pub mod Checker
 pub mod LastEvents
 pub mod FusedAudience
 pub mod NextPesPackets
-pub mod SkippedPesPackets
+pub mod StoredSkippedRun
 pub mod PesFileEvents
 pub mod ReadCounts
 pub mod Relay

@@ -9,20 +9,20 @@ use Rattle.sub_rules.specs.Trusted.CheckStep.{AtPes, Emits}
 use Rattle.sub_rules.specs.declared.event.Event.TheVariants.{Reported}
 use Rattle.sub_rules.specs.declared.pes_packet.NextPesPacket.{NextPesPacket}
 use Rattle.sub_rules.specs.declared.pes_packet.NextPesPacket.TheVariants as next
-use Rattle.sub_rules.specs.declared.sending.Sending.{Sending}
+use Rattle.sub_rules.specs.declared.valid_pes_packet.ValidPesPacket.{ValidPesPacket}
 
 -- The PES packet that was read is skipped.
 abbrev pub is_skipped : NextPesPacket → Bool
 is_skipped (next.Skipped f) = true
 is_skipped (next.Sent s) = false
 
--- The PES packet that was read is valid, and has the same Teletext packets as the one before.
+-- The PES packet that was read is valid, and has the same data field as the one before.
 abbrev pub RepeatsLastPacket : NextPesPacket → Type 0
 RepeatsLastPacket (next.Skipped f) = ⊥
 RepeatsLastPacket (next.Sent s) = s.again ≡ true
 
 -- The frame of a valid PES packet with these Teletext packets.
-abbrev pub frame_with_packets : Sending → List (List ℕ) → SentFrame
+abbrev pub frame_with_packets : ValidPesPacket → List (List ℕ) → SentFrame
 frame_with_packets s packets = record { frame = s.frame; packets = packets }
 
 -- The steps for PES packet number `pes`, after the frames `sent`.

@@ -16,9 +16,9 @@ use Rattle.sub_rules.specs.Trusted.{CheckStep}
 use Rattle.sub_rules.specs.declared.event.Event.{Event}
 use Rattle.sub_rules.specs.declared.fault.CheckFault.{CheckFault}
 use Rattle.sub_rules.specs.declared.fault.CheckFault.TheVariants as fault
-use Rattle.sub_checker.specs.SkippedPesPackets.{skipped_run_of}
+use Rattle.sub_checker.specs.StoredSkippedRun.{skipped_run_of}
 use Rattle.sub_checker.specs.Relay.{relayed_events, relay_after}
-use Rattle.sub_checker.specs.ReadCounts.{CarryFrames, AreComplete, AreCountsOfFrames}
+use Rattle.sub_checker.specs.ReadCounts.{CarryFrames, HaveCompletePackets, AreCountsOfFrames}
 use Rattle.sub_checker.specs.declared.reporter.Relay.{Relay}
 use Rattle.sub_checker.specs.declared.accepted.Accepted.{Accepted}
 
@@ -32,7 +32,7 @@ pub record MatchesReadFile
       length (frames_of pes_packets) ≡ length pes_packets
       → g.unread ≡ None
       → CarryFrames clock bytes (frames_of pes_packets) []
-  pub whole : AreComplete (frames_of pes_packets)
+  pub whole : HaveCompletePackets (frames_of pes_packets)
   pub counts : AreCountsOfFrames g.watched.page (sent_by_pes_packets g pes_packets) a
 
 -- The events of the PES packets were reported; or a prefix of them, if the device stopped the

@@ -22,8 +22,8 @@ pub record AreCountsOfFrames (page : PageIdValue) (frames : Transmission) (a : A
         a.transmissions ≡ header_count page (packets_before frames (length frames))
 
 -- Each Teletext packet of the frames has 42 bytes.
-abbrev pub AreComplete : Transmission → Type 0
-AreComplete frames =
+abbrev pub HaveCompletePackets : Transmission → Type 0
+HaveCompletePackets frames =
     AllByRecursion (λ (s : SentFrame). All (λ packet. length packet ≡ 42) s.packets) frames
 
 -- The bytes are PES packets that carry these frames according to the clock, followed by `rest`.

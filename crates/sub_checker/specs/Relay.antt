@@ -6,7 +6,7 @@ use Rattle.sub_rules.specs.Trusted.{CheckStep}
 use Rattle.sub_rules.specs.Trusted.CheckStep.{Emits}
 use Rattle.sub_rules.specs.declared.event.Event.{Event}
 use Rattle.sub_checker.specs.FusedAudience.{ReportsUnlessStopped}
-use Rattle.sub_checker.specs.SkippedPesPackets.{skipped_run_of, stored_run}
+use Rattle.sub_checker.specs.StoredSkippedRun.{skipped_run_of, stored_run}
 use Rattle.sub_checker.specs.declared.reporter.Relay.{Relay}
 use Rattle.sub_checker.specs.declared.reporter.Reporter.{Reporter}
 use Rattle.sub_checker.specs.TrustTracker.{after_step, new_tracker, events_of_steps, tracker_after}
@@ -40,7 +40,8 @@ pub record ReporterRelays
       Reports (ReportsUnlessStopped IsReported) old.fused new.fused (relayed_events old.relay steps)
   pub kept : new.relay ≡ relay_after old.relay steps
 
--- The reporter passed one event to its device.
+-- The reporter passed one event of the checker to its device, after trusted frames and a run of
+-- skipped PES packets that it ends, unless it continues such a run.
 abbrev pub IsRelayed : {D : Type 0} {g : _}
     → (D → Event → D → Type 0) → Reporter D g → Event → Reporter D g → Type 0
 IsRelayed IsReported old e new = ReporterRelays IsReported old (Emits e ∷ []) new

@@ -8,8 +8,8 @@ use ttx_pes::PesFault;
 /// The number of frames and of page headers in a PES file.
 #[derive(Clone, Copy, Debug, PartialEq, Eq)]
 pub struct Accepted {
-    /// The number of frames from the frame of the first PES packet to the greatest frame number; 0
-    /// without a PES packet.
+    /// The number of frames from the frame of the first PES packet that was not skipped to the
+    /// greatest frame number; 0 if there is none.
     pub frames: u64,
     /// The number of headers of the page in the file.
     pub transmissions: u64,

@@ -21,7 +21,7 @@ ghost use Rattle.sub_checker.specs.Relay.{ReporterRelays};
 use crate::checker::Checker;
 use crate::reporter::Reporter;
 use sub_io::ReportSink;
-use sub_rules::{Event, Sending};
+use sub_rules::{Event, ValidPesPacket};
 use ttx_pes::SentUnits;
 
 impl<'a> Checker<'a> {
@@ -30,7 +30,7 @@ impl<'a> Checker<'a> {
     pub fn check_pes_packet<A: ReportSink<Event>>(
         &mut self,
         pes: u32,
-        sending: Sending,
+        sending: ValidPesPacket,
         units: &SentUnits<'_>,
         reporter: &mut Reporter<'_, A>,
     )
@@ -54,7 +54,7 @@ impl<'a> Checker<'a> {
         }
         self.end_pending_frame(reporter);
         reporter.go_to(pes);
-        self.begin_next_frame(pes, sending, units, reporter);
+        self.check_first_of_frame(pes, sending, units, reporter);
     }
 
     // Returns whether a PES packet of `frame` continues the last frame, which has not ended yet.
@@ -66,10 +66,10 @@ impl<'a> Checker<'a> {
     }
 
     // Checks a PES packet of a new frame.
-    fn begin_next_frame<A: ReportSink<Event>>(
+    fn check_first_of_frame<A: ReportSink<Event>>(
         &mut self,
         pes: u32,
-        sending: Sending,
+        sending: ValidPesPacket,
         units: &SentUnits<'_>,
         reporter: &mut Reporter<'_, A>,
     )
@@ -153,7 +153,7 @@ impl<'a> Checker<'a> {
     {
         let headers = self
             .listener
-            .hear_frame_packets(units, again, self.frame, from, reporter);
+            .hear_pes_packet(units, again, self.frame, from, reporter);
         self.count(headers);
         headers
     }

@@ -37,13 +37,13 @@ pub(crate) struct Checker<'a> {
     pub latest_frame: u32,
     // The current frame; `listener` has its expected page.
     pub frame: u32,
-    // The next frame with another expected page, if there is one.
+    // The next cue, a TCI or TCO after `frame`, if there is one.
     pub edge: Option<u32>,
     // The number of a subtitle near `frame`, where the search for the next expected page starts.
     // Contracts do not use this hint.
     pub near: usize,
-    // The first frame, before the next change of the expected page, whose expected page and those
-    // of the `within` frames before it are known.
+    // Up to the next cue, the expected page of a frame and those of the `within` frames before it
+    // are known exactly from this frame on.
     pub first_known_from: u64,
     // The frame that was ended last; `active_faults` are the faults at its end.
     pub last: u32,
@@ -219,7 +219,8 @@ impl<'a> Checker<'a> {
         }
     }
 
-    /// Adds the page headers of a PES packet of the current frame to the counts.
+    /// Adds the page headers of a PES packet of the current frame to the counts. If there are any,
+    /// the deadline for the next header moves.
     pub fn count(&mut self, headers: u8)
         requires room { self.old.counts.headers < 0xFFFF_FFFF_FF00 }
         ensures { self.new ≡ checker_after_headers headers self.old }
@@ -255,7 +256,8 @@ fn frame_count(frames: u32, first: u32, latest_frame: u32) -> u64
     }
 }
 
-// Returns whether a frame comes before `edge`, the next change of the expected page.
+// Returns whether a frame comes before `edge`, the next cue. If there is no next cue, every frame
+// does.
 fn is_before(frame: u32, edge: Option<u32>) -> bool
     ensures { result ≡ is_before frame edge }
 {

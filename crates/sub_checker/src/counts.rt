@@ -5,11 +5,11 @@ ghost use Rattle.sub_checker.specs.Checker.{with_open_frame, no_counts};
 /// Counts of frames, page headers and Teletext packets received so far.
 #[derive(Clone, Copy)]
 pub(crate) struct Counts {
-    /// The number of frames; consecutive PES packets of one frame count once.
+    /// The number of frames; if `within` is not 0, consecutive PES packets of one frame count once.
     pub frames: u32,
     /// The number of headers of the page.
     pub headers: u64,
-    /// The number of headers of the page before the last frame.
+    /// The number of headers of the page before the last frame, while it is open.
     pub headers_before: u64,
     /// The number of Teletext packets in the last frame, while it is open.
     pub packets: u32,

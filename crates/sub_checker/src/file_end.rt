@@ -76,7 +76,8 @@ fn end_and_close<A: ReportSink<Event>>(
     close(checker, pes, fault, reporter);
 }
 
-// Reports the trusted frames of the last run, and the events after the end of the last frame.
+// Reports the trusted frames of the last run, if they must be reported, and the events after the
+// end of the last frame.
 fn close<A: ReportSink<Event>>(
     checker: &Checker<'_>,
     pes: u32,

@@ -1,7 +1,7 @@
 //! Flushes pending reports before a read that may block.
 ghost use Rattle.std.specs.Prelude.{◌≡◌, OnOk, false, is_err};
 ghost use Rattle.sub_io.specs.Flushing.{BuffersOnlyWhilePending, KeepsReports};
-ghost use Rattle.ttx_pes.specs.BorrowedPacket.{NothingIsPending};
+ghost use Rattle.ttx_pes.specs.BorrowedPacket.{NothingIsPendingUnlessReady};
 
 use crate::fused::FusedAudience;
 use sub_io::{LiveReportSink, Stopped};
@@ -23,7 +23,8 @@ pub(crate) fn flush_reports<P: PesPackets, A: LiveReportSink<Event>>(
     ensures same { fused.new.device.ghost_name ≡ fused.old.device.ghost_name }
     ensures stopped { fused.new.stopped ≡ is_err result }
     ensures settled { OnOk result
-        (NothingIsPending (A.has_pending_reports fused.new.device.now) (P.ready source.now)) }
+        (NothingIsPendingUnlessReady (A.has_pending_reports fused.new.device.now)
+        (P.ready source.now)) }
     ensures holds { BuffersOnlyWhilePending A.has_pending_reports A.buffered fused.old.device.now
         → OnOk result (BuffersOnlyWhilePending A.has_pending_reports A.buffered
         fused.new.device.now) }

@@ -6,7 +6,7 @@
 //!     end_sent_frame   a frame with PES packets; checks that the first frame has a header
 //! end_of_frame   any frame, also called by `end_sent_frame`
 //!   end_without_faults  no fault is active, and none was active before
-//!   end_with_faults
+//!   end_after_full_check
 //!     end_without_delay, end_with_delay   depending on whether `within` is 0
 //! ```
 ghost use Rattle.std.specs.Prelude.{◌≡◌, ◌==◌, ◌&&◌, ℕ, suc, ◌+◌, ◌<◌, List, IsTrue, None};
@@ -89,7 +89,7 @@ impl<'a> Checker<'a> {
     }
 
     // Returns whether the expected page is unknown at the current frame or at one of the `within`
-    // frames before.
+    // frames before. Frames before the first frame do not count.
     #[inline(always)]
     fn is_undecided(&self) -> bool
         ensures { result ≡ is_currently_undecided self.now }
@@ -137,7 +137,8 @@ impl<'a> Checker<'a> {
     }
 
     // Returns the state at the end of the current frame, if `within` is not 0. Until the page is
-    // overdue, a cell may have any code that was expected within the last `within` frames.
+    // overdue, a cell may have a space or any code that was expected at this frame or at one of the
+    // `within` frames before.
     fn state_at_end(&self) -> DelayedEnd
         requires within { 0 < self.now.within }
         ensures active_faults { result.active_faults ≡ active_faults_of self.now }
@@ -174,9 +175,9 @@ impl<'a> Checker<'a> {
         }
     }
 
-    // Returns the first cell with a code, other than a space, that was not expected within the last
-    // `within` frames; `None` if one of these expected pages is unknown, or if no cell differs from
-    // the expected page.
+    // Returns the first cell with a code, other than a space, that was not expected at the current
+    // frame or at one of the `within` frames before; `None` if one of these expected pages is
+    // unknown, or if no cell is wrong.
     fn first_unexpected(&self, differing: Option<(u8, u8)>) -> Option<(u8, u8)>
         ensures { differing ≡ current_wrong_cell self.now → result ≡ current_unexpected_cell
             self.now }
@@ -285,13 +286,13 @@ impl<'a> Checker<'a> {
             self.end_without_faults(reporter);
             return;
         }
-        self.end_with_faults(reporter);
+        self.end_after_full_check(reporter);
     }
 
-    // Ends a frame with an active fault, or any frame if `within` is not 0. Not inlined into
-    // `end_of_frame`, which is inlined into each loop over frames.
+    // Ends a frame with or without faults, for any `within`. Not inlined into `end_of_frame`, which
+    // is inlined into each loop over frames and ends most frames without this function.
     #[inline(never)]
-    fn end_with_faults<A: ReportSink<Event>>(&mut self, reporter: &mut Reporter<'_, A>)
+    fn end_after_full_check<A: ReportSink<Event>>(&mut self, reporter: &mut Reporter<'_, A>)
         ensures reported { ReporterRelays A.is_reported reporter.old (end_steps self.old)
             reporter.new }
         ensures ended { self.new ≡ checker_after_end self.old }

@@ -1,7 +1,7 @@
 //! Protects a device from events after it has stopped the check.
 //!
-//! With this wrapper, functions need not return whether to stop. The ghost field says that the
-//! device received all events or, after a stop, a prefix of them.
+//! With this wrapper, functions need not return whether to stop. The ghost field `agrees` says that
+//! `stopped` is true exactly if the device has stopped the check.
 ghost use Rattle.std.specs.Prelude.{◌≡◌};
 
 use sub_io::ReportSink;

@@ -33,7 +33,7 @@ use crate::reporter::{Relay, Reporter};
 use stl_rows::Judging;
 use sub_io::{LiveReportSink, ReportSink};
 use sub_plan::Options;
-use sub_rules::{CheckFault, Event, NextPesPacket, Sending, next_pes_packet, units_of};
+use sub_rules::{CheckFault, Event, NextPesPacket, ValidPesPacket, next_pes_packet, units_of};
 use ttx_pes::{ComparingReader, PesFault, PesPackets};
 
 /// Checks a PES file, one PES packet at a time, reports each broken rule to `report_sink`, and
@@ -129,12 +129,12 @@ fn report_pes_packet<A: ReportSink<Event>>(
     checker: &mut Checker<'_>,
     reporter: &mut Reporter<'_, A>,
 ) -> bool
-    requires day { (sending : Sending) → pes_packet ≡ NextPesPacket.Sent sending → sending.frame <
-        day }
+    requires day { (sending : ValidPesPacket) → pes_packet ≡ NextPesPacket.Sent sending
+        → sending.frame < day }
     requires below_limit { pes ≤ max_pes_packets }
     requires room { AreCountsBounded pes checker.old.counts }
     ensures skipped { result ≡ is_skipped pes_packet }
-    ensures frame { (sending : Sending) → pes_packet ≡ NextPesPacket.Sent sending
+    ensures frame { (sending : ValidPesPacket) → pes_packet ≡ NextPesPacket.Sent sending
         → IsPesValue reader.now.frame }
     ensures room { AreCountsBounded (pes + 1) checker.new.counts }
     ensures reported { (g : Criteria) (sent : Transmission) (last : List (List ℕ))
@@ -168,11 +168,11 @@ fn report_pes_packet<A: ReportSink<Event>>(
 }
 
 // Clears `again` after a skipped packet, because it compares with the skipped packet.
-fn sending_after_packet(skipped: bool, sending: Sending) -> Sending
+fn sending_after_packet(skipped: bool, sending: ValidPesPacket) -> ValidPesPacket
     ensures frame { result.frame ≡ sending.frame }
     ensures again { result.again ≡ true → (sending.again ≡ true) × (skipped ≡ false) }
 {
-    Sending {
+    ValidPesPacket {
         frame: sending.frame,
         again: sending.again && !skipped,
     }

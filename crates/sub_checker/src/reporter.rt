@@ -6,11 +6,11 @@ ghost use Rattle.sub_rules.specs.PesPacketEvents.{announced_events, announced, s
 ghost use Rattle.sub_rules.specs.PesPacketEvents.{skipped_run_after_events};
 ghost use Rattle.sub_rules.specs.Trusted.CheckStep.{AtEnd, AtPes, Begins, Closes, Ends, GoesBack};
 ghost use Rattle.sub_rules.specs.Trusted.CheckStep.{Emits};
-ghost use Rattle.sub_checker.specs.SkippedPesPackets.{skipped_run_of, stored_run};
+ghost use Rattle.sub_checker.specs.StoredSkippedRun.{skipped_run_of, stored_run};
 ghost use Rattle.sub_checker.specs.Relay.{IsRelayed, ReporterRelays, at_step, initial_relay};
 
 use crate::fused::FusedAudience;
-use crate::skipped_run::SkippedPesPackets;
+use crate::skipped_run::StoredSkippedRun;
 use crate::trust_tracker::TrustTracker;
 use sub_io::ReportSink;
 use sub_packets::Taker;
@@ -22,7 +22,7 @@ pub(crate) struct Relay {
     /// Tracks which frames are trusted: they have no fault that affects receivers.
     pub tracker: TrustTracker,
     /// The current run of skipped PES packets.
-    pub run: SkippedPesPackets,
+    pub run: StoredSkippedRun,
 }
 
 /// Passes the checker's events to a device.
@@ -41,7 +41,7 @@ impl Relay {
     {
         Relay {
             tracker: TrustTracker::new(),
-            run: SkippedPesPackets::new(),
+            run: StoredSkippedRun::new(),
         }
     }
 }
@@ -88,7 +88,8 @@ impl<A: ReportSink<Event>> Reporter<'_, A> {
     }
 
     /// Reports the trusted frames of the last run, if an event was reported or `reports_more` is
-    /// true. The last frame is not trusted if unread bytes follow it.
+    /// true. The last frame is not trusted if unread bytes follow it; nor are the last frames with
+    /// an unfinished page.
     pub fn close(&mut self, are_left: bool, reports_more: bool)
         ensures { ReporterRelays A.is_reported self.old (Closes are_left reports_more ∷ [])
             self.new }
@@ -97,12 +98,12 @@ impl<A: ReportSink<Event>> Reporter<'_, A> {
         announce_if_present(last, &mut self.relay.run, &mut self.fused);
     }
 
-    /// Passes an event to the device. If it ends a run of trusted frames, reports these frames
-    /// first.
+    /// Passes an event to the device, unless it continues a run of skipped PES packets. If it ends
+    /// a run of trusted frames, reports these frames first.
     pub fn relay(&mut self, event: Event)
         ensures { ReporterRelays A.is_reported self.old (Emits event ∷ []) self.new }
     {
-        let first = self.relay.tracker.say(&event);
+        let first = self.relay.tracker.note_event(&event);
         let event = self.relay.tracker.with_pes_number(event);
         announce_if_present(first, &mut self.relay.run, &mut self.fused);
         announce(event, &mut self.relay.run, &mut self.fused);
@@ -124,7 +125,7 @@ impl<A: ReportSink<Event>> Taker for Reporter<'_, A> {
     sub_rules::specs::PesPacketEvents::announced_events,
     sub_rules::specs::PesPacketEvents::skipped_run_after_events
 ))]
-fn announce_if_present<T: Taker>(event: Option<Event>, run: &mut SkippedPesPackets, taker: &mut T)
+fn announce_if_present<T: Taker>(event: Option<Event>, run: &mut StoredSkippedRun, taker: &mut T)
     ensures reported { Reports T.is_reported taker.old taker.new
         (announced_events (skipped_run_of run.old) (first_as_list event)) }
     ensures kept { run.new ≡ stored_run (skipped_run_after_events (skipped_run_of run.old)
@@ -135,10 +136,10 @@ fn announce_if_present<T: Taker>(event: Option<Event>, run: &mut SkippedPesPacke
     }
 }
 
-// Reports an event. If it ends a run of skipped PES packets, reports the last packet of the run
-// first.
+// Reports an event, unless it continues a run of skipped PES packets. If it ends such a run,
+// reports the last packet of the run first.
 #[tactic(auto, unfolding(sub_rules::specs::PesPacketEvents::announced))]
-fn announce<T: Taker>(event: Event, run: &mut SkippedPesPackets, taker: &mut T)
+fn announce<T: Taker>(event: Event, run: &mut StoredSkippedRun, taker: &mut T)
     ensures reported { Reports T.is_reported taker.old taker.new (announced (skipped_run_of run.old)
         event) }
     ensures kept { run.new ≡ stored_run (skipped_run_after (skipped_run_of run.old) event) }

@@ -5,25 +5,25 @@ ghost use Rattle.sub_rules.specs.PesPacketEvents.{run_ending_events, continues, 
 ghost use Rattle.sub_rules.specs.PesPacketEvents.{is_after};
 ghost use Rattle.sub_rules.specs.PesPacketEvents.{continues_skipped_run};
 ghost use Rattle.sub_rules.specs.PesPacketEvents.{no_run, skipped_run_after};
-ghost use Rattle.sub_checker.specs.SkippedPesPackets.{skipped_run_of, stored_run};
+ghost use Rattle.sub_checker.specs.StoredSkippedRun.{skipped_run_of, stored_run};
 
 use sub_rules::{CheckFault, Event, FaultPlace};
 
 /// The current run of consecutive PES packets that are skipped because of the same fault.
 #[derive(Clone, Copy)]
-pub(crate) struct SkippedPesPackets {
+pub(crate) struct StoredSkippedRun {
     /// The fault of the last packet of the run; `None` if there is no current run.
     pub last: Option<CheckFault>,
     /// Whether the run has more than one packet.
     pub many: bool,
 }
 
-impl SkippedPesPackets {
+impl StoredSkippedRun {
     /// Returns the state before the first PES packet, without a run.
     pub fn new() -> Self
         ensures { result ≡ stored_run no_run }
     {
-        SkippedPesPackets {
+        StoredSkippedRun {
             last: None,
             many: false,
         }
@@ -42,11 +42,11 @@ impl SkippedPesPackets {
 
     /// Returns the run of skipped PES packets after the event.
     #[tactic(auto, unfolding(sub_rules::specs::PesPacketEvents::skipped_run_after))]
-    pub fn after(&self, event: &Event) -> SkippedPesPackets
+    pub fn after(&self, event: &Event) -> StoredSkippedRun
         ensures { result ≡ stored_run (skipped_run_after (skipped_run_of self.now) event.now) }
     {
         match event {
-            Event::Reported(fault) => SkippedPesPackets {
+            Event::Reported(fault) => StoredSkippedRun {
                 last: if (*fault).row().is_skipped {
                     Some(*fault)
                 } else {
@@ -54,7 +54,7 @@ impl SkippedPesPackets {
                 },
                 many: follows(&self.last, fault),
             },
-            _ => SkippedPesPackets::new(),
+            _ => StoredSkippedRun::new(),
         }
     }
 

@@ -21,7 +21,7 @@ pub(crate) struct TrustTracker {
     pub run: Option<u32>,
     /// The first frame of the current run at whose end the page was finished.
     pub whole: Option<u32>,
-    /// The frame of the last PES packet; 0 before the first packet.
+    /// The frame of the last PES packet that was not skipped; 0 if there is none.
     pub last: u32,
     /// Whether frame numbers have increased so far.
     pub rises: bool,
@@ -106,7 +106,7 @@ impl TrustTracker {
     pub fn end_frame(&mut self, frame: u32, has_beginning: bool, none_active: bool)
         ensures { self.new ≡ after_step (Ends frame has_beginning none_active) self.old }
     {
-        if self.stays_correct() && none_active {
+        if self.run_stays_trusted() && none_active {
             return;
         }
         self.update_trusted_run(frame, has_beginning, none_active);
@@ -115,7 +115,7 @@ impl TrustTracker {
     // Returns whether there is a run of trusted frames, the page was finished at the end of one of
     // its frames, and no packet of the current frame has a fault that affects receivers.
     #[inline(always)]
-    fn stays_correct(&self) -> bool
+    fn run_stays_trusted(&self) -> bool
         ensures { result
             ≡ (is_some self.now.run && is_some self.now.whole && self.now.is_clean) }
     {
@@ -140,7 +140,7 @@ impl TrustTracker {
     /// Notes an event, and returns the trusted frames that it ends, which must be reported before
     /// it.
     #[tactic(auto, unfolding(crate::specs::TrustTracker::after_step))]
-    pub fn say(&mut self, event: &Event) -> Option<Event>
+    pub fn note_event(&mut self, event: &Event) -> Option<Event>
         ensures before { first_as_list result
             ≡ trusted_events_before self.old.run self.old.whole self.old.back
             (invalidated self.old.last (overdue_run_start self.old) event.now) }
@@ -202,8 +202,8 @@ impl TrustTracker {
         }
     }
 
-    /// Returns the event with the number of the current PES packet, which counts skipped packets
-    /// too.
+    /// Returns the event; a fault whose place is a PES packet gets the number of the current PES
+    /// packet, which counts skipped packets too.
     #[tactic(auto, unfolding(sub_rules::specs::Trusted::with_pes_number))]
     pub fn with_pes_number(&self, event: Event) -> Event
         ensures { result ≡ with_pes_number self.now.pes event }

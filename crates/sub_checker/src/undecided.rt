@@ -8,10 +8,10 @@ ghost use Rattle.sub_checker.specs.Checker.{IsKnownFrom};
 
 use stl_rows::Judging;
 
-/// Returns the first frame, before the next change of the expected page, whose expected page and
-/// those of the `within` frames before it are known. Frames before `first` do not count. Returns 0
-/// if no expected page was unknown, and a number above all frames if the expected page of `frame`
-/// is unknown.
+/// Returns the frame from which on, up to the next cue after `frame`, the expected page of a frame
+/// and those of the `within` frames before it are known. Frames before `first` do not count.
+/// Returns 0 if none of these pages is unknown, and a number above all frames if the expected page
+/// of `frame` is unknown.
 pub(crate) fn first_known_from(
     judging: &Judging<'_>,
     any_unreliable: bool,
@@ -56,7 +56,7 @@ fn last_undecided(judging: &Judging<'_>, frame: u32, least: u32) -> Option<u32>
         × ((f : ℕ) → last < f → f ≤ frame → is_undecided_in judging.now f ≡ false)) }
 {
     let mut at = frame;
-    while let Some(before) = frame_before(judging, at, least) {
+    while let Some(before) = frame_before_last_edge(judging, at, least) {
         if judging.is_undecided(before) {
             return Some(before);
         }
@@ -67,7 +67,7 @@ fn last_undecided(judging: &Judging<'_>, frame: u32, least: u32) -> Option<u32>
 
 // Returns the last frame before the last cue at or before `at`; `None` if there is no such cue, or
 // if that frame is before `least`.
-fn frame_before(judging: &Judging<'_>, at: u32, least: u32) -> Option<u32>
+fn frame_before_last_edge(judging: &Judging<'_>, at: u32, least: u32) -> Option<u32>
     ensures { MatchOption result
         ((f : ℕ) → least ≤ f → f ≤ at
         → is_undecided_in judging.now f ≡ is_undecided_in judging.now at)

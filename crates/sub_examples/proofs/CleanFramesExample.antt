@@ -7,7 +7,7 @@ use lib.Count.{ones_in}
 use Rattle.ttx_packet.specs.Hamming84.{decoded_nibble}
 use Rattle.ttx_packet.specs.OneBit.{is_near}
 use Rattle.ttx_packet.specs.PacketAddress.{address}
-use Rattle.ttx_packet.specs.PageHeader.{header, coded_header}
+use Rattle.ttx_packet.specs.PageHeader.{header, decoded_header}
 use Rattle.ttx_packet.specs.Parity.{is_odd}
 use Rattle.ttx_page.specs.Page.{blank, blank_row}
 use Rattle.sub_rules.specs.PacketTests.{are_code_words, breaks, is_word_below, packet_rules}
@@ -26,7 +26,7 @@ use Rattle.stl_rows.specs.PreparedLine.{line_with_layout_codes, line_with_before
 use Rattle.stl_rows.specs.PreparedLine.{prepared_by_layout, row_starting_at, start_column_by_layout}
 use Rattle.stl_rows.specs.SubSets.{sub_set}
 use Rattle.stl_rows.specs.TextCode.{cell_of, cell_of_pair, is_common}
-use Rattle.sub_laws.specs.CleanStretch.{IsUnreported}
+use Rattle.sub_laws.specs.CleanStretch.{HasNoReceiverFault}
 use Rattle.sub_examples.specs.Examples.{ExampleOfCleanFrames, time_filling_header}
 use Rattle.sub_examples.specs.Examples.{transmission_damaged_first, options_with_bound}
 use Rattle.sub_examples.specs.Examples.{english_header, later_subtitle, row_22}
@@ -38,18 +38,18 @@ use Rattle.sub_laws.proofs.StretchLemmas.{law_of_stretch}
 use Rattle.sub_examples.proofs.RobustTests.{listening, unreported_by_test}
 
 refused : Good later_subtitle transmission_damaged_first (options_with_bound 1) → ⊥
-unfolding kind address header coded_header decoded_nibble is_near
+unfolding kind address header decoded_header decoded_nibble is_near
 refused good =
     let none : SentFrame = record { frame = 0; packets = [] } in
     let control = good.rules.control 0 none (omega arith) 0 [] (omega arith) in
     grind (arith, nat_tests, control _ refl)
 
-clean : IsUnreported (criteria_of later_subtitle (options_with_bound 1) None)
+clean : HasNoReceiverFault (criteria_of later_subtitle (options_with_bound 1) None)
     transmission_damaged_first 900001
     900002
 unfolding are_code_words is_word_below first_even_parity_byte breaks differing_column_count is_gap
     packet_rules active_faults_at is_late first_wrong_cell_after first_cell is_incomplete
-    kind address header coded_header decoded_nibble is_near is_odd count_ones ones_in due blank
+    kind address header decoded_header decoded_nibble is_near is_odd count_ones ones_in due blank
     blank_row drawn drawn_by page_of_placed placed_fault_kinds prepared_by_layout
     line_with_layout_codes line_with_before_codes start_column_by_layout
     row_starting_at default_items attribute_code has_start_box_code has_double_height
@@ -57,7 +57,7 @@ unfolding are_code_words is_word_below first_even_parity_byte breaks differing_c
 clean = unreported_by_test _ _ _ _ (λ frame. refl) refl
 
 pub example_of_clean_frames : ExampleOfCleanFrames
-unfolding kind address header coded_header decoded_nibble is_near is_odd count_ones ones_in due
+unfolding kind address header decoded_header decoded_nibble is_near is_odd count_ones ones_in due
     blank
     blank_row drawn drawn_by page_of_placed placed_fault_kinds prepared_by_layout
     line_with_layout_codes line_with_before_codes start_column_by_layout

@@ -5,7 +5,7 @@ use lib.Count.{ones_in}
 use Rattle.ttx_packet.specs.Hamming84.{decoded_nibble}
 use Rattle.ttx_packet.specs.OneBit.{is_near}
 use Rattle.ttx_packet.specs.PacketAddress.{address}
-use Rattle.ttx_packet.specs.PageHeader.{header, coded_header}
+use Rattle.ttx_packet.specs.PageHeader.{header, decoded_header}
 use Rattle.ttx_packet.specs.Parity.{is_odd}
 use Rattle.ttx_page.specs.Page.{blank, blank_row}
 use Rattle.sub_rules.specs.PacketTests.{are_code_words, is_word_below}
@@ -43,7 +43,7 @@ unfolding events events_of_first_frames frame_events order_events gap_events gap
     closing_events is_pending unfinished_run_start first_unfinished_in_gap
     first_unfinished_in_frames
     are_code_words is_word_below first_even_parity_byte kind address
-    header coded_header decoded_nibble is_near is_odd count_ones ones_in due blank
+    header decoded_header decoded_nibble is_near is_odd count_ones ones_in due blank
     blank_row drawn drawn_by page_of_placed placed_fault_kinds prepared_by_layout
     line_with_layout_codes line_with_before_codes start_column_by_layout
     row_starting_at default_items attribute_code has_start_box_code has_double_height

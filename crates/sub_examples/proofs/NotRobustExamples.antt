@@ -6,7 +6,7 @@ use lib.Count.{ones_in}
 use Rattle.ttx_packet.specs.Hamming84.{decoded_nibble}
 use Rattle.ttx_packet.specs.OneBit.{is_near}
 use Rattle.ttx_packet.specs.PacketAddress.{address}
-use Rattle.ttx_packet.specs.PageHeader.{header, coded_header}
+use Rattle.ttx_packet.specs.PageHeader.{header, decoded_header}
 use Rattle.ttx_packet.specs.Parity.{is_odd}
 use Rattle.ttx_page.specs.Page.{blank, blank_row}
 use Rattle.sub_rules.specs.PacketTests.{are_code_words, breaks, is_word_below, packet_rules}
@@ -17,7 +17,7 @@ use Rattle.sub_rules.specs.Events.{first_wrong_cell_after}
 use Rattle.ttx_page.specs.PacketKind.{kind}
 use Rattle.stl_rows.specs.DuePage.{due}
 use Rattle.stl_rows.specs.SubSets.{sub_set}
-use Rattle.sub_examples.specs.Examples.{ExamplesOfNeededParts, time_filling_header, english_header}
+use Rattle.sub_examples.specs.Examples.{ExamplesOfNeededRules, time_filling_header, english_header}
 use Rattle.sub_examples.specs.Examples.{header_without_c4, row_1, header_of_coded_bytes}
 use Rattle.sub_examples.proofs.RobustTests.{needed}
 
@@ -35,12 +35,12 @@ header_with_two_wrong_bits =
     header_of_coded_bytes (0x16 ∷ 0x15 ∷ 0xD0 ∷ 0xD0 ∷ 0x15 ∷ 0xD0 ∷ 0x15 ∷ 0xD0 ∷ 0x02 ∷ 0x15 ∷ [])
 
 -- The transmission of each example breaks only one rule, and fails at one receiver.
-pub examples_of_needed_parts : ExamplesOfNeededParts
+pub examples_of_needed_rules : ExamplesOfNeededRules
 unfolding are_code_words is_word_below first_even_parity_byte breaks differing_column_count is_gap
     packet_rules active_faults_at is_late first_wrong_cell_after first_cell is_incomplete
-    kind address header coded_header decoded_nibble is_near is_odd count_ones ones_in due blank
+    kind address header decoded_header decoded_nibble is_near is_odd count_ones ones_in due blank
     blank_row sub_set
-examples_of_needed_parts = record {
+examples_of_needed_rules = record {
   -- The receiver receives frames 900000 and 900001 unchanged.
   frames_rise = needed 62 _ _ 900000 0 900001 (english_header ∷ row_1 0xA1 ∷ []) refl;
   -- A second bit in the header's address is received wrong, so the receiver misses the header.

@@ -27,12 +27,12 @@ use Rattle.sub_rules.specs.PacketTests.{breaks, is_same_bit, packet_rules}
 use Rattle.sub_rules.specs.Transmission.{IsRising, SentFrame, Transmission, first_frame}
 use Rattle.sub_rules.specs.Transmission.{last_frame, on_air, packets_of}
 use Rattle.sub_rules.specs.declared.packet_rule.PacketRule.{PacketRule}
-use Rattle.sub_laws.specs.CleanStretch.{HoldsAtFrameEnds, HoldsAtPackets, IsUnreported}
+use Rattle.sub_laws.specs.CleanStretch.{HoldsAtFrameEnds, HoldsAtPackets, HasNoReceiverFault}
 use Rattle.sub_laws.specs.CleanStretch.{is_needed_by_receivers}
 use Rattle.sub_laws.specs.Robust.{IsListening, Robust}
-use Rattle.sub_examples.specs.Examples.{IsRuleNeeded, IsUnreportedExcept, options_with_bound}
+use Rattle.sub_examples.specs.Examples.{IsRuleNeeded, HasNoReceiverFaultExcept, options_with_bound}
 use Rattle.sub_examples.specs.Examples.{no_subtitles}
-use Rattle.sub_examples.specs.Examples.{number_of}
+use Rattle.sub_examples.specs.Examples.{fault_number_of}
 use Rattle.sub_rules.proofs.TestLemmas.{passes_all_below, at_most, passing_all_below_passes_each}
 use Rattle.sub_rules.proofs.TestLemmas.{each_of, fails, holds}
 use Rattle.sub_rules.proofs.TestLemmas.{implied, bit_test_is_exact}
@@ -217,8 +217,8 @@ abbrev reports_only_rule : ℕ → Criteria → Transmission → ℕ → ℕ →
 reports_only_rule number g frames a b =
     (number == 62 || rises frames)
     && (list_all
-    (λ r. number == number_of r || (not (is_needed_by_receivers r) || keeps_packet_rule r g frames a
-    b))
+    (λ r. number == fault_number_of r
+    || (not (is_needed_by_receivers r) || keeps_packet_rule r g frames a b))
     packet_rules
     && ((number == 72
     || frame_ends_pass_test (λ n f. is_none (active_faults_at g frames n f).content) frames a b)
@@ -237,11 +237,11 @@ absent_test_means_none o e = grind arith
 unreported_but :
     (number : ℕ) (g : Criteria) (frames : Transmission) (a b : ℕ)
     → reports_only_rule number g frames a b ≡ true
-    → IsUnreportedExcept number g frames a b
+    → HasNoReceiverFaultExcept number g frames a b
 unreported_but number g frames a b e =
     let PacketsPass : PacketRule → Bool =
-    λ r. number == number_of r || (not (is_needed_by_receivers r) || keeps_packet_rule r g frames a
-    b) in
+    λ r. number == fault_number_of r
+    || (not (is_needed_by_receivers r) || keeps_packet_rule r g frames a b) in
     let order = and_parts (number == 62 || rises frames) _ e in
     let packets = and_parts (list_all PacketsPass packet_rules) _ order.1 in
     let ends =
@@ -261,7 +261,8 @@ unreported_but number g frames a b e =
       packets = λ r needed other.
           none_breaks r g frames a b
           ((implied _ _ (holds (is_needed_by_receivers r)) (holds _)).0
-          (test_of_other_rule_passes number (number_of r) _ (options_with_bound r) other) needed);
+          (test_of_other_rule_passes number (fault_number_of r) _ (options_with_bound r) other)
+          needed);
       content = λ other n f end low high.
           absent_test_means_none _
           (at_ends (λ n f. is_none (active_faults_at g frames n f).content) frames a b
@@ -309,7 +310,7 @@ pub unreported_by_test :
     && (nat_lt 0 (length frames)
     && (nat_le (first_frame frames) a && (nat_le a b && nat_le b (last_frame frames))))
     ≡ true
-    → IsUnreported g frames a b
+    → HasNoReceiverFault g frames a b
 unreported_by_test g frames a b known e =
     let parts = and_parts (reports_only_rule 0 g frames a b) _ e in
     let unreported = unreported_but 0 g frames a b parts.0 in
@@ -327,5 +328,5 @@ unreported_by_test g frames a b known e =
       undecided = λ n f end low high. no_frame_is_undecided g frames known n f;
     }
   where
-    rule_number_is_not_zero : (r : PacketRule) → 0 ≢ number_of r
+    rule_number_is_not_zero : (r : PacketRule) → 0 ≢ fault_number_of r
     rule_number_is_not_zero r is = grind arith

@@ -8,7 +8,7 @@ use lib.Count.{ones_in}
 use Rattle.ttx_packet.specs.Hamming84.{decoded_nibble}
 use Rattle.ttx_packet.specs.OneBit.{is_near}
 use Rattle.ttx_packet.specs.PacketAddress.{address}
-use Rattle.ttx_packet.specs.PageHeader.{header, coded_header}
+use Rattle.ttx_packet.specs.PageHeader.{header, decoded_header}
 use Rattle.ttx_packet.specs.Parity.{is_odd}
 use Rattle.ttx_page.specs.declared.packet_kind.PacketKind.TheVariants.{ThisPage, EndsPage, Row}
 use Rattle.ttx_page.specs.Page.{Rows, blank, blank_row}
@@ -48,15 +48,15 @@ abbrev header_888_value : Header
 header_888_value = record { page = 0x88; subcode = 0; control = record { 0 = 0x0D } }
 
 english_header_is_page_888 : kind page_888 english_header ≡ ThisPage header_888_value
-unfolding kind address header coded_header decoded_nibble is_near
+unfolding kind address header decoded_header decoded_nibble is_near
 english_header_is_page_888 = refl
 
 time_filling_header_ends_page : kind page_888 time_filling_header ≡ EndsPage
-unfolding kind address header coded_header decoded_nibble is_near
+unfolding kind address header decoded_header decoded_nibble is_near
 time_filling_header_ends_page = refl
 
 packet_is_row_22 : kind page_888 row_22 ≡ Row 22
-unfolding kind address header coded_header decoded_nibble is_near
+unfolding kind address header decoded_header decoded_nibble is_near
 packet_is_row_22 = refl
 
 abbrev state_on_blank_page : State
@@ -139,16 +139,16 @@ unfolding events events_of_first_frames frame_events order_events gap_events gap
     closing_events is_pending unfinished_run_start first_unfinished_in_gap
     first_unfinished_in_frames
     are_code_words is_word_below first_even_parity_byte kind address
-    header coded_header decoded_nibble is_near is_odd count_ones ones_in
+    header decoded_header decoded_nibble is_near is_odd count_ones ones_in
     due blank blank_row sub_set
 no_end_is_good = good_by_events _ _ _ refl refl (omega arith) refl refl
 
 holds : has_page_header (kind page_888) (english_header ∷ []) ≡ true
-unfolding kind address header coded_header decoded_nibble is_near
+unfolding kind address header decoded_header decoded_nibble is_near
 holds = refl
 
 page_is_not_ended : has_no_page_end (kind page_888) (english_header ∷ []) ≡ true
-unfolding kind address header coded_header decoded_nibble is_near
+unfolding kind address header decoded_header decoded_nibble is_near
 page_is_not_ended = refl
 
 pub example_of_unended_page : ExampleOfUnendedPage

@@ -1,5 +1,5 @@
--- Transmissions of page 888, byte by byte: a good one, and for each of eight rules a transmission
--- that breaks only this rule and fails at a receiver.
+-- Transmissions of page 888, byte by byte: a good one, and for each of eight rules that matter to
+-- receivers a transmission that breaks only this one of them and fails at a receiver.
 use Rattle.std.specs.Prelude.{◌≡◌, ◌≢◌, ◌⊎◌, ℕ, false, List, [], ◌∷◌, ◌++◌, None, replicate}
 use Rattle.std.specs.Prelude.{IsFalse, IsTrue}
 use Rattle.std.specs.List.{AllZip}
@@ -19,7 +19,7 @@ use Rattle.sub_rules.specs.FrameRules.{Criteria, criteria_of}
 use Rattle.sub_rules.specs.Good.{Good}
 use Rattle.sub_rules.specs.PacketTests.{breaks}
 use Rattle.sub_rules.specs.declared.packet_rule.PacketRule.{PacketRule}
-use Rattle.sub_laws.specs.CleanStretch.{HoldsAtFrameEnds, HoldsAtPackets, IsUnreported}
+use Rattle.sub_laws.specs.CleanStretch.{HoldsAtFrameEnds, HoldsAtPackets, HasNoReceiverFault}
 use Rattle.sub_laws.specs.CleanStretch.{is_needed_by_receivers}
 use Rattle.sub_laws.specs.Recovery.{RecoversWithin}
 use Rattle.sub_laws.specs.Robust.{Robust}
@@ -67,8 +67,7 @@ time_filling_header =
 abbrev pub row_1 : ℕ → List ℕ
 row_1 byte = 0xD0 ∷ 0x15 ∷ byte ∷ replicate 39 0x20
 
--- Packet 8/22, row 22 of magazine 8: `Hi` in a box in the middle, with options_with_bound box code
--- sent twice.
+-- Packet 8/22, row 22 of magazine 8: `Hi` in a box in the middle, with each box code sent twice.
 abbrev pub row_22 : List ℕ
 row_22 =
     (0x15 ∷ 0x9B ∷ [])
@@ -141,30 +140,31 @@ ExampleOfGoodTransmission =
 -- ---- for each fault that matters to receivers, a transmission that fails at a receiver
 
 -- The number of the fault for a packet that breaks rule `r`.
-abbrev pub number_of : PacketRule → ℕ
-number_of r = (code_of_check_fault (packet_fault r 0 0)).number
+abbrev pub fault_number_of : PacketRule → ℕ
+fault_number_of r = (code_of_check_fault (packet_fault r 0 0)).number
 
 -- No fault that matters to receivers is reported in the frames from `a` to `b`, except for faults
 -- with this number.
-pub record IsUnreportedExcept (number : ℕ) (g : Criteria) (frames : Transmission) (a b : ℕ) : Type 0
-  where
-    pub rising : number ≢ 62 → IsRising frames
-    pub packets :
-        (r : PacketRule)
-        → IsTrue (is_needed_by_receivers r)
-        → number ≢ number_of r
-        → HoldsAtPackets (λ before p. IsFalse (breaks r g.watched before p)) frames a b
-    pub content :
-        number ≢ 72 → HoldsAtFrameEnds (λ n f. (active_faults_at g frames n f).content ≡ None)
-        frames a b
-    pub gap : number ≢ 73 → HoldsAtFrameEnds (λ n f. IsFalse (active_faults_at g frames n f).gap)
-        frames a b
+pub record HasNoReceiverFaultExcept
+    (number : ℕ) (g : Criteria) (frames : Transmission) (a b : ℕ)
+    : Type 0 where
+  pub rising : number ≢ 62 → IsRising frames
+  pub packets :
+      (r : PacketRule)
+      → IsTrue (is_needed_by_receivers r)
+      → number ≢ fault_number_of r
+      → HoldsAtPackets (λ before p. IsFalse (breaks r g.watched before p)) frames a b
+  pub content :
+      number ≢ 72 → HoldsAtFrameEnds (λ n f. (active_faults_at g frames n f).content ≡ None)
+      frames a b
+  pub gap : number ≢ 73 → HoldsAtFrameEnds (λ n f. IsFalse (active_faults_at g frames n f).gap)
+      frames a b
 
 -- If the expected pages are blank, the only faults that matter to receivers are faults with this
--- number, and a receiver of the transmission has a wrong page.
+-- number, and a receiver of the transmission has a wrong page or receives no header in time.
 pub record IsRuleNeeded (number : ℕ) (transmission : Transmission) (every : ℕ) : Type 0 where
   pub others :
-      IsUnreportedExcept number (criteria_of no_subtitles (options_with_bound every) None)
+      HasNoReceiverFaultExcept number (criteria_of no_subtitles (options_with_bound every) None)
       transmission
       (first_frame transmission) (last_frame transmission)
   pub not_robust : Robust no_subtitles transmission (options_with_bound every) → ⊥
@@ -188,10 +188,10 @@ transmission_out_of_order =
     ∷ record { frame = 900003; packets = english_header ∷ time_filling_header ∷ [] }
     ∷ []
 
--- Each of the eight rules is necessary: a transmission that breaks only this rule fails at a
+-- Each of the eight rules is necessary: a transmission that breaks only this one of them fails at a
 -- receiver.
-pub record ExamplesOfNeededParts : Type 0 where
-  -- A receiver of the frames up to 900001 shows an exclamation mark that is not expected.
+pub record ExamplesOfNeededRules : Type 0 where
+  -- A receiver of the frames up to 900001 has an exclamation mark that is not expected.
   pub frames_rise : IsRuleNeeded 62 transmission_out_of_order 3
   -- With another wrong bit the address byte can't be decoded, so the receiver misses the header.
   pub exact_addresses : IsRuleNeeded 64 (one_header header_with_wrong_bit) 1
@@ -207,7 +207,7 @@ pub record ExamplesOfNeededParts : Type 0 where
   -- Row 1 is sent twice with different codes. The check uses the first packet, but a receiver
   -- stores the second.
   pub same_rows : IsRuleNeeded 69 changed_row 1
-  -- Every receiver shows an exclamation mark that is not expected.
+  -- Every receiver that receives the row has an exclamation mark that is not expected.
   pub due_content :
       IsRuleNeeded 72 (one_frame (english_header ∷ row_1 0xA1 ∷ time_filling_header ∷ [])) 1
   -- A receiver that starts after the first frame receives no header within the repeat bound.
@@ -242,12 +242,12 @@ transmission_damaged_first =
     ∷ record { frame = 900002; packets = english_header ∷ time_filling_header ∷ [] }
     ∷ []
 
--- The transmission is rejected, but no fault is reported after its first frame. So a receiver of
--- frame 900001, with at most one wrong bit in each byte and any earlier state, has the code of `H`
--- in the right cell, or a space if its byte was received wrong.
+-- The transmission is rejected, but no fault that affects receivers is reported after its first
+-- frame. So a receiver of frame 900001, with at most one wrong bit in each byte and any earlier
+-- state, has the code of `H` in the right cell, or a space.
 pub record ExampleOfCleanFrames : Type 0 where
   pub refused : Good later_subtitle transmission_damaged_first (options_with_bound 1) → ⊥
-  pub clean : IsUnreported (criteria_of later_subtitle (options_with_bound 1) None)
+  pub clean : HasNoReceiverFault (criteria_of later_subtitle (options_with_bound 1) None)
       transmission_damaged_first
       900001 900002
   pub receiver_state :

@@ -1,9 +1,9 @@
-//! Transmissions of page 888, byte by byte: a good one, and for each of eight rules a transmission
-//! that breaks only this rule and fails at a receiver.
+//! Transmissions of page 888, byte by byte: a good one, and for each of eight rules that matter to
+//! receivers a transmission that breaks only this one of them and fails at a receiver.
 //!
 //! The examples test the definitions of `specs/`. The functions have no body.
 ghost use Rattle.sub_examples.specs.Examples.{ExampleOfCleanFrames, ExampleOfGoodTransmission};
-ghost use Rattle.sub_examples.specs.Examples.{ExamplesOfNeededParts};
+ghost use Rattle.sub_examples.specs.Examples.{ExamplesOfNeededRules};
 ghost use Rattle.sub_examples.specs.TrustedExamples.{ExamplesOfTrustedFrames};
 
 /// A good transmission: a subtitle in one frame, and a blank page in the next frame.
@@ -12,14 +12,15 @@ pub fn example_of_good_transmission()
     ensures { ExampleOfGoodTransmission }
 {}
 
-/// Each of the eight rules for clean frames is necessary: for each rule there is a transmission
-/// that breaks only this rule and fails at a receiver.
-#[tactic(auto, using(crate::proofs::NotRobustExamples::examples_of_needed_parts))]
-pub fn examples_of_needed_parts()
-    ensures { ExamplesOfNeededParts }
+/// Each of the eight rules for clean frames is necessary: for each of them there is a transmission
+/// that breaks only this one of them and fails at a receiver.
+#[tactic(auto, using(crate::proofs::NotRobustExamples::examples_of_needed_rules))]
+pub fn examples_of_needed_rules()
+    ensures { ExamplesOfNeededRules }
 {}
 
-/// A rejected transmission with clean frames, and the codes that a receiver has in these frames.
+/// A rejected transmission with clean frames, and the code that a receiver has in one cell after
+/// the first of these frames.
 #[tactic(auto, using(crate::proofs::CleanFramesExample::example_of_clean_frames))]
 pub fn example_of_clean_frames()
     ensures { ExampleOfCleanFrames }

@@ -23,7 +23,8 @@ differs_from_standard_output (At device inode) (At output_device output_inode) =
     not ((device == output_device) && (inode == output_inode))
 differs_from_standard_output standard_output output = true
 
--- Creating the output empties neither the input file nor the file that receives standard output.
+-- Creating the output does not empty the input file, and is not known to empty the file that
+-- receives standard output.
 abbrev pub may_create : (input standard_output output : LookupResult) → Bool
 may_create input standard_output output =
     differs_from_input input output && differs_from_standard_output standard_output output

@@ -45,8 +45,8 @@ OpensAndCreates
 OpensAndCreates _ _ _ _ _ = ⊥
 
 -- The calls that open the files of a request, and the opened files. Input files are opened in the
--- order of the arguments, before an output is created. If a call fails, it is the last call, and no
--- files are returned.
+-- order of the arguments, before an output is created. If a file can't be opened or created, no
+-- further call is made, and no files are returned.
 abbrev pub Opens :
     {I O : Type 0} → FileNames → List (FileCall I O) → Option (OpenedFiles I O) → Type 0
 Opens names.None [] result = result ≡ Some Nothing
@@ -75,7 +75,8 @@ pub record OpensWithCalls
 abbrev pub buffer_size : ℕ
 buffer_size = 0x1_0000
 
--- The total size of the buffers of a request's files in bytes, one buffer per file.
+-- The total size of the buffers of a request's files in bytes: one buffer per file, and one buffer
+-- for a request without files.
 abbrev pub total_buffer_size : FileNames → ℕ
 total_buffer_size (names.ReadBoth stl pes) = 2 * buffer_size
 total_buffer_size (names.Write stl output) = 2 * buffer_size
@@ -83,7 +84,8 @@ total_buffer_size (names.Extract recording output) = 2 * buffer_size
 total_buffer_size _ = buffer_size
 
 -- The reason why no files are opened. `Memory`: memory ran out before any call. `Open`: the call
--- for one of the files failed, or the output would overwrite the input.
+-- for one of the files failed, or the output might overwrite the input or the file that receives
+-- standard output.
 abbrev pub IsOpeningFault :
     {I O : Type 0} → (List (FileCall I O) → Type 0) → FileNames → UsageFault → Type 0
 IsOpeningFault AreMade names usage.Memory = AreMade []

@@ -9,7 +9,7 @@ use std::fs::{Metadata, OpenFile};
 use std::io;
 use std::io::{ErrorKind, Read, Write};
 
-/// A device that prints on standard error why a call failed.
+/// A device that prints on standard error why it failed to read, to write or to store bytes.
 #[derive(Drop)]
 pub struct ErrorReporter<'a, T, E> {
     inner: T,

@@ -123,8 +123,9 @@ fn reason_for_refusal(found: LookupResults) -> Option<&'static str> {
     }
 }
 
-/// Creates a file for writing, if the lookups show that this empties neither the input nor the file
-/// that receives standard output. Otherwise returns `None` without a call.
+/// Creates a file for writing, if the lookups show that this does not empty the input, and do not
+/// show that it empties the file that receives standard output. Otherwise returns `None` without a
+/// call.
 pub fn create_distinct_file<D: FileSystem>(
     files: &mut D,
     output: &Output<'_>,

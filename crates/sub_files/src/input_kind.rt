@@ -91,9 +91,10 @@ fn has_sync_bytes(bytes: &[u8], start: usize, size: usize) -> bool {
     true
 }
 
-/// Prints one line if a refused input appears to be a transport stream without `--pid`, or a file
-/// of another format than the command reads in its place, or if `check` without `--all` refuses the
-/// order of a subtitle file's times. Otherwise prints nothing.
+/// Prints one line if a refused input appears to be a transport stream that was read without
+/// `--pid`, a subtitle file in the place of PES packets, or one of the other formats in the place
+/// of a subtitle file; or if `check` without `--all` refuses the order of a subtitle file's times.
+/// Otherwise prints nothing.
 pub fn explain_refusal<E: Eprint>(request: &Request<'_>, kinds: &InputKinds, errors: &E) {
     match request.files() {
         FileNames::ReadStl(stl) | FileNames::Write(stl, _) => {
@@ -103,11 +104,16 @@ pub fn explain_refusal<E: Eprint>(request: &Request<'_>, kinds: &InputKinds, err
             if kinds.has_time_fault.get() {
                 explain_times(request, stl.name(), errors);
             } else if !explain_subtitle_file(stl.name(), kinds.first.get(), EXCHANGED, errors) {
-                explain_pes_packets(pes.name(), kinds.second.get(), has_pid(request), errors);
+                explain_pes_packets(
+                    pes.name(),
+                    kinds.second.get(),
+                    needs_no_pid(request),
+                    errors,
+                );
             }
         }
         FileNames::ReadPes(pes) | FileNames::Extract(pes, _) => {
-            explain_pes_packets(pes.name(), kinds.first.get(), has_pid(request), errors);
+            explain_pes_packets(pes.name(), kinds.first.get(), needs_no_pid(request), errors);
         }
         FileNames::None => {}
     }
@@ -115,8 +121,9 @@ pub fn explain_refusal<E: Eprint>(request: &Request<'_>, kinds: &InputKinds, err
 
 const EXCHANGED: &str = ": give the subtitle file first (subttx check STL PES)";
 
-// Returns whether a request reads a transport stream.
-fn has_pid(request: &Request<'_>) -> bool {
+// Returns `false` only for a request without `--pid` that with `--pid` would read a transport
+// stream.
+fn needs_no_pid(request: &Request<'_>) -> bool {
     match request {
         Request::Packets { pes } | Request::Check { pes, .. } | Request::Listen { pes, .. } => {
             pes.stream.is_some()
@@ -149,13 +156,13 @@ fn explain_subtitle_file<E: Eprint>(name: &str, kind: InputKind, advice: &str, e
 
 // Prints a line if an input in the place of PES packets appears to be a transport stream that is
 // read without `--pid`, or a subtitle file.
-fn explain_pes_packets<E: Eprint>(name: &str, kind: InputKind, has_pid: bool, errors: &E) {
+fn explain_pes_packets<E: Eprint>(name: &str, kind: InputKind, needs_no_pid: bool, errors: &E) {
     let _ = match kind {
-        InputKind::TransportStream(188) if !has_pid => eprintln!(errors;
+        InputKind::TransportStream(188) if !needs_no_pid => eprintln!(errors;
             "subttx: {name:?} looks like a transport stream: give --pid \
             (subttx survey {name:?} lists PIDs)"
         ),
-        InputKind::TransportStream(size) if !has_pid => eprintln!(errors;
+        InputKind::TransportStream(size) if !needs_no_pid => eprintln!(errors;
             "subttx: {name:?} looks like a transport stream: give --pid and --packet-size {size} \
             (subttx survey {name:?} lists PIDs)"
         ),

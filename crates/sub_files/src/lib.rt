@@ -5,7 +5,8 @@
 //! writes the opened files.
 //!
 //! ```text
-//! open(&mut SystemFiles::new(rt, &mut names, ..), &request.files()); // Opened::ReadStl: film.stl
+//! open(&mut SystemFiles::new(rt, &mut names, ..), &request.files());
+//! // Some(OpenedFiles::ReadStl(..)), the open file film.stl
 //! ```
 #![tactic(auto)]
 

@@ -40,7 +40,8 @@ pub fn room(alloc: Global, size: usize) -> Option<Vec<u8>>
     vec![in alloc; 0; size].ok()
 }
 
-/// Returns the total size of the buffers of a request's files in bytes.
+/// Returns the total size of the buffers of a request's files in bytes: one buffer per file, and
+/// one buffer for a request without files.
 pub fn required_buffer_size(names: &FileNames<'_>) -> usize
     ensures size { result ≡ total_buffer_size names.now }
     ensures at_least_two_bytes { 2 ≤ result }
@@ -52,7 +53,8 @@ pub fn required_buffer_size(names: &FileNames<'_>) -> usize
 }
 
 /// Opens the files of a request in the order of its arguments, and creates the output. Returns
-/// `None` at the first failure, without further calls.
+/// `None` without further calls if a file can't be opened or created, or if the output might
+/// overwrite another file.
 pub fn open<D: FileSystem>(
     files: &mut D,
     names: &FileNames<'_>,

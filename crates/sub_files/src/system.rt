@@ -17,7 +17,8 @@ use std::rt::Files;
 use std::{fs, io, str};
 use sub_io::{FromRead, IntoFile, Store};
 
-/// The number of bytes for the names of a request's files: Linux opens no file with a longer name.
+/// The number of bytes for the names of a request's two files: Linux opens no file with a name of
+/// more than 4096 bytes.
 pub const NAMES_CAPACITY: usize = 2 * 4096;
 
 // The path of the link to the file that receives standard output.
@@ -25,8 +26,10 @@ const STANDARD_OUTPUT: &str = "/proc/self/fd/1";
 
 /// The files of the operating system.
 ///
-/// No contract says what the system returns, so each method only calls the function of `std::fs`
-/// with the same name. If the call fails, the reason is printed on standard error.
+/// No contract says what the system returns. Each method that opens, creates or looks up a file
+/// calls a function of `std::fs`, but a name that leads to a closed standard stream is not opened.
+/// If the call fails, the reason is printed on standard error, unless no file has the name that was
+/// looked up, or standard output was looked up.
 #[derive(Drop)]
 pub struct SystemFiles<'a, R> {
     rt: &'a R,

@@ -37,8 +37,8 @@ module _ (drawing : Drawing) (options : OptionsValue) (stl pes : List ℕ)
     drawable = files_mean.drawable;
   }
 
-  -- If `within` is 0, files have the same contents whether each PTS must be exact or within its
-  -- tolerance.
+  -- If `within` is 0, the contents that files have with PTS values within their tolerance are also
+  -- their contents with exact PTS values.
   exact_of :
       options.within ≡ 0
       → FilesMeanWithin drawing options stl pes subtitles t

@@ -35,17 +35,17 @@ use Rattle.sub_words.specs.Texts.{frame_of_text, number_of_text}
 use Rattle.sub_words.specs.Version.{requests_version}
 use Rattle.sub_headline.specs.PlainOptions.{CheckOption, LawOfChosenArguments, with_check_option}
 use Rattle.sub_headline.specs.PlainOptions.{arguments_of_check_option}
-use Rattle.sub_headline.specs.RecordingOptions.{LawOfPartArguments, RecordingOption, Reading}
+use Rattle.sub_headline.specs.RecordingOptions.{LawOfRecordingArguments, RecordingOption, Reading}
 use Rattle.sub_headline.specs.RecordingOptions.{with_recording_option}
 use Rattle.sub_headline.specs.RecordingOptions.{reading_of}
 use Rattle.sub_headline.specs.DrawnOptions.{CheckRecordingOption, CheckRecordingSettings}
 use Rattle.sub_headline.specs.DrawnOptions.{LawOfCheckRecordingArguments}
 use Rattle.sub_headline.specs.DrawnOptions.{with_check_recording_option, settings_of_options}
 use Rattle.sub_headline.specs.DrawnOptions.{arguments_of_check_recording_option}
-use Rattle.sub_headline.specs.DrawnOptions.CheckRecordingOption.{Letters, Lines, Of}
+use Rattle.sub_headline.specs.DrawnOptions.CheckRecordingOption.{NationalChoice, LayoutChoice, Of}
 use Rattle.stl_rows.specs.LayoutText.{layout_of_text}
 use Rattle.sub_headline.specs.RecordingOptions.{requested_recording, arguments_of_recording_option}
-use Rattle.sub_headline.specs.RecordingOptions.RecordingOption.{Pid, Size, Numbers, From, To}
+use Rattle.sub_headline.specs.RecordingOptions.RecordingOption.{Pid, Size, PesPackets, From, To}
 use Rattle.sub_headline.specs.RecordingOptions.RecordingOption.{IncludeOpen}
 use Rattle.sub_headline.specs.RecordingOptions.RecordingOption.{Any}
 use Rattle.sub_headline.specs.PlainOptions.CheckOption.{Page, Every, Origin, Pace, Complete}
@@ -69,7 +69,7 @@ values_after_parts id vs parts = fold (values_with_choice id) vs parts
 abbrev text_or_default : Text → List (List Text) → Text
 text_or_default default vs = unwrap_or (first_text (or_default vs (default ∷ []))) []
 
--- The names of the arguments of `check` to which an option may give a value.
+-- The names of the options of `check`, except `within` and `keeping`.
 abbrev keys : List Text
 keys =
     codes "page" ∷
@@ -122,7 +122,7 @@ unlisted_id_differs_from_key id none (Of (Pid text n is)) = (unlisted_id_differs
     none).1.1.1.1.1.1.0
 unlisted_id_differs_from_key id none (Of (Size text n is)) = (unlisted_id_differs_from_all id keys
     none).1.1.1.1.1.1.1.0
-unlisted_id_differs_from_key id none (Of (Numbers text n is)) = (unlisted_id_differs_from_all id
+unlisted_id_differs_from_key id none (Of (PesPackets text n is)) = (unlisted_id_differs_from_all id
     keys none).1.1.1.1.1.1.1.1.0
 unlisted_id_differs_from_key id none (Of (From text n name is)) = (unlisted_id_differs_from_all id
     keys none).1.1.1.1.1.1.1.1.1.0
@@ -130,10 +130,10 @@ unlisted_id_differs_from_key id none (Of (To text n name is)) = (unlisted_id_dif
     keys none).1.1.1.1.1.1.1.1.1.1.0
 unlisted_id_differs_from_key id none (Of IncludeOpen) = (unlisted_id_differs_from_all id keys
     none).1.1.1.1.1.1.1.1.1.1.1.0
-unlisted_id_differs_from_key id none (Letters text n name is) = (unlisted_id_differs_from_all id
-    keys none).1.1.1.1.1.1.1.1.1.1.1.1.0
-unlisted_id_differs_from_key id none (Lines text n name is) = (unlisted_id_differs_from_all id keys
-    none).1.1.1.1.1.1.1.1.1.1.1.1.1.0
+unlisted_id_differs_from_key id none (NationalChoice text n name is) = (unlisted_id_differs_from_all
+    id keys none).1.1.1.1.1.1.1.1.1.1.1.1.0
+unlisted_id_differs_from_key id none (LayoutChoice text n name is) = (unlisted_id_differs_from_all
+    id keys none).1.1.1.1.1.1.1.1.1.1.1.1.1.0
 
 not_given :
     (id : Text) (apart : (part : CheckRecordingOption) → bytes_eq (key part) id ≡ false)
@@ -228,14 +228,14 @@ next_option_keeps_meaning held l (Of (Any EveryFault)) m = assumption m
 next_option_keeps_meaning held l (Of (Pid text n is)) m = assumption
     (ap (option_map Some) is, m)
 next_option_keeps_meaning held l (Of (Size text n is)) m = assumption (is, m)
-next_option_keeps_meaning held l (Of (Numbers text n is)) m = assumption
+next_option_keeps_meaning held l (Of (PesPackets text n is)) m = assumption
     (ap (option_map Some) is, m)
 next_option_keeps_meaning held l (Of (From text n name is)) m = assumption (is, m)
 next_option_keeps_meaning held l (Of (To text n name is)) m = assumption (is, m)
 next_option_keeps_meaning held l (Of IncludeOpen) m =
     let is : bytes_eq (codes "true") (codes "true") ≡ true = refl in assumption (is, m)
-next_option_keeps_meaning held l (Letters text n name is) m = assumption (is, m)
-next_option_keeps_meaning held l (Lines text n name is) m = assumption (is, m)
+next_option_keeps_meaning held l (NationalChoice text n name is) m = assumption (is, m)
+next_option_keeps_meaning held l (LayoutChoice text n name is) m = assumption (is, m)
 
 abbrev values_by_parts :
     (Text → List (List Text)) → List CheckRecordingOption → Text → List (List Text)
@@ -291,12 +291,12 @@ option_has_text (Of (Any Complete)) = tt
 option_has_text (Of (Any EveryFault)) = tt
 option_has_text (Of (Pid text n is)) = tt
 option_has_text (Of (Size text n is)) = tt
-option_has_text (Of (Numbers text n is)) = tt
+option_has_text (Of (PesPackets text n is)) = tt
 option_has_text (Of (From text n name is)) = tt
 option_has_text (Of (To text n name is)) = tt
 option_has_text (Of IncludeOpen) = tt
-option_has_text (Letters text n name is) = tt
-option_has_text (Lines text n name is) = tt
+option_has_text (NationalChoice text n name is) = tt
+option_has_text (LayoutChoice text n name is) = tt
 
 further_option_keeps_text : (b : Bool) (part : CheckRecordingOption) (vs : List (List Text))
     → HasText vs
@@ -738,8 +738,8 @@ settings_of_parts l [] = refl
 settings_of_parts l (part ∷ parts) =
     settings_of_parts (with_reading l (with_recording_option l.reading part)) parts
 
-pub law_of_part_arguments : LawOfPartArguments
-law_of_part_arguments program stl pes parts request is_stl is_pes asks =
+pub law_of_recording_arguments : LawOfRecordingArguments
+law_of_recording_arguments program stl pes parts request is_stl is_pes asks =
     let so =
     law_of_check_recording_arguments program stl pes (map Of parts) request is_stl is_pes
     (subst
@@ -774,7 +774,7 @@ choices_keep_reading r (choice ∷ choices) = choices_keep_reading
 pub law_of_chosen_arguments : LawOfChosenArguments
 law_of_chosen_arguments program stl pes choices request is_stl is_pes asks =
     let so =
-    law_of_part_arguments program stl pes (map Any choices) request is_stl is_pes
+    law_of_recording_arguments program stl pes (map Any choices) request is_stl is_pes
     (subst
     (λ (ws : List Text). IsRequestOf (program ∷ codes "check" ∷ stl ∷ pes ∷ ws) request)
     (sym (choices_keep_arguments choices)) asks) in

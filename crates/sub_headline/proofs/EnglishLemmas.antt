@@ -31,7 +31,7 @@ use Rattle.stl_rows.specs.Layout.{default_layout, drawing_within}
 use Rattle.stl_rows.specs.declared.layout.Drawing.{Drawing}
 use Rattle.sub_headline.specs.Acceptance.{default_drawing}
 use Rattle.sub_headline.specs.EnglishPage.{FitLines, FitsLine, IsHandledByte, IsDrawnCompletely}
-use Rattle.sub_headline.specs.EnglishPage.{english_cell}
+use Rattle.sub_headline.specs.EnglishPage.{english_code}
 use Rattle.sub_headline.specs.EnglishPage.{english_due_page}
 use Rattle.sub_headline.specs.EnglishPage.{english_lines, english_page, page_or_blank, put}
 
@@ -70,8 +70,8 @@ same_entry_keeps_cells_equal : (x : Bool) (a p q : Option ℕ) → p ≡ q
 same_entry_keeps_cells_equal true a p q e = refl
 same_entry_keeps_cells_equal false a p q e = e
 
-cell_eq : (byte : ℕ) → cell_of English byte ≡ english_cell byte
-unfolding cell_of sub_set is_encoded_by english_cell
+cell_eq : (byte : ℕ) → cell_of English byte ≡ english_code byte
+unfolding cell_of sub_set is_encoded_by english_code
 cell_eq byte =
     ap (λ (o : Option ℕ). if is_common byte then Some byte else o)
     (same_entry_keeps_cells_equal (0xA3 == byte) _ _ _
@@ -103,7 +103,7 @@ codes_give_english_lines place [] = refl
 codes_give_english_lines place (byte ∷ bytes) =
     ap lines_of_codes (first_code_precedes_others place byte bytes)
     ∙ ap (lines_with_code (text_code English byte)) (codes_give_english_lines (place + 1) bytes)
-    ∙ cell_is_put_on_line (english_cell byte) byte (english_lines bytes) (cell_eq byte)
+    ∙ cell_is_put_on_line (english_code byte) byte (english_lines bytes) (cell_eq byte)
 
 reading_gives_nothing : (byte place : ℕ)
     → fault_of_code place (code_without_cell byte) ≡ None
@@ -148,7 +148,7 @@ accepted_text_is_handled place (byte ∷ bytes) e =
     absent_first_keeps_list (fault_of_code place (text_code English byte))
     (faults_of_codes (text_codes_after_skip English (place + 1) 0 bytes))
     (sym (ap faults_of_codes (first_code_precedes_others place byte bytes)) ∙ e) in
-    All-cons IsHandledByte byte bytes (accepted_byte_is_handled (english_cell byte) byte place
+    All-cons IsHandledByte byte bytes (accepted_byte_is_handled (english_code byte) byte place
     (cell_eq byte) of.0)
     (accepted_text_is_handled (place + 1) bytes of.1)
 
@@ -363,7 +363,7 @@ handled_text_is_accepted place (byte ∷ bytes) read =
     ap faults_of_codes (first_code_precedes_others place byte bytes)
     ∙ empty_first_gives_nothing (fault_of_code place (text_code English byte))
     (faults_of_codes (text_codes_after_skip English (place + 1) 0 bytes))
-    (taken (english_cell byte) byte place (cell_eq byte) (All-head IsHandledByte byte bytes read))
+    (taken (english_code byte) byte place (cell_eq byte) (All-head IsHandledByte byte bytes read))
     (handled_text_is_accepted (place + 1) bytes (All-tail IsHandledByte byte bytes read))
 
 line_not_too_long : (n : ℕ) → n ≤ 40 → nat_lt 40 n ≡ false

@@ -50,7 +50,7 @@ use Rattle.sub_headline.specs.DrawnOptions.{CheckRecordingSettings, settings_of_
 use Rattle.sub_headline.specs.DrawnOptions.{arguments_of_check_recording_option}
 use Rattle.sub_headline.specs.DrawnOptions.CheckRecordingOption.{Of}
 use Rattle.sub_headline.specs.EnglishPage.{english_due_page}
-use Rattle.sub_headline.specs.EnglishScreen.{EachScreenShows}
+use Rattle.sub_headline.specs.EnglishScreen.{EachDecodedPageReads}
 use Rattle.sub_headline.specs.Headline.{ServesOtherReceivers, LawOfHeadline, ForChosenOptions}
 use Rattle.sub_headline.specs.Headline.{ForCheckRecordingOptions}
 use Rattle.sub_headline.specs.Headline.{ForRecordingCheck}
@@ -70,7 +70,7 @@ use Rattle.sub_headline.specs.PlainArguments.{IsName}
 use Rattle.sub_headline.specs.Run.{RunsProgram}
 use Rattle.sub_headline.proofs.ChosenWordLemmas.{law_of_check_recording_arguments}
 use Rattle.sub_headline.proofs.ChosenWordLemmas.{law_of_chosen_arguments}
-use Rattle.sub_headline.proofs.ChosenWordLemmas.{law_of_part_arguments, settings_of_parts}
+use Rattle.sub_headline.proofs.ChosenWordLemmas.{law_of_recording_arguments, settings_of_parts}
 use Rattle.sub_headline.proofs.ChosenWordLemmas.{options_allow_no_delay_or_keeping}
 use Rattle.sub_headline.proofs.ChosenWordLemmas.{choices_keep_reading}
 use Rattle.sub_headline.proofs.AcceptanceLemmas.{law_of_plain_acceptance, programme_of}
@@ -80,7 +80,7 @@ use Rattle.sub_headline.proofs.EnglishLemmas.{scope_does_not_change_due_page, en
 use Rattle.sub_headline.proofs.FrameReadingLemmas.{bytes_give_transmission}
 use Rattle.sub_headline.proofs.RunLemmas.{HasAnswered, answered, zero_code_means_done}
 use Rattle.sub_headline.proofs.RunLemmas.{code_other_than_two_means_no_fault}
-use Rattle.sub_headline.proofs.ScreenLemmas.{receivers_show_on_screens}
+use Rattle.sub_headline.proofs.ScreenLemmas.{decoded_pages_have_expected_characters}
 use Rattle.sub_headline.proofs.SubtitleReadingLemmas.{file_bytes_give_subtitles}
 use Rattle.sub_headline.proofs.SubtitleReadingLemmas.{scope_of_file_gives_subtitles}
 
@@ -278,9 +278,10 @@ module _ (scope : Scope) (options : OptionsValue) (stl pes : List ℕ)
   kept fits = record {
     dropping =
         read fits (EachReceiverOfClassGets Dropping options.page options.every) (each Dropping);
-    screens =
-        read fits (EachScreenShows options.page)
-        (receivers_show_on_screens options.page options.every is.subtitles is.transmission each);
+    decoded_characters =
+        read fits (EachDecodedPageReads options.page)
+        (decoded_pages_have_expected_characters options.page options.every is.subtitles
+        is.transmission each);
     complete = λ asks. read fits (EachDisplayShows options.page) (complete asks);
   }
 
@@ -470,7 +471,8 @@ module _ {K : Type 0} (contents : K → Option (List ℕ)) (failure_count : K �
       (settings_of_parts (settings_of_options [])
       parts) in
       record {
-        requested = λ request. law_of_part_arguments program stl pes parts request is_stl is_pes;
+        requested = λ request.
+            law_of_recording_arguments program stl pes parts request is_stl is_pes;
         none = ap (λ (o : OptionsValue). o.within) (sym at) ∙ by.0;
         off = ap (λ (o : OptionsValue). o.keeps) (sym at) ∙ by.1;
       }
@@ -581,9 +583,9 @@ law_of_headline contents failure_count IsPush given before after output left cod
       chosen,
       by (λ o file bytes. EachReceiverOfClassGets Dropping o.page o.every)
           (λ o file bytes is. each whole o file bytes is Dropping),
-      by (λ o file bytes. EachScreenShows o.page)
+      by (λ o file bytes. EachDecodedPageReads o.page)
           (λ o file bytes is.
-          receivers_show_on_screens o.page o.every is.subtitles is.transmission
+          decoded_pages_have_expected_characters o.page o.every is.subtitles is.transmission
           (each whole o file bytes is)),
       by (λ o file bytes. AreReadFrom whole o.origin file bytes)
           (λ o file bytes is. files whole o file bytes is),

@@ -32,8 +32,8 @@ use Rattle.sub_headline.specs.PlainOptions.CheckOption.{Page, Every, Origin, Pac
 use Rattle.sub_headline.specs.PlainOptions.CheckOption.{EveryFault}
 use Rattle.sub_headline.specs.DrawnOptions.{CheckRecordingOption}
 use Rattle.sub_headline.specs.DrawnOptions.{arguments_of_check_recording_option}
-use Rattle.sub_headline.specs.DrawnOptions.CheckRecordingOption.{Letters, Lines, Of}
-use Rattle.sub_headline.specs.RecordingOptions.RecordingOption.{Pid, Size, Numbers, From, To}
+use Rattle.sub_headline.specs.DrawnOptions.CheckRecordingOption.{NationalChoice, LayoutChoice, Of}
+use Rattle.sub_headline.specs.RecordingOptions.RecordingOption.{Pid, Size, PesPackets, From, To}
 use Rattle.sub_headline.specs.RecordingOptions.RecordingOption.{IncludeOpen}
 use Rattle.sub_headline.specs.RecordingOptions.RecordingOption.{Any}
 use Rattle.sub_headline.specs.PlainArguments.{IsName}
@@ -166,12 +166,12 @@ key (Of (Any Complete)) = codes "complete"
 key (Of (Any EveryFault)) = codes "all"
 key (Of (Pid text pid is)) = codes "pid"
 key (Of (Size text size is)) = codes "packet-size"
-key (Of (Numbers text range is)) = codes "pes"
+key (Of (PesPackets text range is)) = codes "pes"
 key (Of (From text frame name is)) = codes "from"
 key (Of (To text frame name is)) = codes "to"
 key (Of IncludeOpen) = codes "open"
-key (Letters text national name is) = codes "option"
-key (Lines text layout name is) = codes "layout"
+key (NationalChoice text national name is) = codes "option"
+key (LayoutChoice text layout name is) = codes "layout"
 
 abbrev pub option_values : CheckRecordingOption → List Text
 option_values (Of (Any (Page text page is))) = text ∷ []
@@ -182,12 +182,12 @@ option_values (Of (Any Complete)) = codes "true" ∷ []
 option_values (Of (Any EveryFault)) = codes "true" ∷ []
 option_values (Of (Pid text pid is)) = text ∷ []
 option_values (Of (Size text size is)) = text ∷ []
-option_values (Of (Numbers text range is)) = text ∷ []
+option_values (Of (PesPackets text range is)) = text ∷ []
 option_values (Of (From text frame name is)) = text ∷ []
 option_values (Of (To text frame name is)) = text ∷ []
 option_values (Of IncludeOpen) = codes "true" ∷ []
-option_values (Letters text national name is) = text ∷ []
-option_values (Lines text layout name is) = text ∷ []
+option_values (NationalChoice text national name is) = text ∷ []
+option_values (LayoutChoice text layout name is) = text ∷ []
 
 abbrev rule_at : Text → Rule
 rule_at id = unwrap_or (arg_by_id rules id) (new_rule [])
@@ -207,12 +207,12 @@ next h (Of (Any Complete)) = reacted rules (rule_at (codes "complete")) [] h
 next h (Of (Any EveryFault)) = reacted rules (rule_at (codes "all")) [] h
 next h (Of (Pid text pid is)) = state_with_value (codes "pid") text h
 next h (Of (Size text size is)) = state_with_value (codes "packet-size") text h
-next h (Of (Numbers text range is)) = state_with_value (codes "pes") text h
+next h (Of (PesPackets text range is)) = state_with_value (codes "pes") text h
 next h (Of (From text frame name is)) = state_with_value (codes "from") text h
 next h (Of (To text frame name is)) = state_with_value (codes "to") text h
 next h (Of IncludeOpen) = reacted rules (rule_at (codes "open")) [] h
-next h (Letters text national name is) = state_with_value (codes "option") text h
-next h (Lines text layout name is) = state_with_value (codes "layout") text h
+next h (NationalChoice text national name is) = state_with_value (codes "option") text h
+next h (LayoutChoice text layout name is) = state_with_value (codes "layout") text h
 
 walk_reads_page_option : (h : Held)
     → walked rules [] (walk_at_position h 3) (codes "--page")
@@ -415,7 +415,7 @@ walk_reads_check_recording_option h (Of (Pid text pid is)) =
 walk_reads_check_recording_option h (Of (Size text size is)) =
     ap (λ (w : Walk). walked rules [] w text) (walk_reads_size_option h)
     ∙ walk_reads_size_value h text (size_is_name text size is)
-walk_reads_check_recording_option h (Of (Numbers text range is)) =
+walk_reads_check_recording_option h (Of (PesPackets text range is)) =
     ap (λ (w : Walk). walked rules [] w text) (walk_reads_pes_option h)
     ∙ walk_reads_pes_value h text (range_is_name text range is)
 walk_reads_check_recording_option h (Of (From text frame name is)) =
@@ -425,10 +425,10 @@ walk_reads_check_recording_option h (Of (To text frame name is)) =
     ap (λ (w : Walk). walked rules [] w text) (walk_reads_to_option h) ∙ walk_reads_to_value h text
     name
 walk_reads_check_recording_option h (Of IncludeOpen) = walk_reads_open_option h
-walk_reads_check_recording_option h (Letters text national name is) =
+walk_reads_check_recording_option h (NationalChoice text national name is) =
     ap (λ (w : Walk). walked rules [] w text) (walk_reads_national_option h)
     ∙ walk_reads_national_value h text name
-walk_reads_check_recording_option h (Lines text layout name is) =
+walk_reads_check_recording_option h (LayoutChoice text layout name is) =
     ap (λ (w : Walk). walked rules [] w text) (walk_reads_layout_option h)
     ∙ walk_reads_layout_value h text name
 
@@ -462,12 +462,12 @@ option_sets_row h (Of (Any Complete)) = refl
 option_sets_row h (Of (Any EveryFault)) = refl
 option_sets_row h (Of (Pid text pid is)) = refl
 option_sets_row h (Of (Size text size is)) = refl
-option_sets_row h (Of (Numbers text range is)) = refl
+option_sets_row h (Of (PesPackets text range is)) = refl
 option_sets_row h (Of (From text frame name is)) = refl
 option_sets_row h (Of (To text frame name is)) = refl
 option_sets_row h (Of IncludeOpen) = refl
-option_sets_row h (Letters text national name is) = refl
-option_sets_row h (Lines text layout name is) = refl
+option_sets_row h (NationalChoice text national name is) = refl
+option_sets_row h (LayoutChoice text layout name is) = refl
 
 -- The values of the argument `id` after one more option: the option's values if it sets this
 -- argument.
@@ -483,12 +483,12 @@ key_equals_itself (Of (Any Complete)) = refl
 key_equals_itself (Of (Any EveryFault)) = refl
 key_equals_itself (Of (Pid text pid is)) = refl
 key_equals_itself (Of (Size text size is)) = refl
-key_equals_itself (Of (Numbers text range is)) = refl
+key_equals_itself (Of (PesPackets text range is)) = refl
 key_equals_itself (Of (From text frame name is)) = refl
 key_equals_itself (Of (To text frame name is)) = refl
 key_equals_itself (Of IncludeOpen) = refl
-key_equals_itself (Letters text national name is) = refl
-key_equals_itself (Lines text layout name is) = refl
+key_equals_itself (NationalChoice text national name is) = refl
+key_equals_itself (LayoutChoice text layout name is) = refl
 
 setting_row_changes_own_id : (b : Bool) (id : Text) (how : Reading) (choice : CheckRecordingOption)
     (rows : List Row)

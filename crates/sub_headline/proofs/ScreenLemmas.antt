@@ -11,8 +11,8 @@ use Rattle.stl_file.specs.Subtitle.{SubtitleValue}
 use Rattle.stl_rows.specs.TextCode.{is_common}
 use Rattle.sub_rules.specs.Transmission.{Transmission}
 use Rattle.sub_headline.specs.BothClasses.{EachReceiverOfClassGets}
-use Rattle.sub_headline.specs.EnglishPage.{english_cell}
-use Rattle.sub_headline.specs.EnglishScreen.{EachScreenShows, LawOfEnglishCharacters}
+use Rattle.sub_headline.specs.EnglishPage.{english_code}
+use Rattle.sub_headline.specs.EnglishScreen.{EachDecodedPageReads, LawOfEnglishCharacters}
 use Rattle.sub_headline.specs.EnglishScreen.{space_character}
 use Rattle.sub_headline.specs.EnglishScreen.{english_character, text_character}
 
@@ -99,7 +99,7 @@ bytes_show_equally_by_test true byte code so is =
 bytes_show_equally_by_test false byte code so is = uncommon_bytes_show_equally byte code is
 
 pub law_of_english_characters : LawOfEnglishCharacters
-unfolding english_cell
+unfolding english_code
 law_of_english_characters byte code is = bytes_show_equally_by_test (is_common byte) byte code refl
     is
 
@@ -118,11 +118,12 @@ shows_due_or_excused is due IsExcused (inr (none, excused)) = inr (
   excused,
 )
 
-pub receivers_show_on_screens : (page : PageIdValue) (every : ℕ) (subtitles : List SubtitleValue)
+pub decoded_pages_have_expected_characters : (page : PageIdValue) (every : ℕ)
+    (subtitles : List SubtitleValue)
     (transmission : Transmission)
     → ((class : ReceiverClass) → EachReceiverOfClassGets class page every subtitles transmission)
-    → EachScreenShows page subtitles transmission
-receivers_show_on_screens page every subtitles transmission each =
+    → EachDecodedPageReads page subtitles transmission
+decoded_pages_have_expected_characters page every subtitles transmission each =
     λ class g j f arrived got old new is_got hears header row column is_cell.
     shows_due_or_excused _ _ _
     ((each class g j f arrived got old new is_got hears).cells header row column is_cell)

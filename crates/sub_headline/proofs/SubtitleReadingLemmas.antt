@@ -141,7 +141,8 @@ blocks_give_subtitle t g of =
       text_eq,
     ) refl
 
--- All blocks have the same SGN and SN.
+-- The blocks are those of one subtitle: all have the same SGN and SN, and only the last has the EBN
+-- FF.
 abbrev AreBlocksOfOneSubtitle : List (List ℕ) → Type 0
 AreBlocksOfOneSubtitle g = (sgn_is : ℕ) × (sn_is : ℕ) × AreLinked sgn_is sn_is g
 

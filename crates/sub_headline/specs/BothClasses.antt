@@ -11,9 +11,10 @@ use Rattle.sub_laws.specs.LostRows.{IsReceivedWithLosses}
 use Rattle.sub_headline.specs.EnglishPage.{english_due_page}
 use Rattle.sub_headline.specs.PlainHeadline.{ReceivesPage}
 
--- Every receiver of the class has the expected page, except for excused cells, which may contain a
--- space. If the receiver drops rows, all cells of a row are excused if the row was lost or any of
--- its bytes was received wrong.
+-- Every receiver of the class has the expected page, as `ReceivesPage` specifies, if it receives
+-- the packets as `IsReceivedWithLosses` allows. Excused cells may contain a space. If the receiver
+-- drops rows, all cells of a row are excused if the row was lost or any of its bytes was received
+-- wrong.
 abbrev pub EachReceiverOfClassGets :
     ReceiverClass → PageIdValue → ℕ → List SubtitleValue → Transmission → Type 0
 EachReceiverOfClassGets class page every subtitles transmission =

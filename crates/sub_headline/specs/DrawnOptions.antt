@@ -18,12 +18,12 @@ use Rattle.sub_headline.specs.RecordingOptions.{arguments_of_recording_option}
 
 -- One option: a national option or a layout, with its text, or an option for a recording.
 pub data CheckRecordingOption : Type 0 where
-  Letters : (text : Text)
+  NationalChoice : (text : Text)
       → (national : National)
       → IsName text
       → named_option text ≡ Some national
       → CheckRecordingOption
-  Lines : (text : Text)
+  LayoutChoice : (text : Text)
       → (layout : Layout)
       → IsName text
       → layout_of_text text ≡ Some layout
@@ -32,8 +32,10 @@ pub data CheckRecordingOption : Type 0 where
 
 -- The command-line arguments for an option.
 abbrev pub arguments_of_check_recording_option : CheckRecordingOption → List Text
-arguments_of_check_recording_option (Letters text national name is) = codes "--option" ∷ text ∷ []
-arguments_of_check_recording_option (Lines text layout name is) = codes "--layout" ∷ text ∷ []
+arguments_of_check_recording_option (NationalChoice text national name is) =
+    codes "--option" ∷ text ∷ []
+arguments_of_check_recording_option (LayoutChoice text layout name is) =
+    codes "--layout" ∷ text ∷ []
 arguments_of_check_recording_option (Of part) = arguments_of_recording_option part
 
 -- The settings for reading a recording and for drawing subtitles.
@@ -45,8 +47,9 @@ pub record CheckRecordingSettings : Type 0 where
 -- The settings after one more option.
 abbrev pub with_check_recording_option :
     CheckRecordingSettings → CheckRecordingOption → CheckRecordingSettings
-with_check_recording_option l (Letters text national name is) = record l { national = national }
-with_check_recording_option l (Lines text layout name is) = record l { layout = layout }
+with_check_recording_option l (NationalChoice text national name is) =
+    record l { national = national }
+with_check_recording_option l (LayoutChoice text layout name is) = record l { layout = layout }
 with_check_recording_option l (Of part) =
     record l { reading = with_recording_option l.reading part }
 
@@ -58,8 +61,8 @@ settings_of_options choices =
     (record { reading = reading_of []; national = English; layout = default_layout })
     choices
 
--- The arguments `check STL RECORDING` and these options request a check of the two files with the
--- settings of the options, and the PTS of frame 0 is less than 2^33.
+-- If the arguments `check STL RECORDING` and these options are a request, it is a check of the two
+-- files with the settings of the options, and the PTS of frame 0 is less than 2^33.
 abbrev pub LawOfCheckRecordingArguments : Type 0
 LawOfCheckRecordingArguments =
     (program stl recording : Text) (choices : List CheckRecordingOption) (request : Request)

@@ -12,8 +12,8 @@ use Rattle.stl_rows.specs.TextCode.{is_common, is_within, new_line}
 -- The Teletext code for a byte of text (EBU Tech 3264, code table 00; EN 300 706, English sub-set):
 -- the same number, except for the characters of the national sub-set. `None` if the byte has no
 -- code.
-unfoldable pub english_cell : ℕ → Option ℕ
-english_cell byte =
+unfoldable pub english_code : ℕ → Option ℕ
+english_code byte =
     if is_common byte then Some byte
     else (if 0xA3 == byte then Some 0x23  -- £
     else (if 0x24 == byte then Some 0x24  -- $
@@ -23,7 +23,7 @@ english_cell byte =
     else None)))))
 
 -- The lines of a text after a byte was put in front of it: the byte is a cell, or the end of a
--- line, or has no cell because it is for italics, underline or boxing.
+-- line, or has no cell: it is for italics, underline or boxing, or it is rejected.
 abbrev pub put : Option ℕ → ℕ → List (List ℕ) → List (List ℕ)
 put (Some cell) byte lines = onto_first cell lines
 put None byte lines = if byte == new_line then [] ∷ lines else lines
@@ -31,17 +31,17 @@ put None byte lines = if byte == new_line then [] ∷ lines else lines
 -- The lines of a subtitle's text, as codes of cells.
 abbrev pub english_lines : List ℕ → List (List ℕ)
 english_lines [] = [] ∷ []
-english_lines (byte ∷ bytes) = put (english_cell byte) byte (english_lines bytes)
+english_lines (byte ∷ bytes) = put (english_code byte) byte (english_lines bytes)
 
 -- The byte is a cell, a new line, or a code for italics, underline or boxing. A text with any other
 -- byte is rejected.
 abbrev pub IsHandledByte : ℕ → Type 0
 IsHandledByte byte =
-    (english_cell byte ≢ None) ⊎ (byte ≡ new_line) ⊎ (is_within 0x80 0x85 byte ≡ true)
+    (english_code byte ≢ None) ⊎ (byte ≡ new_line) ⊎ (is_within 0x80 0x85 byte ≡ true)
 
--- A line of a subtitle fits on the page. It has at most 40 cells. Row 24 remains free, so the line
--- is not below row 23 and has no double height in row 23. It is empty if the line above it has
--- double height.
+-- A line of a subtitle fits on the page. It has at most 40 cells. Row 24 remains free, so a line
+-- that is not empty is not below row 23, and has no double height in row 23. It is empty if the
+-- line above it has double height.
 pub record FitsLine (row : ℕ) (is_below_double_height : Bool) (line : List ℕ) : Type 0 where
   pub short : length line ≤ 40
   pub high : line ≢ [] → row ≤ 23
@@ -54,7 +54,7 @@ FitLines row is_below_double_height [] = ⊤
 FitLines row is_below_double_height (line ∷ lines) =
     FitsLine row is_below_double_height line × FitLines (row + 1) (has_double_height line) lines
 
--- The lines of a subtitle. Each line that is not empty is in a box.
+-- The lines of a subtitle. A line that has cells but no start box is put in a box.
 abbrev pub lines_of_boxed_text : SubtitleValue → List (List ℕ)
 lines_of_boxed_text t = map boxed_line (english_lines t.text)
 

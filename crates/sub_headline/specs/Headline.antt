@@ -20,7 +20,7 @@ use Rattle.sub_headline.specs.DrawnOptions.{CheckRecordingOption, CheckRecording
 use Rattle.sub_headline.specs.DrawnOptions.{arguments_of_check_recording_option}
 use Rattle.sub_headline.specs.DrawnOptions.{settings_of_options}
 use Rattle.sub_headline.specs.EnglishPage.{english_due_page}
-use Rattle.sub_headline.specs.EnglishScreen.{EachScreenShows}
+use Rattle.sub_headline.specs.EnglishScreen.{EachDecodedPageReads}
 use Rattle.sub_headline.specs.PlainAcceptance.{IsAcceptedInPlainTerms}
 use Rattle.sub_headline.specs.PlainFiles.{AreReadFrom}
 use Rattle.sub_headline.specs.PlainHeadline.{Headline}
@@ -57,7 +57,8 @@ ImpliesHeadline given files code =
     → Headline page_888 250 english_due_page (subtitles_by_place file) (frames_by_place 0 bytes))
 
 -- The statement `IsSo` is true for the options and the contents of two files in a run with the
--- arguments `check STL PES` and any of the options of type `CheckOption`, in any order.
+-- arguments `check STL PES` and any of the options of type `CheckOption`, in any order. STL and PES
+-- do not begin with `-`.
 abbrev pub ForChosenOptions :
     Result (List Text) UsageFault → MemFilesValue
     → (OptionsValue → List ℕ → List ℕ → Type 0) → Type 0
@@ -85,19 +86,20 @@ ImpliesChosenHeadline given files code =
     ForAcceptedCheck given files code (λ o. Headline o.page o.every english_due_page)
 
 -- If the exit code is 0, receivers that drop each row with a byte of even parity also have the
--- expected page. All cells of a row are excused if any byte of the row was received wrong.
+-- expected page. All cells of a row are excused if the row was lost or any of its bytes was
+-- received wrong.
 abbrev pub ImpliesDroppingHeadline : Result (List Text) UsageFault → MemFilesValue → ℕ → Type 0
 ImpliesDroppingHeadline given files code =
     ForAcceptedCheck given files code (λ o. EachReceiverOfClassGets Dropping o.page o.every)
 
--- If the exit code is 0, the screen of each receiver of either class shows the characters of the
--- expected page.
-abbrev pub ImpliesScreenContents : Result (List Text) UsageFault → MemFilesValue → ℕ → Type 0
-ImpliesScreenContents given files code = ForAcceptedCheck given files code
-    (λ o. EachScreenShows o.page)
+-- If the exit code is 0, the decoded page of each receiver of either class shows the characters of
+-- the expected page, as `EachDecodedPageReads` specifies.
+abbrev pub ImpliesPageCharacters : Result (List Text) UsageFault → MemFilesValue → ℕ → Type 0
+ImpliesPageCharacters given files code = ForAcceptedCheck given files code
+    (λ o. EachDecodedPageReads o.page)
 
--- If the exit code is 0, both files match their formats. The subtitle file contains these
--- subtitles, the PES file contains these frames, and both contain nothing else.
+-- If the exit code is 0, both files match their formats. The subtitle file contains these subtitles
+-- and no others, and the PES file contains these frames and no others.
 abbrev pub ImpliesFileReading : Result (List Text) UsageFault → MemFilesValue → ℕ → Type 0
 ImpliesFileReading given files code =
     ForChosenOptions given files
@@ -107,7 +109,7 @@ ImpliesFileReading given files code =
     (frames_by_place o.origin bytes))
 
 -- If the exit code is 0 and complete pages were required, receivers that show a page only after a
--- later header has ended it also show the expected page.
+-- later header has ended it also show the expected page, as `EachDisplayShows` specifies.
 abbrev pub ImpliesCompletePages : Result (List Text) UsageFault → MemFilesValue → ℕ → Type 0
 ImpliesCompletePages given files code =
     ForAcceptedCheck given files code
@@ -116,7 +118,8 @@ ImpliesCompletePages given files code =
 
 -- The statement `IsSo` is true for the settings and the contents of two files in a run with the
 -- arguments `check STL RECORDING` and any of the options of type `RecordingOption`, in any order.
--- RECORDING is a PES file or, with `--pid`, a transport stream.
+-- STL and RECORDING do not begin with `-`; RECORDING is a PES file or, with `--pid`, a transport
+-- stream.
 abbrev pub ForRecordingCheck :
     Result (List Text) UsageFault → MemFilesValue → (Reading → List ℕ → List ℕ → Type 0) → Type 0
 ForRecordingCheck given files IsSo =
@@ -139,14 +142,14 @@ ImpliesRecordingHeadline given files code =
     → Headline r.options.page r.options.every english_due_page (subtitles_within r.scope file)
     (frames_by_place r.options.origin (bytes_selected r bytes)))
 
--- Further receivers also have the expected page: receivers that drop damaged rows, and receivers
--- that wait for complete pages; and the screens of all receivers that are set to region 0000 or
--- 0010 show its characters.
+-- Further receivers also have the expected page: receivers that drop damaged rows and, if complete
+-- pages are required, receivers that wait for these; and the decoded pages of all receivers that
+-- are set to region 0000 or 0010 show its characters.
 pub record ServesOtherReceivers
     (o : OptionsValue) (subtitles : List SubtitleValue) (transmission : Transmission)
     : Type 0 where
   pub dropping : EachReceiverOfClassGets Dropping o.page o.every subtitles transmission
-  pub screens : EachScreenShows o.page subtitles transmission
+  pub decoded_characters : EachDecodedPageReads o.page subtitles transmission
   pub complete : IsTrue o.asks_complete → EachDisplayShows o.page subtitles transmission
 
 -- If the exit code is 0, `ServesOtherReceivers` is true for the subtitles and frames in the
@@ -159,8 +162,8 @@ ImpliesRecordingReceivers given files code =
     → ServesOtherReceivers r.options (subtitles_within r.scope file)
     (frames_by_place r.options.origin (bytes_selected r bytes)))
 
--- If the exit code is 0, the selected bytes are a PES file that contains these frames and nothing
--- else. The subtitle file contains these subtitles in its selected part.
+-- If the exit code is 0, the selected bytes are a PES file that contains these frames and no
+-- others. The subtitle file contains these subtitles and no others in its selected part.
 abbrev pub ImpliesRecordingReading : Result (List Text) UsageFault → MemFilesValue → ℕ → Type 0
 ImpliesRecordingReading given files code =
     ForRecordingCheck given files
@@ -172,7 +175,7 @@ ImpliesRecordingReading given files code =
 
 -- The statement `IsSo` is true for the settings and the contents of two files in a run with the
 -- arguments `check STL RECORDING` and any of the options of type `CheckRecordingOption`, in any
--- order.
+-- order. STL and RECORDING do not begin with `-`.
 abbrev pub ForCheckRecordingOptions :
     Result (List Text) UsageFault → MemFilesValue
     → (CheckRecordingSettings → List ℕ → List ℕ → Type 0) → Type 0
@@ -198,8 +201,9 @@ ImpliesDrawnHeadline given files code =
     (subtitles_within l.reading.scope file)
     (frames_by_place o.origin (bytes_selected l.reading bytes)))
 
--- Unless the exit code is 2 (a device failed or memory ran out), it is 0 exactly if the files
--- contain subtitles, possibly none, and a good transmission of these subtitles by the options.
+-- Unless the exit code is 2 (the arguments are invalid, a file can't be opened, a device failed or
+-- memory ran out), it is 0 exactly if the files contain subtitles, possibly none, and a good
+-- transmission of these subtitles by the options.
 abbrev pub DecidesAcceptance : Result (List Text) UsageFault → MemFilesValue → ℕ → Type 0
 DecidesAcceptance given files code =
     ForChosenOptions given files (λ o file bytes. code ≢ 2 → (code ≡ 0) ↔ IsAcceptedInPlainTerms o
@@ -219,7 +223,7 @@ LawOfHeadline {K} contents failure_count IsPush =
     given
     contents failure_count IsPush output left code
     → ImpliesHeadline given before code × ImpliesChosenHeadline given before code
-    × ImpliesDroppingHeadline given before code × ImpliesScreenContents given before code
+    × ImpliesDroppingHeadline given before code × ImpliesPageCharacters given before code
     × ImpliesFileReading given before code × ImpliesCompletePages given before code
     × ImpliesRecordingHeadline given before code × ImpliesRecordingReceivers given before code
     × ImpliesRecordingReading given before code × ImpliesDrawnHeadline given before code

@@ -14,8 +14,9 @@ use Rattle.sub_laws.specs.LostRows.{IsReceivedWithLosses}
 use Rattle.sub_headline.specs.EnglishPage.{english_due_page}
 
 -- At the end of frame f, each receiver that shows only complete pages shows the expected page, or a
--- space in an excused cell, if a header of the page was sent since the receiver was switched on.
--- This is true for any page that the receiver showed before.
+-- space in an excused cell, if a header of the page was sent since the receiver was switched on,
+-- and the packets were received as `IsReceivedWithLosses` allows. This is true for any page that
+-- the receiver showed before.
 abbrev pub EachDisplayShows : PageIdValue → List SubtitleValue → Transmission → Type 0
 EachDisplayShows page subtitles transmission =
     (class : ReceiverClass) (g j f : ℕ) (arrived : List Bool) (got : List (List ℕ))

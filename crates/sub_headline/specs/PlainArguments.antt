@@ -10,9 +10,10 @@ use Rattle.sub_request.specs.declared.request.Request.{Request}
 use Rattle.sub_words.specs.Arguments.{PesSelectionValue}
 use Rattle.sub_words.specs.Requests.{Requested, IsRequestOf, value_of_request}
 
--- The default options: page 888, a header of the page every 250 frames (10 seconds), and the PTS 0
--- for frame 0. Complete pages and a maximum distance of PES packets are not required. The expected
--- page is required at the end of each frame, and each header of the page has to erase the page.
+-- The default options: page 888, a header of the page at least every 250 frames (10 seconds), and
+-- the PTS 0 for frame 0. Complete pages and a maximum distance of PES packets are not required. The
+-- expected page is required at the end of each frame, and each header of the page has to erase the
+-- page.
 abbrev pub default_options : OptionsValue
 default_options = record {
   page = page_888;

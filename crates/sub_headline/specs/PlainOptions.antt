@@ -1,6 +1,6 @@
 -- The options that may follow `check STL PES`, in any order, and their meaning. The definition of
--- how the argument parser `clap` reads arguments has 700 lines; a reader needs only this list,
--- since a proof shows that the arguments request these options.
+-- how the argument parser `clap` reads arguments is long; a reader needs only this list, since a
+-- proof shows that any request made of these arguments has these options.
 use Rattle.std.specs.Prelude.{◌≡◌, ◌<◌, ◌^◌, ℕ, Bool, true, List, [], ◌∷◌, Some, codes, fold}
 use Rattle.std.specs.List.{flat_map}
 use Rattle.clap.specs.Words.{Text}
@@ -48,8 +48,8 @@ with_check_option o EveryFault = o
 abbrev pub options_of_check_options : List CheckOption → OptionsValue
 options_of_check_options choices = fold with_check_option default_options choices
 
--- The arguments `check STL PES` and these options request a check of the two files with the
--- options, and the PTS of frame 0 is less than 2^33.
+-- If the arguments `check STL PES` and these options are a request, it is a check of the two files
+-- with the options, and the PTS of frame 0 is less than 2^33.
 abbrev pub LawOfChosenArguments : Type 0
 LawOfChosenArguments =
     (program stl pes : Text) (choices : List CheckOption) (request : Request)

@@ -1,7 +1,7 @@
 -- The subtitles, frames and packets in the bytes of both files, read from the fixed positions of
 -- their fields. These definitions do not check the bytes; `AreReadFrom` states that the bytes match
--- the formats and contain nothing else. With fixed positions, a reader of the headline does not
--- need the grammars of the two formats.
+-- the formats and contain no other subtitles or frames. With fixed positions, a reader of the
+-- headline does not need the grammars of the two formats.
 use Rattle.std.specs.Prelude.{ℕ, zero, suc, ◌+◌, ◌-◌, ◌*◌, ◌/◌, ◌%◌, ◌^◌, Bool, not, ◌==◌, ◌||◌}
 use Rattle.std.specs.Prelude.{List}
 use Rattle.std.specs.Prelude.{[], ◌∷◌, length, take, drop, map, filter, slice_index, slice_index_or}

@@ -31,7 +31,7 @@ pub data RecordingOption : Type 0 where
   Pid : (text : Text) → (pid : ℕ) → pid_of_text text ≡ Some pid → RecordingOption
   Size : (text : Text) → (size : PacketSize) → packet_size_of_text text ≡ Some size →
       RecordingOption
-  Numbers : (text : Text) → (range : PesPacketRangeValue) → range_of_text text ≡ Some range →
+  PesPackets : (text : Text) → (range : PesPacketRangeValue) → range_of_text text ≡ Some range →
       RecordingOption
   From : (text : Text) → (frame : ℕ) → IsName text → frame_of_text text ≡ Some frame →
       RecordingOption
@@ -43,7 +43,7 @@ pub data RecordingOption : Type 0 where
 abbrev pub arguments_of_recording_option : RecordingOption → List Text
 arguments_of_recording_option (Pid text pid is) = codes "--pid" ∷ text ∷ []
 arguments_of_recording_option (Size text size is) = codes "--packet-size" ∷ text ∷ []
-arguments_of_recording_option (Numbers text range is) = codes "--pes" ∷ text ∷ []
+arguments_of_recording_option (PesPackets text range is) = codes "--pes" ∷ text ∷ []
 arguments_of_recording_option (From text frame name is) = codes "--from" ∷ text ∷ []
 arguments_of_recording_option (To text frame name is) = codes "--to" ∷ text ∷ []
 arguments_of_recording_option IncludeOpen = codes "--open" ∷ []
@@ -63,7 +63,7 @@ pub record Reading : Type 0 where
 abbrev pub with_recording_option : Reading → RecordingOption → Reading
 with_recording_option r (Pid text pid is) = record r { pid = Some pid }
 with_recording_option r (Size text size is) = record r { size = size }
-with_recording_option r (Numbers text range is) = record r { range = Some range }
+with_recording_option r (PesPackets text range is) = record r { range = Some range }
 with_recording_option r (From text frame name is) = record r {
   scope = record { takes_open = r.scope.takes_open; from = frame; to = r.scope.to };
 }
@@ -89,8 +89,8 @@ reading_of parts =
     })
     parts
 
--- The bytes of the PES packets in the transport packets with a PID, or all bytes if no PID is
--- given.
+-- The bytes of the complete PES packets in the transport packets with a PID, with gap markers where
+-- data is missing; or all bytes if no PID is given.
 abbrev pub bytes_carried_in_pid : Option ℕ → PacketSize → List ℕ → List ℕ
 bytes_carried_in_pid None size bytes = bytes
 bytes_carried_in_pid (Some pid) size bytes = carried_bytes pid (bytes_of size) bytes
@@ -112,10 +112,10 @@ requested_recording name r = record {
   range = r.range;
 }
 
--- The arguments `check STL RECORDING` and these options request a check of the two files with the
--- settings of the options, and the PTS of frame 0 is less than 2^33.
-abbrev pub LawOfPartArguments : Type 0
-LawOfPartArguments =
+-- If the arguments `check STL RECORDING` and these options are a request, it is a check of the two
+-- files with the settings of the options, and the PTS of frame 0 is less than 2^33.
+abbrev pub LawOfRecordingArguments : Type 0
+LawOfRecordingArguments =
     (program stl recording : Text) (parts : List RecordingOption) (request : Request)
     → IsName stl
     → IsName recording

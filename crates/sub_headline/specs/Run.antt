@@ -1,7 +1,7 @@
 -- The end of a run of the program: with the answer to a request, or with a fault of the arguments.
 use Rattle.std.specs.Prelude.{◌≡◌, ◌⊎◌, ℕ, List, [], Option, None, Result, Ok, Err, false}
 use Rattle.clap.specs.Words.{Text}
-use Rattle.sub_io.specs.Buffered.{BufferState}
+use Rattle.sub_io.specs.Buffered.{BufferedSinkValue}
 use Rattle.sub_files.specs.FileCalls.{FileCall}
 use Rattle.sub_files.specs.Opening.{OpensWithCalls}
 use Rattle.sub_request.specs.Files.{files_of_request}
@@ -28,8 +28,9 @@ pub record RunAnswers
   pub requested : IsRequestOf arguments request
   pub ends : Ends AreMade known IsClose request IsAlone old new result
 
--- The fault that prevents an answer: a file could not be opened, memory ran out, or the arguments
--- are invalid. In the last two cases no file was opened.
+-- The fault that prevents an answer: a file could not be opened or created, the output file might
+-- overwrite another file, memory ran out, or the arguments are invalid. In the last two cases no
+-- file was opened.
 abbrev pub IsRefusalReason :
     {I O : Type 0} → (List (FileCall I O) → Type 0) → List Text → UsageFault → Type 0
 IsRefusalReason AreMade arguments usage.Memory = AreMade []
@@ -45,7 +46,7 @@ abbrev pub IsUsageFaultReason :
 IsUsageFaultReason AreMade (Ok arguments) fault = IsRefusalReason AreMade arguments fault
 IsUsageFaultReason AreMade (Err why) fault = (fault ≡ why) × AreMade []
 
--- No request was answered, and the line of the fault was printed.
+-- No request was answered, and the line of the fault was printed, unless standard output failed.
 pub record RunReportsFault
     {I O : Type 0} (AreMade : List (FileCall I O) → Type 0) (given : Result (List Text) UsageFault)
     (old new : BufferedSinkState) (result : Status)
@@ -55,7 +56,8 @@ pub record RunReportsFault
   pub says : PrintsFault fault old new result
 
 -- The end of a run: the calls that opened and released files, the contents of the files, the
--- printed lines, and the exit status. Everything except the line of a fault was flushed.
+-- printed lines, and the exit status. `IsAlone` means that everything except the line of a fault
+-- was flushed.
 abbrev pub RunEnds :
     {I O : Type 0}
     → (List (FileCall I O) → Type 0) → FileObservations I O → (O → O → Type 0)
@@ -74,13 +76,13 @@ pub record RunsProgram
     (IsPush : K → List ℕ → Option ℕ → K → Type 0) (output left : K) (code : ℕ)
     : Type 0 where
   pub room : ℕ
-  pub new : BufferState K
+  pub new : BufferedSinkValue K
   pub left_eq : left ≡ new.device
   pub status : Status
   pub code_eq : code ≡ exit_code status
-  -- The program answers its arguments, unless memory runs out before they are read.
+  -- The run ends as `RunEnds` specifies, unless memory runs out before the arguments are read.
   pub ends :
-      (let old : BufferState K =
+      (let old : BufferedSinkValue K =
       record { device = output; buffered = []; room = room; failed = false; refused = 0 } in
       let EndsSo = RunEnds AreMade known IsClose given
       (BufferHoldsOneLineOnly contents failure_count IsPush) (state_of_buffer contents failure_count

@@ -5,7 +5,7 @@ ghost use Rattle.sub_headline.specs.EnglishScreen.{LawOfEnglishCharacters};
 ghost use Rattle.sub_headline.specs.Headline.{LawOfHeadline};
 ghost use Rattle.sub_headline.specs.PlainOptions.{LawOfChosenArguments};
 ghost use Rattle.sub_headline.specs.PlainArguments.{LawOfPlainArguments};
-ghost use Rattle.sub_headline.specs.RecordingOptions.{LawOfPartArguments};
+ghost use Rattle.sub_headline.specs.RecordingOptions.{LawOfRecordingArguments};
 
 use sub_io::Sink;
 
@@ -27,20 +27,21 @@ pub fn law_of_plain_arguments()
     ensures { LawOfPlainArguments }
 {}
 
-/// The arguments `check STL PES`, followed by options in any order, request a check of these two
-/// files with these options.
+/// If the arguments `check STL PES`, followed by options of type `CheckOption` in any order, are a
+/// request, it is a check of these two files with these options.
 pub fn law_of_chosen_arguments()
     ensures { LawOfChosenArguments }
 {}
 
-/// The arguments `check STL RECORDING`, followed by options in any order, request a check of the
-/// parts of both files that the options select.
-pub fn law_of_part_arguments()
-    ensures { LawOfPartArguments }
+/// If the arguments `check STL RECORDING`, followed by options of type `RecordingOption` in any
+/// order, are a request, it is a check of the parts of both files that the options select.
+pub fn law_of_recording_arguments()
+    ensures { LawOfRecordingArguments }
 {}
 
-/// The arguments `check STL RECORDING` with a national option or a layout request a check of
-/// subtitles drawn with them.
+/// If the arguments `check STL RECORDING`, followed by options of type `CheckRecordingOption` in
+/// any order, are a request, it is a check of the parts of both files that the options select, with
+/// subtitles drawn with the national option and the layout of the options.
 pub fn law_of_check_recording_arguments()
     ensures { LawOfCheckRecordingArguments }
 {}
@@ -50,12 +51,15 @@ pub fn law_of_english_characters()
     ensures { LawOfEnglishCharacters }
 {}
 
-/// If the program is run on files in memory with the arguments of `check`, and ends with exit code
-/// 0, the headline is true for the subtitles and frames in both files, with the options of the
-/// arguments. It is also true for receivers that drop damaged rows, the screens of all receivers
-/// show the expected page, and the bytes match their formats and contain nothing else. All this
-/// applies to the selected part of a recording, and to subtitles drawn with a national option and a
-/// layout. Any exit code other than 2 decides whether the files are accepted.
+/// If the program is run on files in memory with the arguments of `check`, without `--within` and
+/// `--keeping`, and ends with exit code 0, the headline is true for the subtitles and frames in
+/// both files, with the options of the arguments. It is also true for receivers that drop damaged
+/// rows and, if complete pages are required, for receivers that wait for these; the decoded pages
+/// of all receivers that are set to region 0000 or 0010 show the characters of the expected page,
+/// and the bytes match their formats and contain no other subtitles or frames. All this applies to
+/// the selected parts of a recording and of a subtitle file. For subtitles drawn with a national
+/// option or a layout, the headline itself is true. If no part is selected, and no national option
+/// or layout is given, any exit code other than 2 decides whether the files are accepted.
 pub fn law_of_headline<K: Sink>()
     ensures { LawOfHeadline K.contents K.failure_count K.is_push }
 {}

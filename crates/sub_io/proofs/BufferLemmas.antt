@@ -11,8 +11,8 @@ use Rattle.std.proofs.lemmas.List.Edits.{take-paste}
 use Rattle.std.proofs.lemmas.Option.{same_Some}
 use Rattle.std.specs.Io.KnownBytes.{Appends, Keeps, append_known, prepend_known}
 use lib.Seq.{paste, take-add, take-append_seam}
-use Rattle.sub_io.specs.Buffered.{ReadAhead}
-use Rattle.sub_io.specs.Calls.{ReadsAhead}
+use Rattle.sub_io.specs.Buffered.{BufferedSourceValue}
+use Rattle.sub_io.specs.Calls.{PullsBuffered}
 use Rattle.sub_io.specs.Device.{SkipsOver, Pulls}
 use Rattle.sub_io.specs.Reading.{AreNextBytes}
 
@@ -154,11 +154,11 @@ skipping_drops_buffered_prefix (Some xs) buffered left n le e = record {
 }
 
 pub reading_buffered_keeps_device : {D : Type 0} (IsPull : D → ℕ → Option ℕ → D → Type 0)
-    (old new : ReadAhead D) (n : ℕ)
+    (old new : BufferedSourceValue D) (n : ℕ)
     → 0 < n
     → n ≤ length old.buffered
     → new.device ≡ old.device
-    → ReadsAhead IsPull old n (Some n) new
+    → PullsBuffered IsPull old n (Some n) new
 reading_buffered_keeps_device IsPull old new n some le same = record {
   buffered = λ _. same;
   reads_device_directly = λ none. absurd (omega (arith, ap length none, some, le));

@@ -3,7 +3,7 @@ use Rattle.std.proofs.Common.{◌≡◌, ◌∙◌, ℕ, Bool, true, false, List
 use Rattle.std.proofs.Common.{not, refl, subst, Result, Ok, Err}
 use Rattle.std.specs.Prelude.{OnOk, is_err, is_ok}
 use Rattle.std.proofs.lemmas.Bool.{true≢false}
-use Rattle.sub_io.specs.Flushing.{FlushesIfPending, BuffersOnlyWhilePending, KeepsReports}
+use Rattle.sub_io.specs.Flushing.{FlushesOnlyIfPending, BuffersOnlyWhilePending, KeepsReports}
 use Rattle.sub_io.specs.Flushing.{FlushKeepsReports}
 use Rattle.sub_io.specs.Reporting.{Reports, ReportsInOrder, ReportsSome}
 
@@ -41,7 +41,7 @@ module _
       flushing_keeps_report_order a b c x items ok has_pending on reported
 
   pub keeps-reported : (old new : D) (ok : Bool)
-      → FlushesIfPending has_pending_reports IsFlushed old ok new
+      → FlushesOnlyIfPending has_pending_reports IsFlushed old ok new
       → KeepsReports IsReported has_pending_reports old new
   keeps-reported old new ok (inl same) = record {
     kept = λ start items still reported.

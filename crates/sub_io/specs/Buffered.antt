@@ -3,14 +3,14 @@ use Rattle.std.specs.Prelude.{◌≡◌, ℕ, ◌+◌, min, List, [], Bool}
 
 -- The model of a buffered source: the inner source, the buffered bytes, and the buffer's size in
 -- bytes.
-pub record ReadAhead (D : Type 0) : Type 0 where
+pub record BufferedSourceValue (D : Type 0) : Type 0 where
   pub device : D
   pub buffered : List ℕ
   pub room : ℕ
 
 -- The model of a buffered sink: the inner sink, the buffered bytes, the buffer's size in bytes,
 -- whether the inner sink has failed, and the number of calls refused since that failure.
-pub record BufferState (D : Type 0) : Type 0 where
+pub record BufferedSinkValue (D : Type 0) : Type 0 where
   pub device : D
   pub buffered : List ℕ
   pub room : ℕ
@@ -19,13 +19,15 @@ pub record BufferState (D : Type 0) : Type 0 where
 
 -- The failure count of a buffered sink: the number of failed calls of the inner sink plus the
 -- number of refused calls, at most 2^64 - 1.
-abbrev pub failures_with_refused_writes : ℕ → ℕ → ℕ
-failures_with_refused_writes failures refused = min (failures + refused) 0xFFFF_FFFF_FFFF_FFFF
+abbrev pub failures_with_refused_calls : ℕ → ℕ → ℕ
+failures_with_refused_calls failures refused = min (failures + refused) 0xFFFF_FFFF_FFFF_FFFF
 
 -- A successful flush: the buffer is empty afterwards, and the failure count is the same. Another
 -- clause of `flush` says that its bytes were written.
-pub record Flushes {D : Type 0} (failure_count : D → ℕ) (old new : BufferState D) : Type 0 where
+pub record Flushes
+    {D : Type 0} (failure_count : D → ℕ) (old new : BufferedSinkValue D)
+    : Type 0 where
   pub none : new.buffered ≡ []
   pub count :
-      failures_with_refused_writes (failure_count new.device) new.refused
-      ≡ failures_with_refused_writes (failure_count old.device) old.refused
+      failures_with_refused_calls (failure_count new.device) new.refused
+      ≡ failures_with_refused_calls (failure_count old.device) old.refused

@@ -4,7 +4,7 @@
 use Rattle.std.specs.Prelude.{◌≡◌, ◌≢◌, ℕ, ◌-◌, ◌<◌, ◌≤◌, ◌⊎◌, Bool, true, false, min}
 use Rattle.std.specs.Prelude.{List, [], ◌∷◌, ◌++◌, length, take, drop}
 use Rattle.std.specs.Prelude.{Option, Some, None, option_map, Result, Ok, Err}
-use Rattle.sub_io.specs.Buffered.{BufferState, ReadAhead}
+use Rattle.sub_io.specs.Buffered.{BufferedSinkValue, BufferedSourceValue}
 use Rattle.sub_io.specs.Countdown.{CountingDown, fails_next, countdown_after}
 
 -- The number of bytes transferred by a call of a device; `None` if the call failed.
@@ -27,8 +27,9 @@ FillingEnds IsPull old room true new =
     ((room ≡ 0) × (new ≡ old)) ⊎ ((0 < room) × IsPull old room (Some 0) new)
 FillingEnds IsPull old room false new = (0 < room) × IsPull old room None new
 
--- The calls of `fill`: each call except the last offers the unfilled part of the buffer, and reads
--- n > 0 bytes.
+-- The calls of `fill`: each call offers the unfilled part of the buffer. The list holds the numbers
+-- of bytes read, each greater than 0. If the buffer is not full then, one more call returned 0
+-- bytes or failed.
 abbrev pub PullsInOrder :
     {D : Type 0} → (D → ℕ → Option ℕ → D → Type 0) → D → ℕ → List ℕ → Bool → D → Type 0
 PullsInOrder IsPull old room [] ok new = FillingEnds IsPull old room ok new
@@ -38,7 +39,8 @@ PullsInOrder {D} IsPull old room (n ∷ ns) ok new =
     × IsPull old room (Some n) mid
     × PullsInOrder IsPull mid (room - n) ns ok new
 
--- The calls of a source by which `fill` fills a buffer of `room` bytes.
+-- The calls of a source by which `fill` reads into a buffer of `room` bytes, until the buffer is
+-- full, the source ends or a call fails. `ok` is false if a call failed.
 pub record FillsByPulls
     {D : Type 0} (IsPull : D → ℕ → Option ℕ → D → Type 0)
     (old : D) (room : ℕ) (ok : Bool) (new : D)
@@ -55,8 +57,8 @@ abbrev pub PuttingEnds :
 PuttingEnds IsPush old bytes true new = (bytes ≡ []) × (new ≡ old)
 PuttingEnds IsPush old bytes false new = (0 < length bytes) × IsPush old bytes None new
 
--- The calls of `put_all`: each call except the last offers all remaining bytes, of which the sink
--- takes n.
+-- The calls of `put_all`: each call offers all remaining bytes. The list holds the numbers of bytes
+-- that the sink took. If bytes remain then, one more call failed.
 abbrev pub PushesInOrder :
     {D : Type 0}
     → (D → List ℕ → Option ℕ → D → Type 0) → D → List ℕ → List ℕ → Bool → D → Type 0
@@ -67,7 +69,8 @@ PushesInOrder {D} IsPush old bytes (n ∷ ns) ok new =
     × IsPush old bytes (Some n) mid
     × PushesInOrder IsPush mid (drop n bytes) ns ok new
 
--- The calls of a sink by which `put_all` writes all of `bytes`.
+-- The calls of a sink by which `put_all` writes `bytes`. If `ok` is true, the sink took all bytes.
+-- Otherwise the last call failed, and the calls before it took a prefix of the bytes, not all.
 pub record PutsByPushes
     {D : Type 0} (IsPush : D → List ℕ → Option ℕ → D → Type 0)
     (old : D) (bytes : List ℕ) (ok : Bool) (new : D)
@@ -79,7 +82,7 @@ pub record PutsByPushes
 
 -- A call of a test device that makes one call fail: the failing call is not forwarded to the inner
 -- device, and every other call is forwarded unchanged.
-pub record Forwards
+pub record ForwardsUnlessFailing
     {D L : Type 0} (IsCall : D → L → Option ℕ → D → Type 0)
     (old : CountingDown D) (call_argument : L) (answer : Option ℕ) (new : CountingDown D)
     : Type 0 where
@@ -88,9 +91,9 @@ pub record Forwards
   pub left : new.left ≡ countdown_after old.left
 
 -- A pull of `count` bytes from a buffered source.
-pub record ReadsAhead
+pub record PullsBuffered
     {D : Type 0} (IsPull : D → ℕ → Option ℕ → D → Type 0)
-    (old : ReadAhead D) (count : ℕ) (answer : Option ℕ) (new : ReadAhead D)
+    (old : BufferedSourceValue D) (count : ℕ) (answer : Option ℕ) (new : BufferedSourceValue D)
     : Type 0 where
   -- If bytes are buffered, the pull does not call the inner source.
   pub buffered : old.buffered ≢ [] → new.device ≡ old.device
@@ -109,8 +112,8 @@ pub record ReadsAhead
       × (answer ≡ option_map (λ n. min n count) got)
 
 -- `left` is `bytes` without some prefix.
-abbrev pub AreRemainderOf : List ℕ → List ℕ → Type 0
-AreRemainderOf bytes left = (taken : List ℕ) × (bytes ≡ taken ++ left)
+abbrev pub HasRemainder : List ℕ → List ℕ → Type 0
+HasRemainder bytes left = (taken : List ℕ) × (bytes ≡ taken ++ left)
 
 -- The bytes written by a push: a prefix of the offered bytes, or none if the push failed.
 abbrev pub accepted_prefix : List ℕ → Option ℕ → List ℕ
@@ -122,13 +125,13 @@ accepted_prefix bytes (Some n) = take n bytes
 -- is forwarded to the inner sink, and a shorter push is buffered.
 pub record FlushesFull
     {D : Type 0} (IsPush : D → List ℕ → Option ℕ → D → Type 0)
-    (old : BufferState D) (bytes : List ℕ) (answer : Option ℕ) (new : BufferState D)
+    (old : BufferedSinkValue D) (bytes : List ℕ) (answer : Option ℕ) (new : BufferedSinkValue D)
     : Type 0 where
   pub ok : Bool
   pub mid : D
   pub flushed : PutsByPushes IsPush old.device old.buffered ok mid
   pub failed :
-      ok ≡ false → (answer ≡ None) × (new.device ≡ mid) × AreRemainderOf old.buffered new.buffered
+      ok ≡ false → (answer ≡ None) × (new.device ≡ mid) × HasRemainder old.buffered new.buffered
   pub writes_device_directly :
       ok ≡ true
       → old.room ≤ length bytes
@@ -142,7 +145,7 @@ pub record FlushesFull
 -- afterwards.
 pub record PushesBuffered
     {D : Type 0} (IsPush : D → List ℕ → Option ℕ → D → Type 0)
-    (old : BufferState D) (bytes : List ℕ) (answer : Option ℕ) (new : BufferState D)
+    (old : BufferedSinkValue D) (bytes : List ℕ) (answer : Option ℕ) (new : BufferedSinkValue D)
     : Type 0 where
   -- After a failure of the inner sink, a push does not call it and does not change the buffer.
   pub refused :

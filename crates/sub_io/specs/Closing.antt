@@ -4,20 +4,20 @@ use Rattle.std.specs.IoError.{error_kind}
 use Rattle.std.specs.declared.io.Error.{Error}
 use Rattle.std.specs.declared.io.ErrorKind.{ErrorKind}
 use Rattle.std.specs.declared.io.ErrorKind.TheVariants.{InvalidInput, Unsupported}
-use Rattle.sub_io.specs.Buffered.{BufferState}
+use Rattle.sub_io.specs.Buffered.{BufferedSinkValue}
 use Rattle.sub_io.specs.Counted.{FileValue}
 
 -- The errors of `sync_all` for a file that stores nothing, such as a pipe, a terminal or a device:
 -- EINVAL, ENOTSUP and ENOSYS.
-abbrev pub is_never_stored : ErrorKind → Bool
-is_never_stored InvalidInput = true
-is_never_stored Unsupported = true
-is_never_stored _ = false
+abbrev pub means_never_stored : ErrorKind → Bool
+means_never_stored InvalidInput = true
+means_never_stored Unsupported = true
+means_never_stored _ = false
 
--- The result of `sync_all` guarantees that no written byte is lost.
-abbrev pub loses_nothing : {X : Type 0} → Result X Error → Bool
-loses_nothing (Ok done) = true
-loses_nothing (Err error) = is_never_stored (error_kind error)
+-- `sync_all` succeeded, or it failed with an error of a file that stores nothing.
+abbrev pub succeeds_or_never_stores : {X : Type 0} → Result X Error → Bool
+succeeds_or_never_stores (Ok done) = true
+succeeds_or_never_stores (Err error) = means_never_stored (error_kind error)
 
 -- The default specification of storing: any result is allowed in any state.
 abbrev pub unrestricted_store : {D : Type 0} → D → Bool → Type 0
@@ -44,7 +44,7 @@ pub record Releases
 -- The effect of closing a buffered sink: the inner sink is closed, and buffered bytes are not
 -- written.
 pub record ClosesInner
-    {D : Type 0} (IsClose : D → D → Type 0) (old new : BufferState D) : Type 0 where
+    {D : Type 0} (IsClose : D → D → Type 0) (old new : BufferedSinkValue D) : Type 0 where
   pub device : IsClose old.device new.device
   pub buffered : new.buffered ≡ old.buffered
   pub room : new.room ≡ old.room

@@ -25,9 +25,9 @@ pub record FlushKeepsReports
 
 -- The report sink is unchanged, or its pending reports were flushed; `ok` is true if flushing
 -- succeeded.
-abbrev pub FlushesIfPending :
+abbrev pub FlushesOnlyIfPending :
     {D : Type 0} → (D → Bool) → (D → Bool → D → Type 0) → D → Bool → D → Type 0
-FlushesIfPending has_pending_reports IsFlushed old ok new =
+FlushesOnlyIfPending has_pending_reports IsFlushed old ok new =
     ((ok ≡ true) × (new ≡ old)) ⊎ ((has_pending_reports old ≡ true) × IsFlushed old ok new)
 
 -- All items that count as reported in the state `old` still count as reported in the state `new`,

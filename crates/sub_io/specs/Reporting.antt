@@ -22,8 +22,8 @@ abbrev pub ReportsPrefix : {A D : Type 0} → (D → A → D → Type 0) → D �
 ReportsPrefix IsReported old new items =
     (n : ℕ) × (n ≤ length items) × Reports IsReported old new (take n items)
 
--- A function that returns `Ok` has reported all items. A function that returns `Err` has reported a
--- prefix of the items, and the report sink stopped at the last item of the prefix.
+-- All items were reported if the function returned `Ok`. A prefix of the items, possibly all of
+-- them, was reported if it returned `Err`.
 abbrev pub ReportsUntilStopped : {A D X E : Type 0}
     → (D → A → D → Type 0) → D → D → List A → Result X E → Type 0
 ReportsUntilStopped IsReported old new items result =

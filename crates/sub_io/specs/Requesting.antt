@@ -13,14 +13,15 @@ MayRequest is_enough borrowed count =
     (count ≤ length borrowed) ⊎ ((bytes : List ℕ) → length bytes < count → is_enough bytes ≡ false)
 
 -- How the predicate `is_enough` changes when the reader consumes the bytes `taken`: the new
--- predicate is true for some bytes if the old one is true for `taken` followed by these bytes.
+-- predicate is true for every list of bytes for which the old one is true with `taken` before them.
 abbrev pub IsEnoughAfterReading : List ℕ → (List ℕ → Bool) → (List ℕ → Bool) → Type 0
 IsEnoughAfterReading taken old new =
     (bytes : List ℕ) → old (taken ++ bytes) ≡ true → new bytes ≡ true
 
 -- Calls of a source that request no more bytes than the reader needs. The arguments are the
--- predicate `is_enough` before the calls, whether all calls succeeded, and the predicate after
--- them. A failed call is the last call. After the end of the source, any call is allowed.
+-- predicate `is_enough` and the source before the calls, whether all calls succeeded, and the
+-- predicate and the source after them. A failed call is the last call. After the end of the source,
+-- any call is allowed.
 pub data Requests {D : Type 0} (IsPull : D → ℕ → Option ℕ → D → Type 0) (borrowed : D → List ℕ)
     (remaining : D → Option (List ℕ))
     : (List ℕ → Bool) → D → Bool → (List ℕ → Bool) → D → Type 0 where
@@ -43,7 +44,7 @@ pub data Requests {D : Type 0} (IsPull : D → ℕ → Option ℕ → D → Type
       → MayRequest old (borrowed before) count
       → IsPull before count None after
       → Requests IsPull borrowed remaining old before false new after
-  -- One call was made, and found the end of the source.
+  -- The first call found the end of the source. Any calls may follow it.
   asks_at_end :
       (old new : List ℕ → Bool) (before mid after : D) (count : ℕ) (ok : Bool)
       → 0 < count

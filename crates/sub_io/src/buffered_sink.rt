@@ -3,8 +3,8 @@
 ghost use Rattle.std.specs.Prelude.{◌≡◌, ◌≢◌, ◌+◌, ◌-◌, ◌<◌, ◌≤◌, min, [], ◌++◌, length, take};
 ghost use Rattle.std.specs.Prelude.{Ok, IfErr, IfOk, IsErr, OnOk, false, true, is_ok, ◌↔◌, ◌⊎◌};
 ghost use Rattle.std.specs.Io.KnownBytes.{Appends, Keeps, append_known};
-ghost use Rattle.sub_io.specs.Buffered.{BufferState, failures_with_refused_writes};
-ghost use Rattle.sub_io.specs.Calls.{AreRemainderOf, PushesBuffered, PutsByPushes, call_answer};
+ghost use Rattle.sub_io.specs.Buffered.{BufferedSinkValue, failures_with_refused_calls};
+ghost use Rattle.sub_io.specs.Calls.{HasRemainder, PushesBuffered, PutsByPushes, call_answer};
 ghost use Rattle.sub_io.specs.Closing.{ClosesInner};
 ghost use Rattle.sub_io.specs.Device.{CanFail, CountsFailure, Pushes};
 
@@ -32,7 +32,7 @@ pub struct BufferedSink<'a, K> {
 }
 
 impl<'a, K> Model for BufferedSink<'a, K> {
-    ghost Value = { BufferState K };
+    ghost Value = { BufferedSinkValue K };
 
     ghost view = { λ k. record {
       device = k.inner;
@@ -116,7 +116,7 @@ impl<'a, K: Sink> BufferedSink<'a, K> {
 // Pushes the first `len` bytes of the buffer `room` into the sink. `room` is not changed; it is
 // `&mut` only because the sink and a shared slice of the buffer cannot be borrowed at the same
 // time.
-fn push_front<K: Sink>(sink: &mut K, room: &mut [u8], len: usize) -> Result<(), usize>
+fn push_buffered<K: Sink>(sink: &mut K, room: &mut [u8], len: usize) -> Result<(), usize>
     requires within { len ≤ length room.old }
     requires count { CanFail (K.failure_count sink.old) }
     ensures same { room.new ≡ room.old }
@@ -134,7 +134,7 @@ impl<K: Sink> Sink for BufferedSink<'_, K> {
     ghost contents = { λ k. append_known (K.contents k.device) k.buffered };
 
     ghost failure_count = { λ k.
-        failures_with_refused_writes (K.failure_count k.device) k.refused };
+        failures_with_refused_calls (K.failure_count k.device) k.refused };
 
     ghost is_push = { PushesBuffered K.is_push };
 
@@ -146,7 +146,7 @@ impl<K: Sink> Sink for BufferedSink<'_, K> {
     /// Returns `Failed` if the inner sink fails, and at each later call.
     fn push(&mut self, from: &[u8]) -> Result<usize, Failed>
         requires nonempty { 0 < length from.now }
-        requires count { CanFail (failures_with_refused_writes
+        requires count { CanFail (failures_with_refused_calls
             (K.failure_count self.old.device) self.old.refused) }
 
         // After the inner sink has failed, a call only raises the count of refused calls.
@@ -181,9 +181,9 @@ impl<K: Sink> Sink for BufferedSink<'_, K> {
             (append_known (K.contents self.new.device) self.new.buffered)
             from.now result }
         ensures count { CountsFailure
-            (failures_with_refused_writes (K.failure_count self.old.device) self.old.refused)
+            (failures_with_refused_calls (K.failure_count self.old.device) self.old.refused)
             result
-            (failures_with_refused_writes (K.failure_count self.new.device) self.new.refused) }
+            (failures_with_refused_calls (K.failure_count self.new.device) self.new.refused) }
     {
         if self.failed {
             self.refused += 1;
@@ -214,7 +214,7 @@ impl<K: Sink> Flush for BufferedSink<'_, K> {
     ///
     /// Returns `Failed` if the inner sink fails, and at each later call.
     fn flush(&mut self) -> Result<(), Failed>
-        requires { CanFail (failures_with_refused_writes
+        requires { CanFail (failures_with_refused_calls
             (K.failure_count self.old.device) self.old.refused) }
 
         // After the inner sink has failed, a call only raises the count of refused calls.
@@ -231,7 +231,7 @@ impl<K: Sink> Flush for BufferedSink<'_, K> {
         ensures whole { OnOk result ((self.new.buffered ≡ [])
             × Appends (K.contents self.old.device) (K.contents self.new.device) self.old.buffered) }
         // If flushing fails, the bytes that the inner sink did not take stay in the buffer.
-        ensures left { IfErr result (λ _. AreRemainderOf self.old.buffered self.new.buffered) }
+        ensures left { IfErr result (λ _. HasRemainder self.old.buffered self.new.buffered) }
         ensures room { self.new.room ≡ self.old.room }
 
         ensures bytes { Keeps
@@ -239,16 +239,16 @@ impl<K: Sink> Flush for BufferedSink<'_, K> {
             (append_known (K.contents self.new.device) self.new.buffered) }
         ensures buffered { OnOk result (length self.new.buffered ≡ 0) }
         ensures count { CountsFailure
-            (failures_with_refused_writes (K.failure_count self.old.device) self.old.refused)
+            (failures_with_refused_calls (K.failure_count self.old.device) self.old.refused)
             result
-            (failures_with_refused_writes (K.failure_count self.new.device) self.new.refused) }
+            (failures_with_refused_calls (K.failure_count self.new.device) self.new.refused) }
     {
         if self.failed {
             self.refused += 1;
             return Err(Failed);
         }
         let len = self.len;
-        match push_front(&mut self.inner, self.room, len) {
+        match push_buffered(&mut self.inner, self.room, len) {
             Ok(()) => {
                 self.len = 0;
                 Ok(())
@@ -277,7 +277,7 @@ impl<K: Close> Close for BufferedSink<'_, K> {
     ///
     /// Returns `Failed` if the inner sink fails, and at each later call.
     fn store(&mut self) -> Result<(), Failed>
-        requires { CanFail (failures_with_refused_writes
+        requires { CanFail (failures_with_refused_calls
             (K.failure_count self.old.device) self.old.refused) }
         ensures failed { IsErr result ↔ (self.new.failed ≡ true) }
         ensures room { self.new.room ≡ self.old.room }
@@ -287,9 +287,9 @@ impl<K: Close> Close for BufferedSink<'_, K> {
         ensures buffered { OnOk result (length self.new.buffered ≡ 0) }
         ensures stored { OnOk result (K.is_stored self.new.device ≡ true) }
         ensures count { CountsFailure
-            (failures_with_refused_writes (K.failure_count self.old.device) self.old.refused)
+            (failures_with_refused_calls (K.failure_count self.old.device) self.old.refused)
             result
-            (failures_with_refused_writes (K.failure_count self.new.device) self.new.refused) }
+            (failures_with_refused_calls (K.failure_count self.new.device) self.new.refused) }
     {
         self.flush()?;
         let answer = self.inner.store();
@@ -297,15 +297,15 @@ impl<K: Close> Close for BufferedSink<'_, K> {
         answer
     }
 
-    /// Closes the inner sink. Discards buffered bytes.
+    /// Closes the inner sink, without writing the buffered bytes to it.
     fn close(&mut self)
         ensures call { ClosesInner K.is_close self.old self.new }
         ensures closed { K.is_closed self.new.device ≡ true }
         ensures stored { K.is_stored self.new.device ≡ K.is_stored self.old.device }
         ensures device { K.failure_count self.new.device ≡ K.failure_count self.old.device }
-        ensures count { failures_with_refused_writes (K.failure_count self.new.device)
+        ensures count { failures_with_refused_calls (K.failure_count self.new.device)
             self.new.refused
-            ≡ failures_with_refused_writes (K.failure_count self.old.device) self.old.refused }
+            ≡ failures_with_refused_calls (K.failure_count self.old.device) self.old.refused }
     {
         self.inner.close();
     }

@@ -5,8 +5,8 @@ ghost use Rattle.std.specs.Prelude.{slice_range, Ok, Some, None, IfOk, OnErr, Ma
 ghost use Rattle.std.specs.Prelude.{◌↔◌, drop, false, true};
 ghost use Rattle.std.specs.Io.{ReadsAtMost};
 ghost use Rattle.std.specs.Io.KnownBytes.{Consumes, IsAtEnd, Keeps, prepend_known};
-ghost use Rattle.sub_io.specs.Buffered.{ReadAhead};
-ghost use Rattle.sub_io.specs.Calls.{ReadsAhead, call_answer};
+ghost use Rattle.sub_io.specs.Buffered.{BufferedSourceValue};
+ghost use Rattle.sub_io.specs.Calls.{PullsBuffered, call_answer};
 ghost use Rattle.sub_io.specs.Device.{CanFail, CountsFailure, SkipsOver, Pulls};
 ghost use Rattle.sub_io.specs.Borrowed.{AreBorrowedPrefix, PullsBorrowed};
 ghost use Rattle.sub_io.specs.Reading.{AreNextBytes};
@@ -31,7 +31,7 @@ pub struct BufferedSource<'a, S> {
 }
 
 impl<'a, S> Model for BufferedSource<'a, S> {
-    ghost Value = { ReadAhead S };
+    ghost Value = { BufferedSourceValue S };
 
     ghost view = { λ s. record {
       device = s.inner;
@@ -99,7 +99,7 @@ impl<'a, S: Source> BufferedSource<'a, S> {
     {
         let (start, end) = (self.start, self.end);
         let n = to.len().min(end - start);
-        copy_prefix(self.room, start, &mut to[..n]);
+        copy_range(self.room, start, &mut to[..n]);
         self.start = start + n;
         n
     }
@@ -107,7 +107,7 @@ impl<'a, S: Source> BufferedSource<'a, S> {
 
 // Copies `to.len()` bytes of the buffer `room`, from `start` on. `room` is not changed; it is
 // `&mut` only because the contents of a shared slice in `self` are not known to stay the same.
-fn copy_prefix(room: &mut [u8], start: usize, to: &mut [u8])
+fn copy_range(room: &mut [u8], start: usize, to: &mut [u8])
     requires { start + length to.old ≤ length room.old }
     ensures same { room.new ≡ room.old }
     ensures len { length to.new ≡ length to.old }
@@ -122,7 +122,7 @@ impl<S: Source> Source for BufferedSource<'_, S> {
 
     ghost failure_count = { λ s. S.failure_count s.device };
 
-    ghost is_pull = { ReadsAhead S.is_pull };
+    ghost is_pull = { PullsBuffered S.is_pull };
 
     ghost borrowed = { λ s. s.buffered };
 
@@ -153,7 +153,8 @@ impl<S: Source> Source for BufferedSource<'_, S> {
         ensures full { IfOk result (λ n. n < length to.old → self.new.buffered ≡ []) }
         ensures room { self.new.room ≡ self.old.room }
 
-        ensures call { ReadsAhead S.is_pull self.old (length to.old) (call_answer result) self.new }
+        ensures call { PullsBuffered S.is_pull self.old (length to.old) (call_answer result)
+            self.new }
         ensures bound { ReadsAtMost result to.new }
         ensures bytes { Pulls
             (prepend_known self.old.buffered (S.remaining self.old.device))
@@ -196,7 +197,8 @@ impl<S: Source> Source for BufferedSource<'_, S> {
         ensures buffered { (result ≡ true) ↔ (count ≤ length self.old.buffered) }
         ensures skipped { result ≡ true → (self.new.buffered ≡ drop count self.old.buffered)
             × (self.new.device ≡ self.old.device) × (self.new.room ≡ self.old.room) }
-        ensures call { result ≡ true → ReadsAhead S.is_pull self.old count (Some count) self.new }
+        ensures call { result ≡ true →
+            PullsBuffered S.is_pull self.old count (Some count) self.new }
         ensures bytes { result ≡ true → SkipsOver
             (prepend_known self.old.buffered (S.remaining self.old.device)) count
             (prepend_known self.new.buffered (S.remaining self.new.device)) }

@@ -6,7 +6,8 @@
 
 ghost use Rattle.std.specs.Prelude.{◌≡◌, Bool, OnOk, true};
 ghost use Rattle.std.specs.Io.KnownBytes.{Keeps};
-ghost use Rattle.sub_io.specs.Closing.{unrestricted_close, unrestricted_store, loses_nothing};
+ghost use Rattle.sub_io.specs.Closing.{unrestricted_close, unrestricted_store};
+ghost use Rattle.sub_io.specs.Closing.{succeeds_or_never_stores};
 ghost use Rattle.sub_io.specs.Device.{CanFail, CountsFailure};
 
 use crate::{Failed, Flush};
@@ -35,9 +36,9 @@ impl<T: OpenFile> Store for T {
     }
 }
 
-// Returns whether the result of `sync_all` guarantees that no byte was lost.
+// Returns whether `sync_all` succeeded, or failed with an error of a file that stores nothing.
 fn is_saved(answer: io::Result<()>) -> bool
-    ensures { result ≡ loses_nothing answer }
+    ensures { result ≡ succeeds_or_never_stores answer }
 {
     match answer {
         Ok(()) => true,

@@ -4,7 +4,7 @@ ghost use Rattle.std.specs.Prelude.{◌≡◌, ◌<◌, ◌≤◌, length, Some,
 ghost use Rattle.std.specs.Prelude.{false, true};
 ghost use Rattle.std.specs.Io.{ReadsAtMost};
 ghost use Rattle.std.specs.Io.KnownBytes.{Keeps};
-ghost use Rattle.sub_io.specs.Calls.{Forwards, call_answer};
+ghost use Rattle.sub_io.specs.Calls.{ForwardsUnlessFailing, call_answer};
 ghost use Rattle.sub_io.specs.Countdown.{CountingDown, failures_with_injected, fails_next};
 ghost use Rattle.sub_io.specs.Countdown.{countdown_after};
 ghost use Rattle.sub_io.specs.Device.{CanFail, CountsFailure, Pulls, Pushes};
@@ -42,7 +42,7 @@ impl<D> FailAt<D> {
     }
 
     // Counts one call. Returns whether it is the failing call.
-    fn is_failing_call(&mut self) -> bool
+    fn count_call(&mut self) -> bool
         ensures device { self.new.device ≡ self.old.device }
         ensures is_failing_call { result ≡ fails_next self.old.left }
         ensures left { self.new.left ≡ countdown_after self.old.left }
@@ -77,7 +77,7 @@ impl<S: Source> Source for FailAt<S> {
 
     ghost failure_count = { λ d. failures_with_injected d.left (S.failure_count d.device) };
 
-    ghost is_pull = { Forwards S.is_pull };
+    ghost is_pull = { ForwardsUnlessFailing S.is_pull };
 
     /// Pulls from the inner device.
     ///
@@ -95,7 +95,8 @@ impl<S: Source> Source for FailAt<S> {
             (S.failure_count self.old.device) result (S.failure_count self.new.device) }
         ensures left { self.new.left ≡ countdown_after self.old.left }
 
-        ensures call { Forwards S.is_pull self.old (length to.old) (call_answer result) self.new }
+        ensures call { ForwardsUnlessFailing S.is_pull self.old (length to.old)
+            (call_answer result) self.new }
         ensures bound { ReadsAtMost result to.new }
         ensures bytes { Pulls
             (S.remaining self.old.device) (S.remaining self.new.device) to.new result }
@@ -104,7 +105,7 @@ impl<S: Source> Source for FailAt<S> {
             result
             (failures_with_injected self.new.left (S.failure_count self.new.device)) }
     {
-        if self.is_failing_call() {
+        if self.count_call() {
             return Err(Failed);
         }
         self.inner.pull(to)
@@ -126,7 +127,7 @@ impl<K: Sink> Sink for FailAt<K> {
 
     ghost failure_count = { λ d. failures_with_injected d.left (K.failure_count d.device) };
 
-    ghost is_push = { Forwards K.is_push };
+    ghost is_push = { ForwardsUnlessFailing K.is_push };
 
     /// Pushes into the inner device.
     ///
@@ -145,7 +146,8 @@ impl<K: Sink> Sink for FailAt<K> {
             (K.failure_count self.old.device) result (K.failure_count self.new.device) }
         ensures left { self.new.left ≡ countdown_after self.old.left }
 
-        ensures call { Forwards K.is_push self.old from.now (call_answer result) self.new }
+        ensures call { ForwardsUnlessFailing K.is_push self.old from.now (call_answer result)
+            self.new }
         ensures some { IfOk result (λ n. 0 < n) }
         ensures bound { IfOk result (λ n. n ≤ length from.now) }
         ensures bytes { Pushes
@@ -155,7 +157,7 @@ impl<K: Sink> Sink for FailAt<K> {
             result
             (failures_with_injected self.new.left (K.failure_count self.new.device)) }
     {
-        if self.is_failing_call() {
+        if self.count_call() {
             return Err(Failed);
         }
         self.inner.push(from)
@@ -193,7 +195,7 @@ impl<K: Flush> Flush for FailAt<K> {
             result
             (failures_with_injected self.new.left (K.failure_count self.new.device)) }
     {
-        if self.is_failing_call() {
+        if self.count_call() {
             return Err(Failed);
         }
         self.inner.flush()
@@ -232,7 +234,7 @@ impl<K: Close> Close for FailAt<K> {
             result
             (failures_with_injected self.new.left (K.failure_count self.new.device)) }
     {
-        if self.is_failing_call() {
+        if self.count_call() {
             return Err(Failed);
         }
         self.inner.store()

@@ -7,7 +7,7 @@ ghost use Rattle.sub_io.specs.Closing.{Releases};
 ghost use Rattle.sub_io.specs.Counted.{FileValue, contents_while_open};
 ghost use Rattle.sub_io.specs.Device.{CanFail, CountsFailure, Pushes, zero_buffered_bytes};
 
-use crate::taken::{BorrowedChunk, ConsumedBytes};
+use crate::taken::{WrittenBytes, WrittenChunk};
 use crate::{Close, Failed, Flush, Release, Sink, Store};
 use std::io::Write;
 use std::marker::Model;
@@ -23,7 +23,7 @@ use std::marker::Model;
 #[derive(Drop)]
 pub struct IntoFile<W> {
     inner: Option<W>,
-    taken: ConsumedBytes,
+    taken: WrittenBytes,
     is_stored: bool,
     failures: u64,
 }
@@ -51,7 +51,7 @@ impl<W: Write> IntoFile<W> {
     {
         IntoFile {
             inner: Some(inner),
-            taken: ConsumedBytes::nothing(),
+            taken: WrittenBytes::nothing(),
             is_stored: false,
             failures: 0,
         }
@@ -88,7 +88,7 @@ impl<W: Write> Sink for IntoFile<W> {
         match writer.write(from) {
             Ok(n) if n > 0 => {
                 let (bytes, _) = from.split_at(n);
-                self.taken = self.taken.and(&BorrowedChunk { bytes });
+                self.taken = self.taken.and(&WrittenChunk { bytes });
                 self.is_stored = false;
                 Ok(n)
             }

@@ -24,7 +24,7 @@ pub trait Live {
     ///
     /// # Errors
     ///
-    /// Returns `Stopped` if flushing fails or the device has failed earlier.
+    /// Returns `Stopped` if flushing fails, or if the device has failed or stopped earlier.
     fn flush_pending(&mut self) -> Result<(), Stopped>
         ensures call { is_flushed self.old (is_ok result) self.new }
         ensures none { OnOk result (buffered self.new ≡ 0) }

@@ -10,7 +10,8 @@ ghost use Rattle.sub_io.specs.Device.{FillsFromKnown};
 ghost use Rattle.sub_io.specs.Borrowed.{AreBorrowedPrefix, PullsBorrowed, no_borrowed_bytes};
 ghost use Rattle.sub_io.specs.Reading.{AreBytes, AreNextBytes, IfKnown};
 
-/// The error of a failed call of a source or sink. The failed call has transferred no bytes.
+/// The error of a failed call of a source or sink. A failed `pull` or `push` has transferred no
+/// bytes. A failed `fill`, `put_all` or `flush` may have transferred some bytes before its failure.
 #[derive(Clone, Copy, Debug, PartialEq, Eq)]
 pub struct Failed;
 
@@ -45,7 +46,7 @@ pub trait Source {
         ensures borrowed { PullsBorrowed (borrowed self.old) (borrowed self.new) to.new result }
         ensures count { CountsFailure (failure_count self.old) result (failure_count self.new) };
 
-    /// Returns the number of failed calls of `pull`.
+    /// Returns the number of failed calls of `pull` and `read_ahead`.
     fn failures(&self) -> u64
         ensures { result ≡ failure_count self.now };
 
@@ -58,8 +59,8 @@ pub trait Source {
         &[]
     }
 
-    /// Reads ahead until buffered bytes can be borrowed, if the source derives its bytes from an
-    /// underlying device. Other sources do nothing. Consumes no bytes.
+    /// Lets the source read bytes into a buffer of its own, from which they can be borrowed.
+    /// Consumes no bytes. By default it does nothing.
     ///
     /// # Errors
     ///

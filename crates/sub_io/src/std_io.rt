@@ -9,7 +9,7 @@ ghost use Rattle.std.specs.Io.KnownBytes.{Keeps};
 ghost use Rattle.sub_io.specs.Counted.{Counted, WriterValue};
 ghost use Rattle.sub_io.specs.Device.{CanFail, CountsFailure, Pushes, zero_buffered_bytes};
 
-use crate::taken::{BorrowedChunk, ConsumedBytes};
+use crate::taken::{WrittenBytes, WrittenChunk};
 use crate::{Failed, Flush, Sink, Source};
 use std::io::{Read, Write};
 use std::marker::Model;
@@ -80,7 +80,7 @@ impl<R: Read> Source for FromRead<R> {
 #[derive(Drop)]
 pub struct IntoWrite<W> {
     inner: W,
-    taken: ConsumedBytes,
+    taken: WrittenBytes,
     failures: u64,
 }
 
@@ -101,7 +101,7 @@ impl<W: Write> IntoWrite<W> {
     {
         IntoWrite {
             inner,
-            taken: ConsumedBytes::nothing(),
+            taken: WrittenBytes::nothing(),
             failures: 0,
         }
     }
@@ -131,7 +131,7 @@ impl<W: Write> Sink for IntoWrite<W> {
         match self.inner.write(from) {
             Ok(n) if n > 0 => {
                 let (bytes, _) = from.split_at(n);
-                self.taken = self.taken.and(&BorrowedChunk { bytes });
+                self.taken = self.taken.and(&WrittenChunk { bytes });
                 Ok(n)
             }
             _ => {

@@ -8,34 +8,34 @@ use std::marker::Model;
 /// The bytes that a writer has reported as written, for contracts only. The type has no size and
 /// its functions do nothing, so the code must record each write itself.
 #[derive(Drop)]
-pub struct ConsumedBytes {
+pub struct WrittenBytes {
     /// The bytes written so far, in order.
     pub ghost bytes: { List ℕ },
 }
 
-impl Model for ConsumedBytes {
+impl Model for WrittenBytes {
     ghost also_owns = { λ _. ftrue };
 }
 
 /// The bytes that a writer reported as written in one call.
 #[derive(Clone, Copy)]
-pub struct BorrowedChunk<'a> {
+pub struct WrittenChunk<'a> {
     /// The written bytes, in order.
     pub bytes: &'a [u8],
 }
 
-impl ConsumedBytes {
+impl WrittenBytes {
     /// Creates an empty record of written bytes.
-    pub fn nothing() -> ConsumedBytes
+    pub fn nothing() -> WrittenBytes
         ensures { result.bytes ≡ [] }
     {
-        ConsumedBytes {}
+        WrittenBytes {}
     }
 
     /// Appends the bytes of one call to the record.
-    pub fn and(&self, more: &BorrowedChunk<'_>) -> ConsumedBytes
+    pub fn and(&self, more: &WrittenChunk<'_>) -> WrittenBytes
         ensures { result.bytes ≡ self.now.bytes ++ more.now.bytes.now }
     {
-        ConsumedBytes {}
+        WrittenBytes {}
     }
 }

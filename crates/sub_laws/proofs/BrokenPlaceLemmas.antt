@@ -18,7 +18,7 @@ use Rattle.sub_plan.specs.Options.{OptionsValue}
 use Rattle.sub_rules.specs.declared.packet_rule.Watched.{Watched}
 use Rattle.ttx_page.specs.declared.packet_kind.PacketKind.TheVariants.{Other, Row}
 use Rattle.ttx_page.specs.PacketKind.{kind, is_this_page, ends_page}
-use Rattle.ttx_page.specs.Noise.{ErasesPage}
+use Rattle.ttx_page.specs.Noise.{ErasesPageIfHeader}
 use Rattle.ttx_page.specs.Span.{is_open_after, text_span}
 use Rattle.sub_rules.specs.PacketRules.{first_header, KeepsRule, KeepsAllRules}
 use Rattle.sub_rules.proofs.PacketLists.{first_header-push, Each-push, Each-map}
@@ -254,7 +254,7 @@ module _ (programme : ProgrammeValue) (options : OptionsValue) (unread : Option 
         options.page) t
         (λ i k l m. (packet_keeps_all_rules i k l m rule.Control).control);
     erases = λ none.
-        indexed_packets_hold_for_each (ErasesPage options.page) t
+        indexed_packets_hold_for_each (ErasesPageIfHeader options.page) t
         (λ i k l m. (packet_keeps_all_rules i k l m rule.Control).erases none);
     keeping = λ f n high below. (packets_on_air_keep_rules f high n below rule.Control).keeping;
     spans = λ f n high.
@@ -349,7 +349,8 @@ module _ (programme : ProgrammeValue) (options : OptionsValue) (t : Transmission
     control =
         indexed_packet_holds (HasSubtitleHeaderBits programme.drawing.national options.page) t i k
         rules.control l m;
-    erases = λ none. indexed_packet_holds (ErasesPage options.page) t i k (rules.erases none) l m;
+    erases = λ none. indexed_packet_holds (ErasesPageIfHeader options.page) t i k
+        (rules.erases none) l m;
     keeping = header_erases_or_repeats i k l m;
   }
   good_packet_keeps_all_rules i k l m rule.Parity = λ opened row e.

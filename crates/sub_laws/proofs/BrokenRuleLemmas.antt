@@ -18,11 +18,11 @@ use Rattle.ttx_packet.specs.PacketAddress.{HasExactAddress, IsPacket, PacketAddr
 use Rattle.ttx_packet.specs.PageHeader.{HasExactHeader, c4, c11, header}
 use Rattle.ttx_packet.specs.PageId.{PageIdValue}
 use Rattle.ttx_packet.specs.Parity.{is_odd}
-use Rattle.ttx_packet.specs.RowPacket.{HasOddText, first_even_parity_byte, text_byte}
+use Rattle.ttx_packet.specs.RowPacket.{HasOddParityText, first_even_parity_byte, text_byte}
 use Rattle.ttx_packet.specs.declared.header.Header.{Header}
 use Rattle.ttx_packet.proofs.OneBitLemmas.{first_below_satisfies_test}
 use Rattle.ttx_page.specs.Differing.{differing_column_count, row_difference}
-use Rattle.ttx_page.specs.Noise.{IsOddRow, AreEqualInRow}
+use Rattle.ttx_page.specs.Noise.{HasOddParityTextIfRow, AreEqualIfSameRow}
 use Rattle.ttx_page.proofs.NoiseStepLemmas.{is_row_implies_row}
 use Rattle.ttx_page.proofs.SpanListLemmas.{find_none}
 use Rattle.ttx_page.proofs.TextSpan.{text_span-push}
@@ -39,9 +39,9 @@ use Rattle.sub_rules.specs.PacketRules.{AreClean, KeepsAllRules, KeepsRule, code
 use Rattle.sub_rules.specs.PacketTests.{are_code_words, breaks, is_header_address}
 use Rattle.sub_rules.specs.PacketTests.{is_enhancement_address}
 use Rattle.sub_rules.specs.PacketTests.{has_different_mode, has_different_row, has_different_text}
-use Rattle.sub_rules.specs.PacketTests.{first_packet_of_row, has_subtitle_bits, repeats_page}
-use Rattle.sub_rules.specs.PacketTests.{is_same_subcode, is_subtitle_header, is_wrong_header}
-use Rattle.sub_rules.specs.PacketTests.{is_allowed_header}
+use Rattle.sub_rules.specs.PacketTests.{first_packet_of_row, has_subtitle_bits, counts_as_repeat}
+use Rattle.sub_rules.specs.PacketTests.{is_same_subcode, is_allowed_page_header, is_wrong_header}
+use Rattle.sub_rules.specs.PacketTests.{erases_or_may_repeat}
 use Rattle.sub_rules.specs.declared.packet_rule.PacketRule.{PacketRule}
 use Rattle.sub_rules.specs.declared.packet_rule.PacketRule.TheVariants as rule
 use Rattle.sub_rules.specs.declared.packet_rule.Watched.{Watched}
@@ -91,7 +91,7 @@ complete_page_test_is_exact : (asks opened : Bool) → Decides (not (asks && ope
 complete_page_test_is_exact asks opened = grind (arith, nat_tests, true≢false)
 
 repeat_test_is_exact : (complete : Bool) (page : PageIdValue) (before : List (List ℕ)) (h : Header)
-    → Decides (repeats_page complete page before h) (IsRepeat complete page before h)
+    → Decides (counts_as_repeat complete page before h) (IsRepeat complete page before h)
 repeat_test_is_exact complete page before h = grind (
   arith,
   nat_tests,
@@ -104,14 +104,14 @@ erase_or_repeat_test_is_exact : (keeps erases repeats : Bool) (P : Type 0) → D
     ((IsFalse keeps → IsTrue erases) × (IsTrue erases ⊎ P))
 erase_or_repeat_test_is_exact keeps erases repeats P h1 = grind (arith, nat_tests)
 
-header_is_subtitle_header : (w : Watched) (before : List (List ℕ)) (h : Header)
-    → Decides (is_subtitle_header w before h)
+header_is_allowed_page_header : (w : Watched) (before : List (List ℕ)) (h : Header)
+    → Decides (is_allowed_page_header w before h)
     (((IsFalse w.keeps → IsTrue (c4 h))
     × (IsTrue (c4 h) ⊎ IsRepeat w.complete w.page before h))
     × HasSubtitleBits w.national h)
-header_is_subtitle_header w before h =
-    Decides-and (is_allowed_header w before h) (has_subtitle_bits w.national h)
-    (erase_or_repeat_test_is_exact w.keeps (c4 h) (repeats_page w.complete w.page before h)
+header_is_allowed_page_header w before h =
+    Decides-and (erases_or_may_repeat w before h) (has_subtitle_bits w.national h)
+    (erase_or_repeat_test_is_exact w.keeps (c4 h) (counts_as_repeat w.complete w.page before h)
     (IsRepeat w.complete w.page before h) (repeat_test_is_exact w.complete w.page before h))
     (subtitle_bits_test_is_exact w.national h)
 
@@ -125,7 +125,7 @@ pub control_test_is_exact : (w : Watched) (before : List (List ℕ)) (p : List �
     → kind w.page p ≡ k
     → Refutes (is_wrong_header w before k) (HasAllowedHeader w before p)
 control_test_is_exact w before p (ThisPage h) is =
-    Decides-at _ _ (double_negation_cancels (is_subtitle_header w before h))
+    Decides-at _ _ (double_negation_cancels (is_allowed_page_header w before h))
     (Decides-like _
     (λ requested. record {
       control = λ k e.
@@ -137,20 +137,20 @@ control_test_is_exact w before p (ThisPage h) is =
           (page_headers_are_equal h k (sym is ∙ e)) requested.0.1;
     })
     (λ rule. ((λ none. rule.erases none h is, rule.keeping h is), rule.control h is))
-    (header_is_subtitle_header w before h))
+    (header_is_allowed_page_header w before h))
 control_test_is_exact w before p k is = (
   λ e. record { control = λ h this. cc; erases = λ none h this. cc; keeping = λ h this. cc },
   λ rule. refl,
 )
 
 pub parity_test_of_text_is_exact : (p : List ℕ) → Refutes (is_some (first_even_parity_byte p))
-    (HasOddText p)
+    (HasOddParityText p)
 unfolding first_even_parity_byte
 parity_test_of_text_is_exact p = go (first_below 40 (λ column. not (is_odd (text_byte p column))))
     refl
   where
     go : (o : Option ℕ) → first_below 40 (λ column. not (is_odd (text_byte p column))) ≡ o
-        → Refutes (is_some o) (HasOddText p)
+        → Refutes (is_some o) (HasOddParityText p)
     go None e = (
       λ _ column l.
           let odd = no_first_below_fails_each 40 (λ column. not (is_odd (text_byte p column))) e
@@ -168,7 +168,7 @@ parity_test_of_text_is_exact p = go (first_below 40 (λ column. not (is_odd (tex
 
 pub row_has_odd_parity : (p : List ℕ) (k : PacketKind)
     → Refutes (is_page_row k && is_some (first_even_parity_byte p))
-    ((row : ℕ) → k ≡ Row row → HasOddText p)
+    ((row : ℕ) → k ≡ Row row → HasOddParityText p)
 row_has_odd_parity p k = grind (arith, nat_tests, parity_test_of_text_is_exact)
 
 pub packet_is_no_enhancement : (page : PageIdValue) (p : List ℕ) (o : Option PacketAddress) →
@@ -196,21 +196,23 @@ rows_have_equal_codes p q lp lq e =
     ∙ zero_difference_equal_columns 40 (codes_of p) (codes_of q) e k (omega (arith, one))
     ∙ get_or_default (codes_of q) k 0 d (omega (arith, one, other)))
 
--- The packets since the page was erased are clean, and each of them is a packet of 42 bytes with
--- correct address bytes.
+-- The packets, which are those since the page was erased, are clean, and each of them has 42 bytes
+-- and correct address bytes.
 pub record IsSoundSpan (w : Watched) (packets : List (List ℕ)) : Type 0 where
   pub clean : IsCleanSpan w.page packets
   pub whole : AllByRecursion (λ q. IsPacket q × HasExactAddress q) packets
 
 abbrev IsSoundPacket : Watched → List (List ℕ) → List ℕ → Type 0
 IsSoundPacket w packets q =
-    (IsPacket q × HasExactAddress q) × IsOddRow w.page q × All (AreEqualInRow w.page q) packets
+    (IsPacket q × HasExactAddress q) × HasOddParityTextIfRow w.page q
+    × All (AreEqualIfSameRow w.page q) packets
 
 each_packet_is_sound : (w : Watched) (packets : List (List ℕ)) → IsSoundSpan w packets
     → AllByRecursion (IsSoundPacket w packets) packets
 each_packet_is_sound w packets s =
     Each-join (λ q. IsPacket q × HasExactAddress q)
-    (λ q. IsOddRow w.page q × All (AreEqualInRow w.page q) packets) (IsSoundPacket w packets)
+    (λ q. HasOddParityTextIfRow w.page q × All (AreEqualIfSameRow w.page q) packets)
+    (IsSoundPacket w packets)
     (λ q a b. (a, b.0, b.1)) packets s.whole
     (grind (arith, nat_tests, Each-join, recursion_from_All))
 
@@ -221,7 +223,7 @@ address-row w p row e = grind (arith, nat_tests)
 
 module _ (w : Watched) (packets : List (List ℕ)) (s : IsSoundSpan w packets) (p : List ℕ) (row : ℕ)
     (is_row_of : kind w.page p ≡ Row row) (whole : IsPacket p) (exact : HasExactAddress p)
-    (odd : HasOddText p) where
+    (odd : HasOddParityText p) where
   abbrev IsSameAsEachRow : Type 0
   IsSameAsEachRow = AllByRecursion (λ q. kind w.page q ≡ Row row → q ≡ p) packets
 
@@ -248,9 +250,9 @@ module _ (w : Watched) (packets : List (List ℕ)) (s : IsSoundSpan w packets) (
             let k = is_row_implies_row row (kind w.page q.0) q.2 in
             subst (λ o. Refutes (has_different_text o (codes_of p)) IsSameAsEachRow) (sym q.1)
             (Decides-like _
-            (λ is. Each-map (AreEqualInRow w.page q.0) (λ x. kind w.page x ≡ Row row → x ≡ p)
+            (λ is. Each-map (AreEqualIfSameRow w.page q.0) (λ x. kind w.page x ≡ Row row → x ≡ p)
             (λ x same of. sym (same row k of) ∙ is) packets
-            (recursion_from_All (AreEqualInRow w.page q.0) packets q.3.2))
+            (recursion_from_All (AreEqualIfSameRow w.page q.0) packets q.3.2))
             (λ all. grind (arith, nat_tests, Each-find, same_Some, is_row_implies_row))
             (found q.0 k q.3))
         | inr e ↦
@@ -329,7 +331,7 @@ module _ (w : Watched) (before : List (List ℕ)) (p : List ℕ) where
       (grind (arith, nat_tests))
       (opened (is_open_after (kind w.page) before)
       (is_page_row (kind w.page p) && is_some (first_even_parity_byte p))
-      ((row : ℕ) → kind w.page p ≡ Row row → HasOddText p) (λ t. row_has_odd_parity p
+      ((row : ℕ) → kind w.page p ≡ Row row → HasOddParityText p) (λ t. row_has_odd_parity p
       (kind w.page p)))
   rule_test_is_exact rule.RowChanged comparable = grind
       (arith, nat_tests, opened, rows_are_the_same)

@@ -9,15 +9,15 @@ use Rattle.std.proofs.lemmas.List.{take_more, take_all, length_push}
 use Rattle.std.proofs.lemmas.List.{get_or_append_left, get_or_at}
 use Rattle.std.proofs.lemmas.List.Elements.{All-nil, All-push}
 use Rattle.ttx_packet.specs.PageId.{PageIdValue}
-use Rattle.ttx_page.specs.Noise.{IsOddRow, AreEqualInRow}
+use Rattle.ttx_page.specs.Noise.{HasOddParityTextIfRow, AreEqualIfSameRow}
 use Rattle.ttx_page.specs.PacketKind.{begins_text, kind, is_this_page, ends_page}
 use Rattle.ttx_page.specs.Span.{is_open_after, text_span}
 use Rattle.ttx_page.proofs.TextSpan.{text_span-push}
 use Rattle.sub_rules.specs.Good.{IsEnhancement, IsCleanSpan}
 
 pub record MayFollow (page : PageIdValue) (packets : List (List ℕ)) (packet : List ℕ) : Type 0 where
-  pub odd : IsOddRow page packet
-  pub same : All (λ earlier. AreEqualInRow page earlier packet) packets
+  pub odd : HasOddParityTextIfRow page packet
+  pub same : All (λ earlier. AreEqualIfSameRow page earlier packet) packets
   pub plain : IsEnhancement page packet → ⊥
 
 -- Each packet that arrives while the page is open, and is neither a header of the page nor ends the
@@ -37,12 +37,12 @@ push_clean :
     → MayFollow page packets packet
     → IsCleanSpan page (packets ++ packet ∷ [])
 push_clean page packets packet clean follows = record {
-  odd = All-push (IsOddRow page) packets packet clean.odd follows.odd;
+  odd = All-push (HasOddParityTextIfRow page) packets packet clean.odd follows.odd;
   same =
-      All-push (λ first. All (AreEqualInRow page first) (packets ++ packet ∷ [])) packets packet
-      (λ k d l. All-push (AreEqualInRow page (slice_index_or packets k d)) packets packet
+      All-push (λ first. All (AreEqualIfSameRow page first) (packets ++ packet ∷ [])) packets packet
+      (λ k d l. All-push (AreEqualIfSameRow page (slice_index_or packets k d)) packets packet
       (clean.same k d l) (follows.same k d l))
-      (grind (arith, nat_tests, All-push (AreEqualInRow page packet) packets packet));
+      (grind (arith, nat_tests, All-push (AreEqualIfSameRow page packet) packets packet));
   plain = All-push (λ p. IsEnhancement page p → ⊥) packets packet clean.plain follows.plain;
 }
 
@@ -57,14 +57,14 @@ last_clean page packets packet clean =
     let at : (d : List ℕ) → slice_index_or (packets ++ packet ∷ []) n d ≡ packet =
     λ d. get_or_at packets packet [] d n refl in
     record {
-      odd = subst (IsOddRow page) (at []) (clean.odd n [] within);
+      odd = subst (HasOddParityTextIfRow page) (at []) (clean.odd n [] within);
       same = λ k d l.
           let before : slice_index_or (packets ++ packet ∷ []) k d ≡ slice_index_or packets k d =
           get_or_append_left packets (packet ∷ []) d k l in
           let far : k < length (packets ++ packet ∷ []) =
           subst (λ m. k < m) (sym (length_push packets packet)) (omega arith) in
-          subst (λ p. AreEqualInRow page p packet) before
-          (subst (AreEqualInRow page (slice_index_or (packets ++ packet ∷ []) k d)) (at [])
+          subst (λ p. AreEqualIfSameRow page p packet) before
+          (subst (AreEqualIfSameRow page (slice_index_or (packets ++ packet ∷ []) k d)) (at [])
           (clean.same k d far n [] within));
       plain = subst (λ p. IsEnhancement page p → ⊥) (at []) (clean.plain n [] within);
     }

@@ -8,11 +8,11 @@ use Rattle.std.proofs.lemmas.Bool.{true≢false}
 use Rattle.std.proofs.lemmas.List.Elements.{All-from_get_or}
 use Rattle.std.proofs.lemmas.List.{length-take-le, take-append-drop, take-take, take_all}
 use Rattle.ttx_packet.specs.PageHeader.{HasExactCodeWords}
-use Rattle.ttx_page.specs.Noise.{ErasesPage}
+use Rattle.ttx_page.specs.Noise.{ErasesPageIfHeader}
 use Rattle.ttx_page.specs.Page.{IsCell, cell}
 use Rattle.ttx_page.specs.PacketKind.{kind}
 use Rattle.ttx_page.specs.Receiver.{Hears, State}
-use Rattle.ttx_page.specs.Repeats.{IsFresh, SendsText}
+use Rattle.ttx_page.specs.Repeats.{IsFresh, SendsOnlyRowsOfText}
 use Rattle.ttx_page.specs.Shown.{kept}
 use Rattle.ttx_page.specs.Span.{has_text_beginning, has_page_header, text_span}
 use Rattle.ttx_page.proofs.FaultFreeLaws.{law_of_kept_text}
@@ -28,7 +28,7 @@ use Rattle.sub_rules.specs.Kept.{IsRight}
 use Rattle.sub_rules.specs.PacketRules.{KeepsAllRules}
 use Rattle.sub_rules.specs.Repeats.{IsDueWithin}
 use Rattle.sub_rules.specs.Transmission.{Transmission, on_air_until}
-use Rattle.sub_rules.specs.WrongContent.{AreReadUpTo, IsWrongEverywhere}
+use Rattle.sub_rules.specs.WrongContent.{AreReadUpTo, IsWrongForEveryReceiver}
 use Rattle.sub_rules.specs.declared.packet_rule.Watched.{Watched}
 use Rattle.sub_rules.proofs.PrefixEventLemmas.{is_late-prefix}
 use Rattle.sub_laws.specs.UnexpectedContent.{IsNotRightOnAir}
@@ -62,14 +62,15 @@ module _ (w : Watched) (frames : Transmission) (n : ℕ) (fits : n ≤ length fr
       (rule_keeping_packets_have_clean_spans w sent each (length sent))
 
   sends :
-      SendsText w.keeps w.page (packets_before frames n)
+      SendsOnlyRowsOfText w.keeps w.page (packets_before frames n)
       (kept w.keeps w.page (packets_before frames n))
   sends = record {
     exact =
         All-from_get_or HasExactCodeWords _ []
         (λ k l. (each k l rule.Address, each k l rule.HeaderCode));
     erases = λ none.
-        All-from_get_or (ErasesPage w.page) _ [] (λ k l. (each k l rule.Control).erases none);
+        All-from_get_or (ErasesPageIfHeader w.page) _ []
+        (λ k l. (each k l rule.Control).erases none);
     odd = clean_span.odd;
     codes = clean_packets_have_shown_codes w.keeps w.page (packets_before frames n) clean_span;
   }
@@ -247,8 +248,9 @@ module _ (programme : ProgrammeValue) (options : OptionsValue) (frames : Transmi
       ∙ ap (λ k. kept k options.page sent row column) (sym none)
       ∙ same))
 
-  pub wrong_cell_is_wrong_everywhere : IsWrongEverywhere programme options frames f row column
-  wrong_cell_is_wrong_everywhere = record {
+  pub wrong_cell_is_wrong_for_every_receiver :
+      IsWrongForEveryReceiver programme options frames f row column
+  wrong_cell_is_wrong_for_every_receiver = record {
     read = different.read;
     are_read = different.are_read;
     wrong = λ old new unheard shut hears same.

@@ -27,7 +27,7 @@ use Rattle.sub_rules.specs.Transmission.{Transmission, on_air, on_air_until}
 use Rattle.sub_laws.specs.WithoutDelay.{LawOfTrustWithoutDelay}
 use Rattle.sub_laws.specs.OnScreen.{CompleteWithin, ShownWithin}
 use Rattle.sub_laws.specs.Recovery.{RecoversWithin}
-use Rattle.sub_laws.specs.Repeats.{HoldsIfForgetful, IsRepeatedStretch}
+use Rattle.sub_laws.specs.Repeats.{HoldsIfForgetful, IsSoundStretchWithRepeats}
 use Rattle.sub_laws.specs.Repeats.{LawOfRepeatedStretch, RecoversIfForgetful, ShownIfForgetful}
 use Rattle.sub_laws.proofs.SoundStretchLemmas.{ended, forgetting, got_as, span_so_far}
 use Rattle.sub_laws.proofs.SoundStretchLemmas.{window_has_header}
@@ -56,7 +56,7 @@ law_of_right_cells page packets due row column = (
 
 module _ (keeps anew : Bool) (class : ReceiverClass) (programme : ProgrammeValue)
     (transmission : Transmission) (options : OptionsValue) (a b : ℕ)
-    (stretch : IsRepeatedStretch keeps transmission options a b)
+    (stretch : IsSoundStretchWithRepeats keeps transmission options a b)
     (codes : KeepsDueCodes keeps programme transmission options a b) where
   pub recovers_forgetting :
       RecoversIfForgetful keeps anew class programme transmission options a b

@@ -13,7 +13,7 @@ use Rattle.sub_rules.specs.Transmission.{IsRising, SentFrame, Transmission}
 use Rattle.sub_rules.proofs.JoinedLemmas.{joined-none}
 use Rattle.sub_laws.specs.DelayOfFiles.{LawOfLongerDelayOfFiles}
 use Rattle.sub_laws.proofs.JoinedRisingLemmas.{joined-rising}
-use Rattle.sub_laws.proofs.RepeatLemmas.{law_of_longer_repeats}
+use Rattle.sub_laws.proofs.RepeatLemmas.{law_of_longer_delay_with_repeats}
 
 -- If a PTS belongs to a frame with some `within`, it belongs to the same frame with any greater
 -- `within`.
@@ -109,5 +109,5 @@ pub law_of_longer_delay_of_files : LawOfLongerDelayOfFiles
 law_of_longer_delay_of_files
     keeps programme options more bytes transmission low longer carries good = (
       carries_longer options.within more options.origin bytes transmission low longer carries,
-      law_of_longer_repeats keeps programme transmission options more longer good,
+      law_of_longer_delay_with_repeats keeps programme transmission options more longer good,
     )

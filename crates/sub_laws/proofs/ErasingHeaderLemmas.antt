@@ -8,11 +8,11 @@ use Rattle.sub_plan.specs.Schedule.{due_page_in}
 use Rattle.sub_rules.specs.FrameRules.{UnreadReason}
 use Rattle.sub_rules.specs.Transmission.{Transmission, on_air_until}
 use Rattle.sub_rules.specs.declared.end_rule.EndRule.TheVariants.{Incomplete}
-use Rattle.sub_laws.specs.CleanStretch.{IsUnreported, LawOfUnreportedStretch, HasNoOpenEnd}
+use Rattle.sub_laws.specs.CleanStretch.{HasNoReceiverFault, LawOfUnreportedStretch, HasNoOpenEnd}
 use Rattle.sub_laws.specs.CleanStretch.{criteria_with_refusals}
 use Rattle.sub_laws.specs.OnScreen.{CompleteWithin}
 use Rattle.sub_laws.specs.Sufficient.{IsSufficient}
-use Rattle.sub_laws.specs.ReportedRepeats.{IsSufficientRepeats}
+use Rattle.sub_laws.specs.ReportedRepeats.{IsSufficientWithRepeats}
 use Rattle.sub_laws.proofs.DelayLemmas.{law_of_right_cells}
 use Rattle.sub_laws.proofs.SoundStretchLemmas.{sound_of_repeated}
 use Rattle.sub_laws.proofs.FollowedStretchLemmas.{frame_has_an_end}
@@ -23,10 +23,11 @@ pub sufficient_of :
     (programme : ProgrammeValue) (transmission : Transmission) (options : OptionsValue) (a b : ℕ)
     → options.keeps ≡ false
     → options.within ≡ 0
-    → IsSufficientRepeats options.keeps programme transmission options a b
+    → IsSufficientWithRepeats options.keeps programme transmission options a b
     → IsSufficient programme transmission options a b
 sufficient_of programme transmission options a b none at_once enough =
-    let of = subst (λ k. IsSufficientRepeats k programme transmission options a b) none enough in
+    let of =
+    subst (λ k. IsSufficientWithRepeats k programme transmission options a b) none enough in
     record {
       stretch = sound_of_repeated transmission options a b of.stretch;
       content = λ f row column low high named.
@@ -42,7 +43,7 @@ pub complete_unreported :
     (programme : ProgrammeValue) (transmission : Transmission) (options : OptionsValue)
     → (unread : Option UnreadReason) (any_unreliable : Bool) (undecided : ℕ → Bool) (a b : ℕ)
     → options.within ≡ 0
-    → IsUnreported (criteria_with_refusals programme options unread any_unreliable undecided)
+    → HasNoReceiverFault (criteria_with_refusals programme options unread any_unreliable undecided)
     transmission a b
     → IsTrue options.asks_complete
     → HasNoOpenEnd (criteria_with_refusals programme options unread any_unreliable undecided)

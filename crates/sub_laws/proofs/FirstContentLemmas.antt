@@ -11,7 +11,7 @@ use Rattle.sub_rules.specs.FrameRules.UnreadReason.{BadPacket, NoFrame}
 use Rattle.sub_rules.specs.PesPacketEvents.{all_events_of_pes_packets, sent_by_pes_packets}
 use Rattle.sub_rules.specs.PesPacketEvents.{steps_of_closing}
 use Rattle.sub_rules.specs.PesPacketEvents.{steps_of_each, steps_of_pes_packets, steps_of_sent}
-use Rattle.sub_rules.specs.PesPacketEvents.{steps_of_pending_end, reported_of_pes_packets}
+use Rattle.sub_rules.specs.PesPacketEvents.{steps_of_pending_end, ungrouped_events_of_pes_packets}
 use Rattle.sub_rules.specs.PesPackets.{PesPacket, frames_of, joined, read_until_skipped, sent_after}
 use Rattle.sub_rules.specs.PesPackets.PesPacket.{Skipped, Sent}
 use Rattle.sub_rules.specs.Transmission.{SentFrame, Transmission}
@@ -175,7 +175,7 @@ module _ (frame row column : ℕ) where
     pub first_content_fault_is_in_prefix : (pes_packets : List PesPacket) → IsFirst
         (all_events_of_pes_packets g pes_packets)
         → IsFirst (events g (joined g.within (read_until_skipped pes_packets g.unread).frames))
-    unfolding all_events_of_pes_packets reported_of_pes_packets current_pes
+    unfolding all_events_of_pes_packets ungrouped_events_of_pes_packets current_pes
     first_content_fault_is_in_prefix pes_packets e =
         ap first_reported_fault
         (ap (λ (fs : Transmission). events g (joined g.within fs))
@@ -190,8 +190,8 @@ module _ (frame row column : ℕ) where
         reported =
             let steps = steps_of_pes_packets g pes_packets in
             first_content_is_emitted 0 steps
-            (sym (announced_events_keep_first_fault (reported_of_pes_packets g pes_packets) ∙
-            reported_and_emitted_faults_agree []
+            (sym (announced_events_keep_first_fault (ungrouped_events_of_pes_packets g pes_packets)
+            ∙ reported_and_emitted_faults_agree []
             steps) ∙ e)
 
         content_is_emitted_by_prefix : (prefix pes_packets ≡ pes_packets) ⊎ IsFirst

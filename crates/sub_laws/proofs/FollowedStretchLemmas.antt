@@ -7,7 +7,7 @@ use Rattle.std.proofs.lemmas.Bool.{cases_lt}
 use Rattle.std.proofs.lemmas.List.{append-nil, get_or-append-add, length-append, length-take}
 use Rattle.std.proofs.Math.Seq.{take-append-add}
 use Rattle.ttx_packet.specs.PageId.{PageIdValue}
-use Rattle.ttx_page.specs.Repeats.{MayFollow, SendsText}
+use Rattle.ttx_page.specs.Repeats.{MayFollow, SendsOnlyRowsOfText}
 use Rattle.ttx_page.specs.Shown.{kept}
 use Rattle.ttx_page.proofs.TextStart.{sends-joined}
 use Rattle.sub_rules.specs.FrameRules.{frame_at, packets_before, packets_of_frame}
@@ -24,8 +24,8 @@ use Rattle.sub_laws.proofs.PrefixLemmas.{last-same, packets_on_air_at_sent_frame
 use Rattle.sub_laws.proofs.PrefixLemmas.{rising_frames_are_ordered}
 use Rattle.sub_laws.proofs.TransmissionLemmas.{packets_between-split}
 
-no_packets_send_no_text : (keeps : Bool) (page : PageIdValue) (text : ℕ → ℕ → ℕ) → SendsText keeps
-    page [] text
+no_packets_send_no_text : (keeps : Bool) (page : PageIdValue) (text : ℕ → ℕ → ℕ)
+    → SendsOnlyRowsOfText keeps page [] text
 no_packets_send_no_text keeps page text = grind (arith, nat_tests)
 
 module _ (transmission : Transmission) (a b : ℕ) (stretch : IsWithinTransmission transmission a b)
@@ -80,7 +80,7 @@ module _ (transmission : Transmission) (a b : ℕ) (stretch : IsWithinTransmissi
       → (f : ℕ)
       → a ≤ f
       → f ≤ b
-      → SendsText keeps page (packets_between transmission a (f + 1))
+      → SendsOnlyRowsOfText keeps page (packets_between transmission a (f + 1))
       (kept keeps page (on_air_until transmission f))
   packets_send_text_from_start keeps page fit f low high =
       let (n, end, on, last) = frame_has_an_end f low high in
@@ -98,7 +98,7 @@ module _ (transmission : Transmission) (a b : ℕ) (stretch : IsWithinTransmissi
       (omega arith)
       (omega (arith, end.0, end.1)) in
       fit i k there m (not_earlier i k there m far) (omega arith))) in
-      let sends : SendsText keeps page more (kept keeps page ((earlier ++ []) ++ more)) =
+      let sends : SendsOnlyRowsOfText keeps page more (kept keeps page ((earlier ++ []) ++ more)) =
       sends-joined keeps page earlier [] more (no_packets_send_no_text keeps page _)
       (λ k l.
       let at : MayFollow keeps page (earlier ++ take k more) (slice_index_or more k []) =

@@ -155,7 +155,7 @@ module _ (programme : ProgrammeValue) (transmission : Transmission) (options : O
     }
 
   -- If `within` is 0 and each header must have C4 (erase page) set, `GoodWithRepeats` implies
-  -- `Good`.
+  -- `Good` and, if complete pages are required, complete pages.
   good_at_once :
       options.within ≡ 0
       → GoodWithRepeats false programme transmission options

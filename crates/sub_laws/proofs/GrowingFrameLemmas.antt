@@ -104,7 +104,7 @@ grows within sent (s ∷ more) =
     more)
     (grows within (sent_after within sent s) more)
 
--- If `within` is 0, further PES packets do not change the frames sent so far.
+-- If `within` is 0, each further PES packet adds a frame, and the frames sent so far do not change.
 pub same_at_once : (within : ℕ) (sent more frames : Transmission) → (within == 0) ≡ true
     → joined_after within sent more ≡ frames
     → frames ≡ sent ++ more

@@ -11,9 +11,9 @@ use Rattle.stl_file.specs.KeptBlocks.{LawOfScope, whole_day_scope, is_read_to_th
 use Rattle.stl_file.specs.KeptBlocks.{unnumbered}
 use Rattle.stl_rows.specs.declared.layout.Drawing.{Drawing}
 use Rattle.stl_rows.specs.DrawnPage.{drawn}
-use Rattle.stl_rows.specs.Judged.{AllJudged, are_in_order, has_any_subtitle}
+use Rattle.stl_rows.specs.Judged.{ReliableSubtitles, are_in_order, has_any_subtitle}
 use Rattle.stl_rows.specs.Judged.{has_unreliable_subtitle}
-use Rattle.stl_rows.specs.Judged.{is_followed_in_order, judged_after, judged_of}
+use Rattle.stl_rows.specs.Judged.{is_followed_in_order, judged_after, reliable_subtitles_of}
 use Rattle.stl_rows.specs.Loading.{full_day_drawing}
 use Rattle.stl_rows.specs.Programme.{ProgrammeValue, times_of}
 use Rattle.sub_rules.specs.FrameRules.{is_due_undecided}
@@ -39,7 +39,7 @@ order_ignores_block_numbers last (refuses f block left) = order_ignores_block_nu
 order_ignores_block_numbers last (finds t block left) = refl
 
 -- The reliable subtitles after a given subtitle, or from the first subtitle on.
-abbrev following : Drawing → Option SubtitleValue → Bool → Findings → AllJudged
+abbrev following : Drawing → Option SubtitleValue → Bool → Findings → ReliableSubtitles
 following drawing last other left = judged_after drawing (option_map times_of last) other left
 
 judging_ignores_block_numbers : (drawing : Drawing) (last : Option SubtitleValue) (other : Bool)
@@ -103,12 +103,12 @@ module _ (drawing : Drawing) (one other : Findings) (same : unnumbered one ≡ u
       && are_in_order (following drawing None false one).judged)
       equal_findings_are_read_the_same
       ∙ ap
-      (λ (all : AllJudged). is_read_to_the_end other && has_any_subtitle all.judged && are_in_order
-      all.judged)
+      (λ (all : ReliableSubtitles).
+      is_read_to_the_end other && has_any_subtitle all.judged && are_in_order all.judged)
       equal_findings_are_judged_the_same
 
 pub judging_needs_used_blocks_only : LawOfScope → LawOfJudgedParts
-unfolding judged_of
+unfolding reliable_subtitles_of
 judging_needs_used_blocks_only law drawing gsi blocks size each read =
     let part : Findings = findings_within_scope drawing.scope (gsi ++ concat blocks) in
     let rest : Findings =

@@ -16,9 +16,9 @@ use Rattle.ttx_packet.specs.declared.header.Header.{Header}
 use Rattle.ttx_packet.specs.PacketAddress.{IsPacket}
 use Rattle.ttx_packet.specs.PageHeader.{c11, header, HasExactCodeWords}
 use Rattle.ttx_packet.specs.PageId.{PageIdValue}
-use Rattle.ttx_packet.specs.RowPacket.{HasOddText}
+use Rattle.ttx_packet.specs.RowPacket.{HasOddParityText}
 use Rattle.ttx_page.specs.Page.{Rows, cell, IsCell, IsPage}
-use Rattle.ttx_page.specs.Noise.{IsOddRow, AreEqualInRow}
+use Rattle.ttx_page.specs.Noise.{HasOddParityTextIfRow, AreEqualIfSameRow}
 use Rattle.ttx_page.specs.declared.packet_kind.PacketKind.TheVariants.{Row}
 use Rattle.ttx_page.specs.PacketKind.{kind}
 use Rattle.ttx_page.specs.Span.{has_page_header, has_no_page_end, span}
@@ -75,7 +75,7 @@ module _ (w : PageIdValue) (ok : IsWatchable w) where
 
   rows_are_the_same : (page : Rows) → IsPage page → (p q : List ℕ) → IsRowOf w page p → IsRowOf w
       page q
-      → AreEqualInRow w p q
+      → AreEqualIfSameRow w p q
   rows_are_the_same page shape p q one other row k l =
       grind (
         arith,
@@ -85,9 +85,10 @@ module _ (w : PageIdValue) (ok : IsWatchable w) where
         row_of w page,
       )
 
-  row_has_odd_parity : (page : Rows) → IsPage page → (p : List ℕ) → IsRowOf w page p → IsOddRow w p
+  row_has_odd_parity : (page : Rows) → IsPage page → (p : List ℕ) → IsRowOf w page p
+      → HasOddParityTextIfRow w p
   row_has_odd_parity page shape p is row k =
-      subst HasOddText (sym is.is) (row_packet_is_made_row w page is.row ok shape is.low
+      subst HasOddParityText (sym is.is) (row_packet_is_made_row w page is.row ok shape is.low
       is.high).odd
 
   packet_is_no_enhancement : (page : Rows) → IsPage page → (p : List ℕ) → IsRowOf w page p →

@@ -11,10 +11,10 @@ use Rattle.ttx_packet.specs.PageHeader.{HasExactCodeWords}
 use Rattle.ttx_packet.specs.PageId.{PageIdValue}
 use Rattle.ttx_packet.specs.Parity.{character_code}
 use Rattle.ttx_packet.specs.RowPacket.{text_byte}
-use Rattle.ttx_page.specs.Noise.{ErasesPage}
+use Rattle.ttx_page.specs.Noise.{ErasesPageIfHeader}
 use Rattle.ttx_page.specs.Page.{space}
 use Rattle.ttx_page.specs.PacketKind.{begins_text, is_row, is_this_page, kind}
-use Rattle.ttx_page.specs.Repeats.{HasCodes}
+use Rattle.ttx_page.specs.Repeats.{HasCodesIfRow}
 use Rattle.ttx_page.specs.Shown.{kept}
 use Rattle.ttx_page.specs.Span.{text_span}
 use Rattle.ttx_page.proofs.LateStart.{same_rows_have_same_codes}
@@ -29,14 +29,15 @@ use Rattle.sub_rules.specs.Repeats.{KeepsRulesWithRepeats, LawOfMayKeep}
 use Rattle.sub_rules.specs.Repeats.{LawOfNoRepeats, LawOfErasingHeaders, HasFinishedFrame}
 use Rattle.sub_rules.specs.Transmission.{EachPacket, Transmission, first_frame, last_frame}
 use Rattle.sub_rules.specs.Transmission.{on_air_until}
-use Rattle.sub_laws.specs.Repeats.{IsRepeatedStretch, LawOfKeptCodes, LawOfLongerRepeats}
+use Rattle.sub_laws.specs.Repeats.{IsSoundStretchWithRepeats, LawOfKeptCodes}
+use Rattle.sub_laws.specs.Repeats.{LawOfLongerDelayWithRepeats}
 use Rattle.sub_laws.proofs.TransmissionLemmas.{packets_between-each}
 
 -- If the packets since the page was erased are clean, each row among them has the codes that the
 -- page has in this row.
 pub clean_packets_have_shown_codes : (keeps : Bool) (page : PageIdValue) (packets : List (List ℕ))
     → IsCleanSpan page (text_span keeps (kind page) packets)
-    → All (HasCodes page (kept keeps page packets)) (text_span keeps (kind page) packets)
+    → All (HasCodesIfRow page (kept keeps page packets)) (text_span keeps (kind page) packets)
 clean_packets_have_shown_codes keeps page packets clean k d l row column is below =
     let packets_of_page_text : List (List ℕ) = text_span keeps (kind page) packets in
     first_row_has_code page packets_of_page_text row column _ (same_rows_have_same_codes page
@@ -47,7 +48,7 @@ pub repeated_stretch :
     (keeps : Bool) (programme : ProgrammeValue) (transmission : Transmission)
     (options : OptionsValue)
     → KeepsRulesWithRepeats keeps programme transmission options
-    → IsRepeatedStretch keeps transmission options (first_frame transmission)
+    → IsSoundStretchWithRepeats keeps transmission options (first_frame transmission)
     (last_frame transmission)
 repeated_stretch keeps programme transmission options rules = record {
   first = le_refl (first_frame transmission);
@@ -64,8 +65,8 @@ repeated_stretch keeps programme transmission options rules = record {
             packets_between-each HasExactCodeWords transmission (first_frame transmission) (f + 1)
             rules.exact;
         erases = λ none.
-            packets_between-each (ErasesPage options.page) transmission (first_frame transmission)
-            (f + 1) (rules.erases none);
+            packets_between-each (ErasesPageIfHeader options.page) transmission
+            (first_frame transmission) (f + 1) (rules.erases none);
         odd = clean.odd;
         codes = clean_packets_have_shown_codes keeps options.page whole clean;
       };
@@ -81,13 +82,13 @@ law_of_kept_codes keeps programme transmission options f old new rules low high 
 
 -- A header of the page with C4 (erase page) set erases the page.
 erasing_header_begins_text : (keeps : Bool) (w : PageIdValue) (packet : List ℕ)
-    → ErasesPage w packet
+    → ErasesPageIfHeader w packet
     → is_this_page (kind w packet) ≡ true
     → begins_text keeps (kind w packet) ≡ true
 erasing_header_begins_text keeps w packet erases this = grind (arith, nat_tests)
 
 each_erasing_header_begins_text : (keeps : Bool) (w : PageIdValue) (packets : List (List ℕ)) (n : ℕ)
-    → AllByRecursion (ErasesPage w) packets
+    → AllByRecursion (ErasesPageIfHeader w) packets
     → EachHeaderBegins (kind w) keeps (take n packets)
 each_erasing_header_begins_text keeps w packets zero each = tt
 each_erasing_header_begins_text keeps w [] (suc n) each = tt
@@ -98,11 +99,11 @@ each_erasing_header_begins_text keeps w (p ∷ ps) (suc n) each = (
 )
 
 module _ (one other : Bool) (w : PageIdValue) (packets : List (List ℕ))
-    (erases : All (ErasesPage w) packets) where
+    (erases : All (ErasesPageIfHeader w) packets) where
   text_span-of_erasing : (n : ℕ)
       → text_span one (kind w) (take n packets) ≡ text_span other (kind w) (take n packets)
   text_span-of_erasing n =
-      let each = recursion_from_All (ErasesPage w) packets erases in
+      let each = recursion_from_All (ErasesPageIfHeader w) packets erases in
       text_span-same (kind w) one (take n packets) (each_erasing_header_begins_text one w packets n
       each)
       ∙ sym (text_span-same (kind w) other (take n packets) (each_erasing_header_begins_text other w
@@ -121,10 +122,12 @@ module _ (one other : Bool) (w : PageIdValue) (packets : List (List ℕ))
       (text_span-of_erasing (length packets)))
 
 module _ (one other : Bool) (programme : ProgrammeValue) (transmission : Transmission)
-    (options : OptionsValue) (each : EachPacket (ErasesPage options.page) transmission) where
-  every_header_erases : (f : ℕ) → All (ErasesPage options.page) (on_air_until transmission f)
+    (options : OptionsValue)
+    (each : EachPacket (ErasesPageIfHeader options.page) transmission) where
+  every_header_erases : (f : ℕ)
+      → All (ErasesPageIfHeader options.page) (on_air_until transmission f)
   every_header_erases f =
-      packets_between-each (ErasesPage options.page) transmission (first_frame transmission)
+      packets_between-each (ErasesPageIfHeader options.page) transmission (first_frame transmission)
       (f + 1) each
 
   finishing_ignores_keeping : (f : ℕ)
@@ -215,8 +218,9 @@ module _ (programme : ProgrammeValue) (transmission : Transmission) (options : O
     control = λ k d l m e n h is. assumption (rules.control k d l m e n h is);
     erases = λ none k d l m e n h is. (rules.control k d l m e n h is).erases;
     keeping = λ f n high below h is.
-        inl (packets_between-each (ErasesPage options.page) transmission (first_frame transmission)
-        (f + 1) (λ k d l m e o head of. (rules.control k d l m e o head of).erases) n [] below h
+        inl (packets_between-each (ErasesPageIfHeader options.page) transmission
+        (first_frame transmission) (f + 1)
+        (λ k d l m e o head of. (rules.control k d l m e o head of).erases) n [] below h
         is);
     spans = λ f n high.
         subst (IsCleanSpan options.page)
@@ -268,5 +272,5 @@ module _ (keeps : Bool) (programme : ProgrammeValue) (transmission : Transmissio
     ends = finished_longer (last_frame transmission) good.ends;
   }
 
-pub law_of_longer_repeats : LawOfLongerRepeats
-law_of_longer_repeats = good_longer
+pub law_of_longer_delay_with_repeats : LawOfLongerDelayWithRepeats
+law_of_longer_delay_with_repeats = good_longer

@@ -4,7 +4,7 @@ use Rattle.std.proofs.Common.{arith, ℕ, ◌+◌, false, List, length, subst, l
 use Rattle.std.proofs.lemmas.Bool.Decides.{nat_tests}
 use Rattle.std.proofs.lemmas.List.{take_all}
 use Rattle.ttx_packet.specs.PageHeader.{HasExactCodeWords}
-use Rattle.ttx_page.specs.Noise.{ErasesPage}
+use Rattle.ttx_page.specs.Noise.{ErasesPageIfHeader}
 use Rattle.ttx_page.specs.PacketKind.{kind}
 use Rattle.ttx_page.specs.Span.{span}
 use Rattle.ttx_page.proofs.LateStart.{same_rows_have_same_codes}
@@ -36,7 +36,8 @@ sound_stretch programme transmission options keeps = record {
             packets_between-each HasExactCodeWords transmission (first_frame transmission) (f + 1)
             keeps.exact;
         erases =
-            packets_between-each (ErasesPage options.page) transmission (first_frame transmission)
+            packets_between-each (ErasesPageIfHeader options.page) transmission
+            (first_frame transmission)
             (f + 1)
             (λ k d l m e n h is. (keeps.control k d l m e n h is).erases);
         odd = clean.odd;

@@ -16,7 +16,7 @@ use Rattle.ttx_page.specs.DroppedRows.{ExcusedBy}
 use Rattle.ttx_page.specs.LostRows.{IsHitOrLost, LosesNoHeader, arrivals_from_flags}
 use Rattle.ttx_page.specs.PacketKind.{kind}
 use Rattle.ttx_page.specs.Receiver.{ReceiverClass, State}
-use Rattle.ttx_page.specs.Repeats.{EndsAfterRepeats, HearsRepeats, SendsText}
+use Rattle.ttx_page.specs.Repeats.{EndsAfterRepeats, HearsRepeats, SendsOnlyRowsOfText}
 use Rattle.ttx_page.specs.Shown.{kept}
 use Rattle.ttx_page.specs.Span.{has_page_header, is_open_after, has_no_page_end, span}
 use Rattle.ttx_page.proofs.LateStart.{sends-later, span-later, unended-later}
@@ -29,7 +29,7 @@ use Rattle.sub_rules.specs.Repeats.{HasEndedPage}
 use Rattle.sub_rules.specs.Transmission.{Transmission, first_frame, packets_between}
 use Rattle.sub_rules.specs.Transmission.{on_air, on_air_until, packets_of}
 use Rattle.sub_laws.specs.LostRows.{IsReceivedWithLosses}
-use Rattle.sub_laws.specs.Repeats.{IsRepeatedStretch}
+use Rattle.sub_laws.specs.Repeats.{IsSoundStretchWithRepeats}
 use Rattle.sub_laws.specs.Robust.{IsListening}
 use Rattle.sub_laws.specs.Sufficient.{IsSoundStretch}
 use Rattle.sub_laws.proofs.TransmissionLemmas.{packets_between-split}
@@ -46,11 +46,11 @@ module _ (transmission : Transmission) (options : OptionsValue) (a b : ℕ)
       (f : ℕ)
       → a ≤ f
       → f ≤ b
-      → SendsText false options.page (on_air_from_a f)
+      → SendsOnlyRowsOfText false options.page (on_air_from_a f)
       (kept false options.page (on_air_until transmission f))
   sends_from f low high =
       subst
-      (λ (ps : List (List ℕ)). SendsText false options.page (on_air_from_a f)
+      (λ (ps : List (List ℕ)). SendsOnlyRowsOfText false options.page (on_air_from_a f)
       (kept false options.page ps))
       (sym
       (packets_between-split transmission (first_frame transmission) a (f + 1) stretch.rising
@@ -59,12 +59,12 @@ module _ (transmission : Transmission) (options : OptionsValue) (a b : ℕ)
       a)
       (on_air_from_a f) (stretch.sound f low high))
 
-  pub sound_stretch_is_repeated : IsRepeatedStretch false transmission options a b
+  pub sound_stretch_is_repeated : IsSoundStretchWithRepeats false transmission options a b
   sound_stretch_is_repeated = assumption (sends_from, stretch)
 
 pub sound_of_repeated :
     (transmission : Transmission) (options : OptionsValue) (a b : ℕ)
-    → IsRepeatedStretch false transmission options a b
+    → IsSoundStretchWithRepeats false transmission options a b
     → IsSoundStretch transmission options a b
 sound_of_repeated transmission options a b stretch = record {
   first = stretch.first;
@@ -75,7 +75,7 @@ sound_of_repeated transmission options a b stretch = record {
 }
 
 module _ (keeps : Bool) (transmission : Transmission) (options : OptionsValue) (a b : ℕ)
-    (stretch : IsRepeatedStretch keeps transmission options a b)
+    (stretch : IsSoundStretchWithRepeats keeps transmission options a b)
     (g j f : ℕ) (listening : IsListening transmission a b g j f) where
   abbrev K : List ℕ → PacketKind
   K = kind options.page
@@ -126,12 +126,14 @@ module _ (keeps : Bool) (transmission : Transmission) (options : OptionsValue) (
   so_far = on_air-split (first_frame transmission) (le_trans stretch.first listening.from)
 
   pub heard_text :
-      SendsText keeps options.page sent (kept keeps options.page (on_air_until transmission f))
+      SendsOnlyRowsOfText keeps options.page sent
+      (kept keeps options.page (on_air_until transmission f))
   heard_text =
       sends-later options.page (before a) sent keeps _
       (subst
       (λ (ps : List (List ℕ)).
-      SendsText keeps options.page ps (kept keeps options.page (on_air_until transmission f)))
+      SendsOnlyRowsOfText keeps options.page ps
+      (kept keeps options.page (on_air_until transmission f)))
       (on_air-split a listening.from)
       (stretch.sends f (le_trans listening.from listening.in_order) listening.to))
 
@@ -163,7 +165,7 @@ holds-got w (p ∷ ps) arrived got exact may near =
     grind (arith, nat_tests, lost_packet_is_no_header, kind-near, holds-got w ps)
 
 module _ (keeps : Bool) (transmission : Transmission) (options : OptionsValue) (a b : ℕ)
-    (stretch : IsRepeatedStretch keeps transmission options a b)
+    (stretch : IsSoundStretchWithRepeats keeps transmission options a b)
     (g j f : ℕ) (arrived : List Bool) (got : List (List ℕ))
     (is : IsReceivedWithLosses transmission a b g j f arrived got) where
   pub got_as :

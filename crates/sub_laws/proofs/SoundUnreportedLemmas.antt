@@ -20,9 +20,9 @@ use Rattle.sub_rules.specs.PacketTests.{breaks}
 use Rattle.sub_rules.specs.Transmission.{Transmission, first_frame}
 use Rattle.sub_rules.specs.declared.packet_rule.PacketRule.{PacketRule}
 use Rattle.sub_rules.specs.declared.packet_rule.PacketRule.TheVariants as rule
-use Rattle.sub_laws.specs.CleanStretch.{HoldsAtPackets, IsEnd, IsUnreported, criteria_with_refusals}
-use Rattle.sub_laws.specs.CleanStretch.{is_needed_by_receivers}
-use Rattle.sub_laws.specs.Repeats.{IsRepeatedStretch}
+use Rattle.sub_laws.specs.CleanStretch.{HoldsAtPackets, IsEnd, HasNoReceiverFault}
+use Rattle.sub_laws.specs.CleanStretch.{criteria_with_refusals, is_needed_by_receivers}
+use Rattle.sub_laws.specs.Repeats.{IsSoundStretchWithRepeats}
 use Rattle.sub_rules.proofs.CodesLemmas.{code_of_column}
 use Rattle.ttx_page.proofs.DifferingLemmas.{zero_difference_equal_columns}
 use Rattle.sub_laws.proofs.BrokenRuleLemmas.{failed_test_refutes_property, rule_test_is_exact}
@@ -39,7 +39,7 @@ not_false_is_true b h1 = grind (arith, nat_tests)
 module _ (programme : ProgrammeValue) (transmission : Transmission) (options : OptionsValue)
     (unread : Option UnreadReason) (any_unreliable : Bool) (undecided : ℕ → Bool) (a b : ℕ)
     (unreported :
-    IsUnreported (criteria_with_refusals programme options unread any_unreliable undecided)
+    HasNoReceiverFault (criteria_with_refusals programme options unread any_unreliable undecided)
     transmission a
     b) where
   abbrev g : Criteria
@@ -127,7 +127,8 @@ module _ (programme : ProgrammeValue) (transmission : Transmission) (options : O
             inr (j, omega (arith, end.1), omega arith, late, has)
       ]
 
-  pub unreported_stretch_is_repeated : IsRepeatedStretch options.keeps transmission options a b
+  pub unreported_stretch_is_repeated :
+      IsSoundStretchWithRepeats options.keeps transmission options a b
   unreported_stretch_is_repeated =
       stretches.law_of_followed_stretch options.keeps transmission options a b (record {
         stretch = unreported.stretch;

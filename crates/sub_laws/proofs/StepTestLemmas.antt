@@ -236,7 +236,8 @@ module _ (test : CheckStep → Bool) where
         appended_steps_match_nothing (each_passes [] 0 pes_packets (skipped 0))
         (pending_steps_match_nothing (sent_by_pes_packets g pes_packets))
 
--- If the test `bad` is false for a fault, it is false for this fault with any PES packet number.
+-- The lemmas of this module assume that a fault that does not pass the test `bad` does not pass it
+-- with any other PES packet number either.
 module _ (bad : CheckFault → Bool)
     (anywhere : (pes : ℕ) (f : CheckFault) → bad f ≡ false → bad (fault_with_pes_number pes f) ≡
     false) where

@@ -19,7 +19,7 @@ use Rattle.sub_rules.specs.Repeats.{IsCorrectPage, KeepsDueCodes}
 use Rattle.sub_rules.specs.Transmission.{Transmission, first_frame, last_frame, on_air}
 use Rattle.sub_rules.specs.Transmission.{on_air_until}
 use Rattle.sub_laws.specs.Laws.{LawOfLosslessReception}
-use Rattle.sub_laws.specs.LostRows.{IsReceivedWithLosses, IsRobustWithLosses, RobustToAnyLoss}
+use Rattle.sub_laws.specs.LostRows.{IsReceivedWithLosses, IsRobustWithLosses, RobustToLostRows}
 use Rattle.sub_laws.specs.Recovery.{RecoversWithin}
 use Rattle.sub_laws.specs.Repeats.{RecoversIfForgetful, ShownIfForgetful}
 use Rattle.sub_laws.specs.Robust.{IsListening, IsServed, Robust}
@@ -123,26 +123,26 @@ module _ (programme : ProgrammeValue) (transmission : Transmission) (options : O
     (recovers :
     RecoversWithin Storing programme transmission options (first_frame transmission)
     (last_frame transmission)) where
-  transmission_survives_any_loss : RobustToAnyLoss programme transmission options
-  transmission_survives_any_loss arrived g j f got old new is unheard shut hears =
+  transmission_survives_lost_rows : RobustToLostRows programme transmission options
+  transmission_survives_lost_rows arrived g j f got old new is unheard shut hears =
       recovers g j f arrived got old new is hears
 
   pub recovering_transmission_is_robust : Robust programme transmission options
   recovering_transmission_is_robust =
       (law_of_lossless_reception programme transmission options).0
-      (λ arrived all. transmission_survives_any_loss arrived)
+      (λ arrived all. transmission_survives_lost_rows arrived)
 
 pub law_of_full_recovery : LawOfFullRecovery
 law_of_full_recovery programme transmission options recovers = (
   recovering_transmission_is_robust programme transmission options recovers,
-  transmission_survives_any_loss programme transmission options recovers,
+  transmission_survives_lost_rows programme transmission options recovers,
 )
 
 pub law_of_full_stretch : LawOfFullStretch
 law_of_full_stretch programme transmission options trusted = record {
   robust = recovering_transmission_is_robust programme transmission options
       (trusted.recovers Storing);
-  transmission_survives_any_loss = transmission_survives_any_loss programme transmission options
+  transmission_survives_lost_rows = transmission_survives_lost_rows programme transmission options
       (trusted.recovers Storing);
   trusted = trusted;
 }

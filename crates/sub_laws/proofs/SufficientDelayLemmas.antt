@@ -20,9 +20,10 @@ use Rattle.sub_rules.specs.Kept.{IsRight}
 use Rattle.sub_rules.specs.Repeats.{FinishesRegularly, IsDueWithin, IsFinishedFrame, IsCorrectPage}
 use Rattle.sub_rules.specs.Repeats.{KeepsDueCodes, HasFinishedFrame}
 use Rattle.sub_rules.specs.Transmission.{Transmission, on_air_until}
-use Rattle.sub_laws.specs.CleanStretch.{IsEnd, IsUnreported, HasNoOpenEnd, criteria_with_refusals}
+use Rattle.sub_laws.specs.CleanStretch.{IsEnd, HasNoReceiverFault, HasNoOpenEnd}
+use Rattle.sub_laws.specs.CleanStretch.{criteria_with_refusals}
 use Rattle.sub_laws.specs.Repeats.{FinishesInTime}
-use Rattle.sub_laws.specs.ReportedRepeats.{IsSufficientRepeats, LawOfUnreportedRepeats}
+use Rattle.sub_laws.specs.ReportedRepeats.{IsSufficientWithRepeats, LawOfUnreportedRepeats}
 use Rattle.sub_laws.proofs.DueCodeLemmas.{ending_eq, no_unexpected_cell_shows_expected_codes}
 use Rattle.sub_laws.proofs.FinishedLemmas.{finished_frame_has_finished_page, frame_end}
 use Rattle.sub_laws.proofs.FinishedLemmas.{finished_end_starts_no_run}
@@ -304,7 +305,7 @@ module _ (programme : ProgrammeValue) (options : OptionsValue) (unread : Option 
 
 module _ (programme : ProgrammeValue) (options : OptionsValue) (unread : Option UnreadReason)
     (any_unreliable : Bool) (undecided : ℕ → Bool) (t : Transmission) (a b : ℕ)
-    (unreported : IsUnreported (criteria_with_refusals programme options unread any_unreliable
+    (unreported : HasNoReceiverFault (criteria_with_refusals programme options unread any_unreliable
     undecided) t a
     b)
   where
@@ -321,8 +322,8 @@ module _ (programme : ProgrammeValue) (options : OptionsValue) (unread : Option 
           (unreported.content n f end low high, unreported.undecided n f end low high);
     }
 
-    pub unreported_repeats_are_sufficient : IsSufficientRepeats options.keeps programme t options a
-        b
+    pub unreported_repeats_are_sufficient :
+        IsSufficientWithRepeats options.keeps programme t options a b
     unreported_repeats_are_sufficient = record {
       stretch = unreported_stretch_is_repeated programme t options unread any_unreliable undecided a
           b

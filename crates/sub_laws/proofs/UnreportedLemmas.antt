@@ -17,7 +17,7 @@ use Rattle.sub_rules.specs.PesPacketEvents.{skipped_run_after_events}
 use Rattle.sub_rules.specs.PesPacketEvents.{sent_by_pes_packets}
 use Rattle.sub_rules.specs.PesPacketEvents.{steps_of_closing, steps_of_each, steps_of_pes_packets}
 use Rattle.sub_rules.specs.PesPacketEvents.{steps_of_sent, steps_of_pending_end}
-use Rattle.sub_rules.specs.PesPacketEvents.{reported_of_pes_packets}
+use Rattle.sub_rules.specs.PesPacketEvents.{ungrouped_events_of_pes_packets}
 use Rattle.sub_rules.specs.PesPackets.{PesPacket, frames_of, sent_after}
 use Rattle.sub_rules.specs.PesPackets.PesPacket.{Skipped, Sent}
 use Rattle.sub_rules.specs.Transmission.{Transmission}
@@ -174,10 +174,10 @@ module _ (g : Criteria) where
   )
 
   reported_none : (pes_packets : List PesPacket) → g.any_unreliable ≡ false
-      → (reported_of_pes_packets g pes_packets ≡ []) ↔
+      → (ungrouped_events_of_pes_packets g pes_packets ≡ []) ↔
       (emitted_events (steps_of_pes_packets g pes_packets)
       ≡ [])
-  unfolding reported_of_pes_packets
+  unfolding ungrouped_events_of_pes_packets
   reported_none pes_packets alone = (
     nothing_reported_means_nothing_emitted [] (steps_of_pes_packets g pes_packets),
     fault_free,
@@ -267,7 +267,7 @@ module _ (g : Criteria) where
       → (first_reported_fault (all_events_of_pes_packets g pes_packets) ≡ None)
       ↔ ((length (frames_of pes_packets) ≡ length pes_packets)
       × (first_reported_fault (events g (sent_by_pes_packets g pes_packets)) ≡ None))
-  unfolding all_events_of_pes_packets reported_of_pes_packets
+  unfolding all_events_of_pes_packets ungrouped_events_of_pes_packets
   no_fault_means_all_sent pes_packets = grind (
     arith,
     nat_tests,

@@ -1,5 +1,6 @@
 -- The events of a transmission report exactly its broken rules: at each place, a fault is reported
--- if and only if a rule is broken there.
+-- if and only if a rule is broken there. Rows are compared exactly only after packets without
+-- faults.
 use Rattle.std.specs.Prelude.{◌≡◌, ◌↔◌, ℕ, suc, ◌<◌, ◌≤◌, List, [], length, map, Option}
 use Rattle.std.specs.Prelude.{Some, None, IsTrue, IsFalse}
 use Rattle.ttx_packet.specs.PacketAddress.{IsPacket}
@@ -69,7 +70,8 @@ pub record IsComparable (w : Watched) (before : List (List ℕ)) (p : List ℕ) 
   pub exact : KeepsRule rule.Address w before p
   pub odd : KeepsRule rule.Parity w before p
 
--- At each place of a transmission, a fault is reported if and only if a rule is broken there.
+-- At each place of a transmission, a fault is reported if and only if a rule is broken there; for
+-- `RowChanged`, if the packet is comparable (`IsComparable`).
 pub record ReportsBrokenPlaces (g : Criteria) (frames : Transmission) : Type 0 where
   -- The first frame is not after the first TCI, and each later frame is after the frame before it.
   pub start :
@@ -100,15 +102,16 @@ pub record ReportsBrokenPlaces (g : Criteria) (frames : Transmission) : Type 0 w
       → first_reported_fault (all_events_of_pes_packets g (map Sent frames)) ≡ None
       → all_events_of_pes_packets g (map Sent frames) ≡ []
 
--- If `within` is 0, the events of a transmission report each broken rule at its place, in order,
--- and nothing else. So the first fault is at the first broken place.
+-- If `within` is 0, a fault is reported at a place of a transmission if and only if a rule is
+-- broken there; for `RowChanged`, if the packet is comparable (`IsComparable`). For wrong text, the
+-- fault gives the first wrong cell.
 abbrev pub LawOfBrokenPlaces : Type 0
 LawOfBrokenPlaces = (g : Criteria) (frames : Transmission) → g.within ≡ 0 → ReportsBrokenPlaces g
     frames
 
--- A PES file has no event if and only if no PES packet is skipped, its frames are good under the
--- options, and the entire file was read. If `within` is not 0, consecutive PES packets of one frame
--- are merged.
+-- If no subtitle was rejected, a PES file has no event if and only if no PES packet is skipped, its
+-- frames are good under the options, and the entire file was read. If `within` is not 0,
+-- consecutive PES packets of one frame are merged.
 abbrev pub LawOfEmptyReportRepeats : Type 0
 LawOfEmptyReportRepeats =
     (programme : ProgrammeValue) (options : OptionsValue) (unread : Option UnreadReason)
@@ -122,9 +125,9 @@ LawOfEmptyReportRepeats =
     options
     × (unread ≡ None))
 
--- If each header must have C4 (erase page) set and `within` is 0, a PES file has no event if and
--- only if no PES packet is skipped, its frames are good, with complete pages if these are required,
--- and the entire file was read.
+-- If each header must have C4 (erase page) set, `within` is 0 and no subtitle was rejected, a PES
+-- file has no event if and only if no PES packet is skipped, its frames are good, with complete
+-- pages if these are required, and the entire file was read.
 abbrev pub LawOfEmptyReport : Type 0
 LawOfEmptyReport =
     (programme : ProgrammeValue) (options : OptionsValue) (unread : Option UnreadReason)

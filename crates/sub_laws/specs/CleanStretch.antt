@@ -59,11 +59,12 @@ pub record IsWithinTransmission (frames : Transmission) (a b : ℕ) : Type 0 whe
 abbrev pub is_needed_by_receivers : PacketRule → Bool
 is_needed_by_receivers r = (fault_row (packet_fault r 0 0)).invalidates
 
--- The range of frames has no fault that affects receivers: frame numbers increase in the entire
+-- The range of frames has none of the faults that affect receivers, apart from `Incomplete`,
+-- `Silent` and faults of PES packets, which it may have: frame numbers increase in the entire
 -- transmission; no packet of the range breaks a rule that affects receivers; no wrong cell or
 -- missing header is active at the end of any of its frames; and the expected page of each frame,
 -- and of the `within` frames before it, is known.
-pub record IsUnreported (g : Criteria) (frames : Transmission) (a b : ℕ) : Type 0 where
+pub record HasNoReceiverFault (g : Criteria) (frames : Transmission) (a b : ℕ) : Type 0 where
   pub stretch : IsWithinTransmission frames a b
   pub rising : IsRising frames
   pub packets :
@@ -89,16 +90,16 @@ criteria_with_refusals programme options unread any_unreliable undecided =
     { any_unreliable = any_unreliable; undecided = undecided }
 
 -- If each header must have C4 (erase page) set and `within` is 0, a range of frames without faults
--- that affect receivers meets the sufficient conditions (`LawOfStretch`). If its pages have ended
--- at each frame end, they are complete. So the report on a rejected transmission shows which part
--- of it is correct for receivers.
+-- that affect receivers meets the sufficient conditions (`IsSufficient`). If complete pages are
+-- required, and `Incomplete` is not active at the end of any of its frames, its pages are complete.
+-- So the report on a rejected transmission shows which part of it is correct for receivers.
 abbrev pub LawOfUnreportedStretch : Type 0
 LawOfUnreportedStretch =
     (programme : ProgrammeValue) (transmission : Transmission) (options : OptionsValue)
     → (unread : Option UnreadReason) (any_unreliable : Bool) (undecided : ℕ → Bool) (a b : ℕ)
     → IsFalse options.keeps
     → options.within ≡ 0
-    → IsUnreported (criteria_with_refusals programme options unread any_unreliable undecided)
+    → HasNoReceiverFault (criteria_with_refusals programme options unread any_unreliable undecided)
     transmission a b
     → IsSufficient programme transmission options a b
     × (IsTrue options.asks_complete

@@ -11,10 +11,9 @@ use Rattle.sub_rules.specs.Transmission.{Transmission}
 abbrev pub options_with_delay : ℕ → OptionsValue → OptionsValue
 options_with_delay more options = record options { within = more }
 
--- If the bytes of a PES file carry a transmission with some `within`, they carry it with any
--- greater `within`: each PTS stays within its tolerance, and no two PES packets have the same
--- frame. If the transmission is good with the smaller `within`, it is good with the greater one. So
--- an accepted file is still accepted.
+-- If the bytes of a PES file carry a good transmission with some `within`, they carry it with any
+-- greater `within`, since each PTS stays within its tolerance and the same PES packets are merged;
+-- and it is good with the greater `within` too. So an accepted file is still accepted.
 abbrev pub LawOfLongerDelayOfFiles : Type 0
 LawOfLongerDelayOfFiles =
     (keeps : Bool) (programme : ProgrammeValue) (options : OptionsValue) (more : ℕ)

@@ -6,7 +6,8 @@ use Rattle.stl_file.specs.Reader.{findings_within_scope}
 use Rattle.stl_file.specs.SubtitleBlocks.{IsBlock}
 use Rattle.stl_file.specs.KeptBlocks.{is_read_to_the_end, scope_blocks}
 use Rattle.stl_rows.specs.declared.layout.Drawing.{Drawing}
-use Rattle.stl_rows.specs.Judged.{JudgedValue, has_unreliable_subtitle, judged_of, can_judge}
+use Rattle.stl_rows.specs.Judged.{JudgedValue, has_unreliable_subtitle, reliable_subtitles_of}
+use Rattle.stl_rows.specs.Judged.{can_judge}
 use Rattle.stl_rows.specs.Loading.{full_day_drawing}
 use Rattle.sub_plan.specs.Options.{OptionsValue}
 use Rattle.sub_rules.specs.FrameRules.{UnreadReason, criteria_of_judged, is_due_undecided}
@@ -22,15 +23,15 @@ LawOfJudgedParts =
     → length gsi ≡ gsi_size
     → AllByRecursion IsBlock blocks
     → is_read_to_the_end (findings_within_scope drawing.scope (gsi ++ concat blocks)) ≡ true
-    → (judged_of drawing (gsi ++ concat blocks)
-    ≡ judged_of (full_day_drawing drawing) (gsi ++ concat (scope_blocks drawing.scope None blocks)))
+    → (reliable_subtitles_of drawing (gsi ++ concat blocks) ≡ reliable_subtitles_of
+    (full_day_drawing drawing) (gsi ++ concat (scope_blocks drawing.scope None blocks)))
     × (can_judge drawing (gsi ++ concat blocks)
     ≡ can_judge (full_day_drawing drawing)
     (gsi ++ concat (scope_blocks drawing.scope None blocks)))
 
--- If two subtitle files have the same reliable subtitles, the same frames with an unknown expected
--- page, and rejected subtitles both or neither, a PES file has the same events for both. So neither
--- the text nor the times of rejected subtitles matter otherwise.
+-- If two subtitle files have the same reliable subtitles, drawn in the same way, the same frames
+-- with an unknown expected page, and unreliable subtitles both or neither, a PES file has the same
+-- events for both. So neither the text nor the times of unreliable subtitles matter otherwise.
 abbrev pub LawOfEqualReports : Type 0
 LawOfEqualReports =
     (one other : JudgedValue) (options : OptionsValue) (unread : Option UnreadReason)

@@ -11,7 +11,7 @@ use Rattle.sub_laws.specs.LostRows.{IsRobustWithLosses}
 use Rattle.sub_laws.specs.Stretch.{HasPromises}
 
 -- A receiver that starts at any packet of frame g of a good transmission gets a header of the page
--- by the end of frame g + `every`, so within the repeat bound.
+-- by the end of frame g + `every`, so within the repeat bound, if it listens until then.
 abbrev pub LawOfWindow : Type 0
 LawOfWindow =
     (programme : ProgrammeValue) (transmission : Transmission) (options : OptionsValue)
@@ -23,7 +23,7 @@ LawOfWindow =
 
 -- A good transmission is robust, even if rows are lost. Receivers of both classes recover whatever
 -- they received before, so earlier errors no longer matter after the next header. If pages are
--- complete, the expected page is on the receivers' screens.
+-- complete, the expected page is on the receivers' screens, as in `ShownWithin`.
 abbrev pub LawOfGood : Type 0
 LawOfGood =
     (programme : ProgrammeValue) (transmission : Transmission) (options : OptionsValue)

@@ -18,9 +18,10 @@ pub record IsReceivedWithLosses
   pub headers : AllZip LosesNoHeader (on_air transmission g j f) arrived
   pub near : AllZip AreNear (items_where_true arrived (on_air transmission g j f)) got
 
--- The transmission is robust if exactly the packets marked in `arrived` arrive: the guarantee
--- `IsServed` holds wherever a receiver starts and stops, and whatever page it had before its first
--- header. A cell may have a space only if its byte had a wrong bit or its row was lost.
+-- The transmission is robust if exactly the packets marked in `arrived` arrive, among them all page
+-- headers, with at most one wrong bit in each byte: the guarantee `IsServed` holds wherever a
+-- receiver starts and stops, and whatever page it had before its first header. A cell may have a
+-- space only if its byte had a wrong bit or its row was lost.
 abbrev pub IsRobustWithLosses : ProgrammeValue → Transmission → OptionsValue → List Bool → Type 0
 IsRobustWithLosses programme transmission options arrived =
     (g j f : ℕ) (got : List (List ℕ)) (old new : State)
@@ -33,6 +34,6 @@ IsRobustWithLosses programme transmission options arrived =
     (IsHitOrLost options.page (on_air transmission g j f) (arrivals_from_flags arrived got)) old new
 
 -- The transmission is robust whichever rows are lost.
-abbrev pub RobustToAnyLoss : ProgrammeValue → Transmission → OptionsValue → Type 0
-RobustToAnyLoss programme transmission options =
+abbrev pub RobustToLostRows : ProgrammeValue → Transmission → OptionsValue → Type 0
+RobustToLostRows programme transmission options =
     (arrived : List Bool) → IsRobustWithLosses programme transmission options arrived

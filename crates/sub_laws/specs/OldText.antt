@@ -1,5 +1,5 @@
--- If repeats may have C4 (erase page) clear, a receiver may show old text after it was tuned in.
--- The text is gone at the latest when text ends or changes.
+-- If repeats may have C4 (erase page) clear, a receiver may have old text after it was tuned in.
+-- The text is gone at the latest `within` frames after text ends or changes.
 use Rattle.std.specs.Prelude.{◌≡◌, ◌≢◌, ℕ, ◌+◌, ◌-◌, ◌<◌, ◌≤◌, Bool, List, IsTrue}
 use Rattle.ttx_page.specs.DroppedRows.{ExcusedBy}
 use Rattle.ttx_page.specs.LostRows.{IsHitOrLost, arrivals_from_flags}
@@ -26,9 +26,9 @@ pub record HasTextEnding (programme : ProgrammeValue) (within e row column code 
       (f : ℕ) → f < e → e ≤ f + within + 1 → cell (due_page_in programme f) row column ≡ code
   pub gone : (f : ℕ) → e ≤ f → f ≤ e + within → cell (due_page_in programme f) row column ≢ code
 
--- The page of a receiver at the end of frame f: each cell has a space, or a code that was expected
--- in it within the last `within` frames. If the page is correct or `within` is 0, each cell has the
--- expected code, or a space that is allowed because of an error.
+-- The page of a receiver at the end of frame f: each cell has an allowed code (`IsDueWithin`). If
+-- the page is correct or `within` is 0, each cell has the expected code, or a space that is allowed
+-- because of an error.
 pub record HoldsExpectedCodes
     (keeps : Bool) (programme : ProgrammeValue) (transmission : Transmission)
     (options : OptionsValue) (f : ℕ) (IsExcused : ℕ → ℕ → Type 0) (new : State)
@@ -42,9 +42,10 @@ pub record HoldsExpectedCodes
       → HoldsDuePage programme f IsExcused new.page
   pub at_once : options.within ≡ 0 → HoldsDuePage programme f IsExcused new.page
 
--- If text ends or changes at frame e of a good transmission, a header that erases the page is sent
--- in that frame, or at most `within` frames before or after it. So a receiver that was tuned in
--- before has erased its old text by then, and has only expected codes.
+-- If text ends or changes at frame e of a good transmission, more than `within` frames after its
+-- first frame and at least `within` frames before its last, a header that erases the page is sent
+-- at most `within` frames before or after e. So a receiver that was tuned in more than `within`
+-- frames before e has erased its old text `within` frames after e, and has only expected codes.
 abbrev pub LawOfOldText : Type 0
 LawOfOldText =
     (keeps : Bool) (programme : ProgrammeValue) (transmission : Transmission)

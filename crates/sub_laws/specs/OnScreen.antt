@@ -32,7 +32,7 @@ Complete transmission options =
 
 -- In the frames from a to b, the screens of receivers of this class show the expected page once a
 -- header of the page was sent, wherever a receiver starts and stops, and whatever it received and
--- showed before. A cell may have a space because of an error, as in `RecoversWithin`.
+-- showed before. The errors, and the cells that may have a space, are those of `RecoversWithin`.
 abbrev pub ShownWithin :
     ReceiverClass → ProgrammeValue → Transmission → OptionsValue → ℕ → ℕ → Type 0
 ShownWithin class programme transmission options a b =

@@ -25,7 +25,7 @@ planned programme o serial =
 
 -- The schedule of a subtitle file with at least one subtitle is a good transmission, in serial and
 -- parallel mode, unless the pace is less than the repeat bound. So a check with the same options
--- accepts it, and every receiver shows the expected page.
+-- accepts it, and it meets the guarantees of a good transmission.
 abbrev pub LawOfPlan : Type 0
 LawOfPlan =
     (programme : ProgrammeValue) (options : OptionsValue) (serial : Bool)

@@ -8,7 +8,7 @@ use Rattle.ttx_page.specs.LostRows.{IsHitOrLost, arrivals_from_flags}
 use Rattle.ttx_page.specs.Page.{IsCell, Rows, cell}
 use Rattle.ttx_page.specs.PacketKind.{kind}
 use Rattle.ttx_page.specs.Receiver.{Hears, ReceiverClass, State}
-use Rattle.ttx_page.specs.Repeats.{HearsRepeats, IsFresh, MayFollow, SendsText}
+use Rattle.ttx_page.specs.Repeats.{HearsRepeats, IsFresh, MayFollow, SendsOnlyRowsOfText}
 use Rattle.ttx_page.specs.Repeats.{ShowsRepeats}
 use Rattle.ttx_page.specs.Screen.{Display}
 use Rattle.ttx_page.specs.Shown.{kept}
@@ -28,44 +28,46 @@ use Rattle.sub_laws.specs.Robust.{HoldsDuePage}
 
 -- ---- receivers that may erase the page at any header
 
--- The guarantee to a receiver that may erase its page at any header of the page (`anew`: it always
--- does). It listened from frame g to the end of frame f, the packets `sent` were sent, and its
--- state changed from `old` to `new`.
+-- The guarantee to a receiver that may blank any cells of its page at each header of the page with
+-- C4 (erase page) clear (`anew`: it always blanks them all). It listened from frame g to the end of
+-- frame f, the packets `sent` were sent, and its state changed from `old` to `new`.
 pub record IsServedIfForgetful
     (keeps anew : Bool) (programme : ProgrammeValue) (transmission : Transmission)
     (options : OptionsValue) (g f : ℕ) (sent : List (List ℕ)) (IsExcused : ℕ → ℕ → Type 0)
     (old new : State)
     : Type 0 where
-  -- A header of the page was sent by the end of frame g + `every`.
+  -- If frame f is at or after frame g + `every`, a header of the page was sent.
   pub in_time : g + options.every ≤ f → IsTrue (has_page_header (kind options.page) sent)
   -- The receiver has received a header of the page if and only if it had before or a header was
   -- sent.
   pub heard : new.heard ≡ (old.heard || has_page_header (kind options.page) sent)
-  -- The receiver's page is open if and only if no page header has ended it since its last header.
+  -- If a header was sent or the receiver's page was not open before, the page is open if and only
+  -- if a header was sent and no later header has ended the page.
   pub is_open :
       IsTrue (has_page_header (kind options.page) sent || not old.is_open)
       → new.is_open ≡ is_open_after (kind options.page) sent
-  -- Once a header was sent and the receiver's old page is erased, each cell has a space, or a code
-  -- that was expected in it within the last `within` frames.
+  -- Once a header was sent and the receiver's old page is erased, each cell has an allowed code
+  -- (`IsDueWithin`).
   pub codes :
       IsTrue (has_page_header (kind options.page) sent)
       → IsFresh keeps anew options.page sent old
       → (row column : ℕ)
       → IsCell row column
       → IsDueWithin programme transmission options f row column (cell new.page row column)
-  -- If the page is correct at the end of frame f, each cell of the receiver has the expected code,
-  -- or a space that is allowed because of an error.
+  -- If the page is also correct at the end of frame f, each cell of the receiver has the expected
+  -- code, or a space that is allowed because of an error.
   pub cells :
       IsTrue (has_page_header (kind options.page) sent)
       → IsFresh keeps anew options.page sent old
       → IsCorrectPage keeps programme options.page transmission f
       → HoldsDuePage programme f IsExcused new.page
 
--- Receivers of this class that may erase the page at any header recover in the frames from a to b:
--- the guarantee `IsServedIfForgetful` holds wherever a receiver starts and stops in these frames,
--- and whatever it receives. A cell may have a space only if its byte had a wrong bit or its row was
--- lost since the last header; for receivers that drop a row with an error, if any byte of its row
--- had a wrong bit or the row was lost.
+-- Receivers of this class that may erase the page at any header recover in the frames from a to b,
+-- if all page headers arrive and each byte that arrives has at most one wrong bit: the guarantee
+-- `IsServedIfForgetful` holds wherever a receiver starts and stops in these frames, and whatever
+-- page it had before. If the page is correct, a cell may have a space instead of the expected code
+-- only if its byte had a wrong bit or its row was lost since the last header; for receivers that
+-- drop a row with an error, if any byte of its row had a wrong bit or the row was lost.
 --
 -- A receiver with old text recovers from the next header with C4 (erase page) set; a receiver with
 -- a blank page, or one that erases it at each header, recovers from any header.
@@ -97,7 +99,8 @@ HoldsIfForgetful keeps anew class programme transmission options a b =
     new.page
 
 -- At the end of each frame from a to b with a correct page that has ended, the expected page is on
--- the screens of receivers that may erase the page at any header.
+-- the screens of receivers that may erase the page at any header, once a header was sent and their
+-- old page is erased. A cell may have a space because of an error, as in `RecoversIfForgetful`.
 abbrev pub ShownIfForgetful :
     Bool → Bool → ReceiverClass → ProgrammeValue → Transmission → OptionsValue → ℕ → ℕ → Type 0
 ShownIfForgetful keeps anew class programme transmission options a b =
@@ -132,8 +135,8 @@ pub record FinishesInTime
       → t.tco ≤ b + 1
       → HasFinishedFrame keeps programme transmission options t.tci (t.tco - 1))
       programme.records
-  -- If the transmission begins with frame a, at least one frame is finished of each subtitle that
-  -- began before a and does not end after frame b.
+  -- If the transmission begins with frame a, at least one frame from a on is finished of each
+  -- subtitle that began before a, is still due at a, and does not end after frame b.
   pub begun :
       a ≡ first_frame transmission
       → All
@@ -154,14 +157,15 @@ pub record MayBeTrustedWithRepeats
   pub recovers :
       (anew : Bool) (class : ReceiverClass)
       → RecoversIfForgetful keeps anew class programme transmission options a b
-  -- Receivers have the expected page on their screens at the end of each frame with a correct page
-  -- that has ended.
+  -- The screens show the expected page at the end of each frame with a correct page that has ended,
+  -- as in `ShownIfForgetful`.
   pub shown :
       (anew : Bool) (class : ReceiverClass)
       → ShownIfForgetful keeps anew class programme transmission options a b
-  -- Each page becomes correct within the permitted number of frames.
+  -- The frames are finished in time.
   pub stretch_finishes_in_time : FinishesInTime keeps programme transmission options a b
-  -- If `within` is 0, receivers have the expected page at the end of each frame.
+  -- If `within` is 0, receivers have the expected page at the end of each frame, as in
+  -- `HoldsIfForgetful`.
   pub at_once :
       options.within ≡ 0
       → (anew : Bool) (class : ReceiverClass)
@@ -177,18 +181,18 @@ HasPromisesWithRepeats keeps programme transmission options =
 
 -- The conditions under which receivers recover in the frames from a to b, apart from the text.
 -- Earlier frames may have any packets, but frame numbers increase.
-pub record IsRepeatedStretch
+pub record IsSoundStretchWithRepeats
     (keeps : Bool) (transmission : Transmission) (options : OptionsValue) (a b : ℕ)
     : Type 0 where
   pub first : first_frame transmission ≤ a
   pub rising : IsRising transmission
-  -- The packets from frame a to the end of each frame send the same text as all packets up to that
-  -- frame.
+  -- The packets from frame a to the end of each frame have the form that the law of repeats
+  -- requires, and send only rows of the text of all packets up to that frame.
   pub sends :
       (f : ℕ)
       → a ≤ f
       → f ≤ b
-      → SendsText keeps options.page (on_air transmission a 0 f)
+      → SendsOnlyRowsOfText keeps options.page (on_air transmission a 0 f)
       (kept keeps options.page (on_air_until transmission f))
   -- A header of the page is sent within the repeat bound.
   pub repeats :
@@ -202,7 +206,7 @@ pub record IsRepeatedStretch
 
 -- Each packet in the frames from a to b is allowed after the packets before it, whatever these are,
 -- and a header of the page is sent within the repeat bound.
-pub record IsFollowedStretch
+pub record HasAllowedPackets
     (keeps : Bool) (transmission : Transmission) (options : OptionsValue) (a b : ℕ)
     : Type 0 where
   pub stretch : IsWithinTransmission transmission a b
@@ -217,13 +221,14 @@ pub record IsFollowedStretch
       × (f < start + options.every)
       × HoldsHeader options.page transmission f
 
--- If each packet in a range of frames is allowed after the packets before it, receivers recover in
--- the range. So recovery can be decided packet by packet.
+-- If each packet in a range of frames is allowed after the packets before it, and a header of the
+-- page is sent within the repeat bound, the range meets the conditions for recovery, apart from the
+-- text. So these conditions can be decided packet by packet.
 abbrev pub LawOfFollowedStretch : Type 0
 LawOfFollowedStretch =
     (keeps : Bool) (transmission : Transmission) (options : OptionsValue) (a b : ℕ)
-    → IsFollowedStretch keeps transmission options a b
-    → IsRepeatedStretch keeps transmission options a b
+    → HasAllowedPackets keeps transmission options a b
+    → IsSoundStretchWithRepeats keeps transmission options a b
 
 -- If a range of frames meets the conditions for recovery, and each cell has an allowed code at each
 -- frame end, receivers of both classes recover, and the expected page is on their screens at each
@@ -233,7 +238,7 @@ abbrev pub LawOfRepeatedStretch : Type 0
 LawOfRepeatedStretch =
     (keeps : Bool) (programme : ProgrammeValue) (transmission : Transmission)
     → (options : OptionsValue) (a b : ℕ)
-    → IsRepeatedStretch keeps transmission options a b
+    → IsSoundStretchWithRepeats keeps transmission options a b
     → KeepsDueCodes keeps programme transmission options a b
     → ((anew : Bool) (class : ReceiverClass)
     → RecoversIfForgetful keeps anew class programme transmission options a b
@@ -258,8 +263,8 @@ LawOfGoodWithRepeats =
     → HasPromisesWithRepeats keeps programme transmission options)
 
 -- A transmission that is good with some `within` is good with any greater `within`.
-abbrev pub LawOfLongerRepeats : Type 0
-LawOfLongerRepeats =
+abbrev pub LawOfLongerDelayWithRepeats : Type 0
+LawOfLongerDelayWithRepeats =
     (keeps : Bool) (programme : ProgrammeValue) (transmission : Transmission)
     → (options : OptionsValue) (more : ℕ)
     → options.within ≤ more
@@ -278,10 +283,10 @@ LawOfPlanRepeats =
     → IfSome options.pace (λ frames. options.every ≤ frames)
     → GoodWithRepeats keeps programme (planned programme options serial) options
 
--- If a transmission keeps rules 1 to 6 and no bit is wrong, a receiver that keeps its page at
--- headers with C4 (erase page) clear, and started with a blank page or has erased it since, has the
--- code `kept` in each cell at the end of each frame. So if that is not the expected code, the
--- receiver shows a wrong code.
+-- If a transmission keeps rules 1 to 6 and is received without errors, a receiver that keeps its
+-- page at headers with C4 (erase page) clear, and started with a blank page or has erased it since,
+-- has the code `kept` in each cell at the end of each frame. So if that is not the expected code,
+-- the receiver has a wrong code.
 abbrev pub LawOfKeptCodes : Type 0
 LawOfKeptCodes =
     (keeps : Bool) (programme : ProgrammeValue) (transmission : Transmission)

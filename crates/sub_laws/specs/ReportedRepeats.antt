@@ -6,18 +6,17 @@ use Rattle.sub_plan.specs.Options.{OptionsValue}
 use Rattle.sub_rules.specs.FrameRules.{UnreadReason}
 use Rattle.sub_rules.specs.Repeats.{IsCorrectPage, KeepsDueCodes}
 use Rattle.sub_rules.specs.Transmission.{Transmission}
-use Rattle.sub_laws.specs.CleanStretch.{IsUnreported, HasNoOpenEnd, criteria_with_refusals}
-use Rattle.sub_laws.specs.Repeats.{FinishesInTime, IsRepeatedStretch}
+use Rattle.sub_laws.specs.CleanStretch.{HasNoReceiverFault, HasNoOpenEnd, criteria_with_refusals}
+use Rattle.sub_laws.specs.Repeats.{FinishesInTime, IsSoundStretchWithRepeats}
 
 -- The conditions that suffice for the guarantees in the frames from a to b.
-pub record IsSufficientRepeats
+pub record IsSufficientWithRepeats
     (keeps : Bool) (programme : ProgrammeValue) (transmission : Transmission)
     (options : OptionsValue) (a b : ℕ)
     : Type 0 where
   -- Receivers recover in the range of frames (`LawOfRepeatedStretch`).
-  pub stretch : IsRepeatedStretch keeps transmission options a b
-  -- At the end of each frame, each cell has a space, or a code that was expected in it within the
-  -- last `within` frames.
+  pub stretch : IsSoundStretchWithRepeats keeps transmission options a b
+  -- At the end of each frame, each cell has an allowed code (`IsDueWithin`).
   pub codes : KeepsDueCodes keeps programme transmission options a b
   -- If `within` is 0, the page is correct at the end of each frame.
   pub whole :
@@ -27,17 +26,17 @@ pub record IsSufficientRepeats
       → f ≤ b
       → IsCorrectPage keeps programme options.page transmission f
 
--- A range of frames without faults that affect receivers meets the sufficient conditions. If its
--- pages have ended at each frame end, its frames are finished in time. So the report on a rejected
--- transmission shows which part of it is correct for receivers: from the first header that erases
--- the page on.
+-- A range of frames without faults that affect receivers meets the sufficient conditions. If
+-- `Incomplete` is not active at the end of any of its frames, and the subtitles are valid, they are
+-- finished in time. So the report on a rejected transmission shows which part of it is correct for
+-- receivers: from the first header that erases the page on.
 abbrev pub LawOfUnreportedRepeats : Type 0
 LawOfUnreportedRepeats =
     (programme : ProgrammeValue) (transmission : Transmission) (options : OptionsValue)
     → (unread : Option UnreadReason) (any_unreliable : Bool) (undecided : ℕ → Bool) (a b : ℕ)
-    → IsUnreported (criteria_with_refusals programme options unread any_unreliable undecided)
+    → HasNoReceiverFault (criteria_with_refusals programme options unread any_unreliable undecided)
     transmission a b
-    → IsSufficientRepeats options.keeps programme transmission options a b
+    → IsSufficientWithRepeats options.keeps programme transmission options a b
     × (IsProgramme programme.drawing programme.records
     → HasNoOpenEnd (criteria_with_refusals programme options unread any_unreliable undecided)
     transmission a b

@@ -1,5 +1,5 @@
--- The guarantee that every receiver has the expected page, wherever it starts and whatever bits are
--- wrong.
+-- The guarantee that every receiver has the expected page after the next header, wherever it
+-- starts, apart from spaces for bytes with one wrong bit.
 use Rattle.std.specs.Prelude.{◌≡◌, ℕ, ◌+◌, ◌≤◌, ◌⊎◌, ◌||◌, List, length, IsTrue, IsFalse}
 use Rattle.std.specs.List.{AllZip}
 use Rattle.ttx_packet.specs.OneBit.{AreNear}
@@ -36,7 +36,7 @@ pub record IsServed
     (programme : ProgrammeValue) (options : OptionsValue) (g f : ℕ)
     (sent : List (List ℕ)) (IsExcused : ℕ → ℕ → Type 0) (old new : State)
     : Type 0 where
-  -- A header of the page was sent by the end of frame g + `every`.
+  -- If frame f is at or after frame g + `every`, a header of the page was sent.
   pub in_time : g + options.every ≤ f → IsTrue (has_page_header (kind options.page) sent)
   -- The receiver has received a header of the page if and only if it had before or a header was
   -- sent.

@@ -4,7 +4,7 @@ use Rattle.ttx_page.specs.Receiver.{ReceiverClass}
 use Rattle.ttx_page.specs.Receiver.ReceiverClass.{Storing}
 use Rattle.stl_rows.specs.Programme.{ProgrammeValue}
 use Rattle.sub_plan.specs.Options.{OptionsValue}
-use Rattle.sub_laws.specs.LostRows.{RobustToAnyLoss}
+use Rattle.sub_laws.specs.LostRows.{RobustToLostRows}
 use Rattle.sub_laws.specs.OnScreen.{CompleteWithin, ShownWithin}
 use Rattle.sub_laws.specs.Recovery.{RecoversWithin}
 use Rattle.sub_laws.specs.Robust.{Robust}
@@ -16,7 +16,7 @@ pub record MayBeTrusted
     : Type 0 where
   -- Receivers recover in the frames from a to b.
   pub recovers : (class : ReceiverClass) → RecoversWithin class programme transmission options a b
-  -- If pages are complete in these frames, the expected page is on the receivers' screens.
+  -- If pages are complete in these frames, the screens show the expected page, as in `ShownWithin`.
   pub shown :
       CompleteWithin transmission options a b
       → (class : ReceiverClass)
@@ -29,9 +29,8 @@ pub record HasPromises
   -- The main theorem: the transmission is robust.
   pub robust : Robust programme transmission options
   -- The transmission is robust even if rows are lost.
-  pub transmission_survives_any_loss : RobustToAnyLoss programme transmission options
-  -- Receivers recover in all frames, whatever they received before. If pages are complete, the
-  -- expected page is on their screens.
+  pub transmission_survives_lost_rows : RobustToLostRows programme transmission options
+  -- The guarantees of `MayBeTrusted` hold for all frames.
   pub trusted :
       MayBeTrusted programme transmission options (first_frame transmission)
       (last_frame transmission)
@@ -44,7 +43,7 @@ LawOfFullRecovery =
     → RecoversWithin Storing programme transmission options (first_frame transmission)
     (last_frame transmission)
     → Robust programme transmission options
-    × RobustToAnyLoss programme transmission options
+    × RobustToLostRows programme transmission options
 
 -- If the guarantees hold for the range of all frames of a transmission, they hold for the
 -- transmission.

@@ -20,7 +20,8 @@ pub record IsSoundStretch (transmission : Transmission) (options : OptionsValue)
     pub rising : IsRising transmission
     -- The packets from frame a to the end of each frame have no coding error: address bytes and the
     -- coded bytes of packets X/0 are code words without a wrong bit; each header of the page has C4
-    -- (erase page) set; rows have odd parity and are repeated unchanged.
+    -- (erase page) set; in the last transmission of the page, rows have odd parity and are repeated
+    -- unchanged.
     pub sound : (f : ℕ) → a ≤ f → f ≤ b → IsSound options.page (on_air transmission a 0 f)
     -- A header of the page is sent within the repeat bound.
     pub repeats :

@@ -1,4 +1,4 @@
--- What receivers show if a transmission is rejected because of wrong text.
+-- What receivers decode if a transmission is rejected because of wrong text.
 use Rattle.std.specs.Prelude.{◌≡◌, ℕ, length, None, IsFalse, IsTrue, false}
 use Rattle.ttx_page.specs.Page.{cell}
 use Rattle.ttx_page.specs.PacketKind.{kind}
@@ -16,10 +16,10 @@ use Rattle.sub_rules.specs.Repeats.{IsDueWithin}
 use Rattle.sub_rules.specs.Transmission.{Transmission, on_air_until}
 use Rattle.sub_rules.specs.WrongContent.{AreReadUpTo}
 
--- The cell is wrong at the end of frame f. A receiver that keeps its page at headers with C4 (erase
--- page) clear, and started with a blank page or has erased it since, has the code `kept` in that
--- cell; if each header must have C4 set, every receiver has. So either this is not the expected
--- code, or the row was not sent again.
+-- The cell is wrong at the end of frame f. A receiver without errors that keeps its page at headers
+-- with C4 (erase page) clear, and started with a blank page or has erased it since, has the code
+-- `kept` in that cell; if each header must have C4 set, every receiver without errors has. So
+-- either this is not the expected code, or the row was not sent again.
 pub record IsNotRightOnAir
     (programme : ProgrammeValue) (options : OptionsValue) (frames : Transmission)
     (f row column : ℕ)
@@ -37,8 +37,8 @@ pub record IsNotRightOnAir
       → IsFresh options.keeps false options.page (on_air_until read f) old
       → cell new.page row column
       ≡ kept options.keeps options.page (on_air_until read f) row column
-  -- If the page is not overdue yet, the code `kept` is not a space, and was not expected in the
-  -- cell within the last `within` frames.
+  -- If `within` is not 0 and the page is not overdue yet, the code `kept` is not allowed in the
+  -- cell (`IsDueWithin`).
   pub unexpected :
       IsFalse (is_late (criteria_of programme options None) read (length read) f)
       → IsDueWithin programme read options f row column

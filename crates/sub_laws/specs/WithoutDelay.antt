@@ -1,5 +1,5 @@
--- If `within` is 0 and each header must have C4 (erase page) set, `GoodWithRepeats` is the same as
--- `Good`, and the guarantees are the same.
+-- If `within` is 0 and each header must have C4 (erase page) set, `GoodWithRepeats` is `Good` with
+-- complete pages if these are required, and its guarantees include those of `Good`.
 use Rattle.std.specs.Prelude.{◌≡◌, ◌↔◌, ℕ, false, IsTrue}
 use Rattle.stl_rows.specs.Programme.{IsProgramme, ProgrammeValue}
 use Rattle.sub_plan.specs.Options.{OptionsValue}
@@ -10,8 +10,9 @@ use Rattle.sub_laws.specs.OnScreen.{Complete}
 use Rattle.sub_laws.specs.Repeats.{MayBeTrustedWithRepeats}
 use Rattle.sub_laws.specs.Stretch.{MayBeTrusted}
 
--- If `within` is 0, a transmission is good under the options if and only if it is good and, if
--- complete pages are required, its pages are complete.
+-- If `within` is 0 and each header must have C4 (erase page) set, a transmission of valid subtitles
+-- is good under the options if and only if it is good and, if complete pages are required, its
+-- pages are complete.
 abbrev pub LawOfNoDelay : Type 0
 LawOfNoDelay =
     (programme : ProgrammeValue) (transmission : Transmission) (options : OptionsValue)

@@ -1,7 +1,7 @@
-//! Laws of transmissions: a good transmission is received without errors, and further laws about
-//! the rules.
+//! Laws of transmissions: a good transmission is robust, and further laws about the rules.
 //!
-//! The functions have no body: the contract of each states a law.
+//! The contract of each function states a law. Only `law_of_judged_parts` has a body, which calls
+//! the law of `stl_file` that it needs.
 ghost use Rattle.sub_laws.specs.WithoutDelay.{LawOfNoDelay, LawOfTrustWithoutDelay};
 ghost use Rattle.sub_laws.specs.BrokenPlaces.{LawOfBrokenPlaces, LawOfEmptyReport};
 ghost use Rattle.sub_laws.specs.BrokenPlaces.{LawOfEmptyReportRepeats};
@@ -17,7 +17,7 @@ ghost use Rattle.sub_rules.specs.PesPacketEvents.{LawOfFirstReported};
 ghost use Rattle.sub_laws.specs.Planned.{LawOfPlan, LawOfPlanRead};
 ghost use Rattle.sub_laws.specs.Repeats.{LawOfFollowedStretch, LawOfGoodWithRepeats};
 ghost use Rattle.sub_laws.specs.Repeats.{LawOfKeptCodes};
-ghost use Rattle.sub_laws.specs.Repeats.{LawOfLongerRepeats};
+ghost use Rattle.sub_laws.specs.Repeats.{LawOfLongerDelayWithRepeats};
 ghost use Rattle.sub_laws.specs.Repeats.{LawOfPlanRepeats, LawOfRepeatedStretch};
 ghost use Rattle.sub_rules.specs.Repeats.{LawOfMayKeep, LawOfNoRepeats, LawOfErasingHeaders};
 ghost use Rattle.sub_laws.specs.Stretch.{LawOfFullRecovery, LawOfFullStretch};
@@ -27,40 +27,41 @@ ghost use Rattle.sub_laws.specs.ReportedRepeats.{LawOfUnreportedRepeats};
 use stl_file::law_of_scope;
 
 /// A receiver that starts anywhere in a good transmission gets a header of the page within the
-/// repeat bound.
+/// repeat bound, if it listens so long.
 #[tactic(auto, using(crate::proofs::RobustLemmas::law_of_window))]
 pub fn law_of_window()
     ensures { LawOfWindow }
 {}
 
 /// A good transmission is robust: wherever a receiver starts, whatever page it had, and with at
-/// most one wrong bit in each byte, each cell has the expected code, or a space if its byte had a
-/// wrong bit. The same holds if rows are lost (their cells may have spaces), and for receivers that
-/// drop a row with an error. If pages are complete, it also holds for the screens of receivers that
-/// show a page only after a later header has ended it.
+/// most one wrong bit in each byte, each cell has the expected code after the next header, or a
+/// space if its byte had a wrong bit. The same holds if rows are lost (their cells may have
+/// spaces), and for receivers that drop a row with an error. If pages are complete, it also holds
+/// for the screens of receivers that show a page only after a later header has ended it.
 pub fn law_of_good()
     ensures { LawOfGood }
 {}
 
-/// A good transmission meets the conditions that suffice for reception without errors: frame
-/// numbers increase; code words have no wrong bit; headers of the page have C4 (erase page) set;
-/// rows have odd parity and are repeated unchanged; a header is sent within the repeat bound; the
+/// A good transmission meets the conditions that suffice for the guarantees: frame numbers
+/// increase; code words have no wrong bit; headers of the page have C4 (erase page) set; its rows
+/// have odd parity and are repeated unchanged; a header is sent within the repeat bound; the
 /// expected page is shown.
 #[tactic(auto, using(crate::proofs::RobustLemmas::suffices))]
 pub fn law_of_sufficient_parts()
     ensures { LawOfSufficientParts }
 {}
 
-/// If a range of frames meets the sufficient conditions, every receiver that starts in it shows the
-/// expected page after the next header, whatever was on air before. If pages are complete in the
-/// range, this also holds for the screen.
+/// If a range of frames meets the sufficient conditions, every receiver that starts in it has the
+/// expected page after the next header, apart from spaces because of errors, whatever was on air
+/// before. If pages are complete in the range, this also holds for the screen.
 #[tactic(auto, using(crate::proofs::StretchLemmas::law_of_stretch))]
 pub fn law_of_stretch()
     ensures { LawOfStretch }
 {}
 
-/// If `within` is 0 and each header must have C4 (erase page) set, a transmission is good under the
-/// options if and only if it is good and, if complete pages are required, its pages are complete.
+/// If `within` is 0 and each header must have C4 (erase page) set, a transmission of valid
+/// subtitles is good under the options if and only if it is good and, if complete pages are
+/// required, its pages are complete.
 pub fn law_of_no_delay()
     ensures { LawOfNoDelay }
 {}
@@ -79,14 +80,15 @@ pub fn law_of_longer_delay_of_files()
 {}
 
 /// A range of frames without faults that affect receivers meets the sufficient conditions for
-/// repeats. If its pages have ended at each frame end, its frames are finished in time.
+/// repeats. If `Incomplete` is not active at the end of any of its frames, and the subtitles are
+/// valid, they are finished in time.
 pub fn law_of_unreported_repeats()
     ensures { LawOfUnreportedRepeats }
 {}
 
-/// If each header must have C4 (erase page) set, a range of frames without faults that affect
-/// receivers meets the sufficient conditions. If its pages have ended at each frame end, they are
-/// complete.
+/// If each header must have C4 (erase page) set and `within` is 0, a range of frames without faults
+/// that affect receivers meets the sufficient conditions. If complete pages are required, and
+/// `Incomplete` is not active at the end of any of its frames, its pages are complete.
 pub fn law_of_unreported_stretch()
     ensures { LawOfUnreportedStretch }
 {}
@@ -109,7 +111,7 @@ pub fn law_of_lossless_reception()
 {}
 
 /// The schedule of a subtitle file with at least one subtitle is a good transmission, in serial and
-/// parallel mode and for every national option.
+/// parallel mode and for every national option, unless the pace is less than the repeat bound.
 pub fn law_of_plan()
     ensures { LawOfPlan }
 {}
@@ -133,44 +135,50 @@ pub fn law_of_exact_frames()
     ensures { LawOfExactFrames }
 {}
 
-/// The events of a transmission report each broken rule at its place, in order, and nothing else.
-/// So the first fault is at the first broken place.
+/// If `within` is 0, a fault is reported at a place of a transmission if and only if a rule is
+/// broken there; for `RowChanged`, if the earlier packets have no fault and the packet has correct
+/// address bytes and odd parity. For wrong text, the fault gives the first wrong cell.
 pub fn law_of_broken_places()
     ensures { LawOfBrokenPlaces }
 {}
 
-/// The first fault is the same whether reading stops at the first skipped PES packet or continues
-/// after it.
+/// If `within` is 0, the first fault is the same whether reading stops at the first skipped PES
+/// packet or continues after it.
 #[tactic(auto, using(sub_rules::proofs::PesPacketEventLemmas::first_reported_fault_is_exact))]
 pub fn law_of_first_reported()
     ensures { LawOfFirstReported }
 {}
 
-/// A PES file has no event if and only if no PES packet is skipped, its frames are good under the
-/// options, and the entire file was read.
+/// If no subtitle was rejected, a PES file has no event if and only if no PES packet is skipped,
+/// its frames are good under the options, and the entire file was read.
 #[tactic(auto, using(crate::proofs::EmptyReportLemmas::law_of_empty_report_repeats))]
 pub fn law_of_empty_report_repeats()
     ensures { LawOfEmptyReportRepeats }
 {}
 
-/// If each header must have C4 (erase page) set and `within` is 0, a PES file has no event if and
-/// only if it carries a good transmission, with complete pages if these are required.
+/// If each header must have C4 (erase page) set, `within` is 0 and no subtitle was rejected, a PES
+/// file has no event if and only if no PES packet is skipped, its frames are good, with complete
+/// pages if these are required, and the entire file was read.
 #[tactic(auto, using(crate::proofs::EmptyReportLemmas::law_of_empty_report))]
 pub fn law_of_empty_report()
     ensures { LawOfEmptyReport }
 {}
 
-/// If each repeat in a range of frames sends the same text as before, receivers recover, whatever
-/// they do at a header with C4 (erase page) clear: from any header if their page was blank or they
-/// erase it at each header, and otherwise from the next header with C4 set. Then the expected page
-/// is on their screens.
+/// Suppose that each repeat in a range of frames sends the same text as before, and that at each
+/// frame end each cell has a space or a code that was expected at that frame or at one of the
+/// `within` frames before.
+/// Then receivers recover, whether they keep their page at a header with C4 (erase page) clear or
+/// blank any of its cells: from any header if their page was blank or they erase it at each header,
+/// and otherwise from the next header with C4 set. At each frame end with a correct page that has
+/// ended, the expected page is on their screens.
 pub fn law_of_repeated_stretch()
     ensures { LawOfRepeatedStretch }
 {}
 
-/// A transmission that is good under the options meets its guarantees. Once a receiver has erased
-/// its old page, each cell has a space or a code that was expected within the last `within` frames.
-/// At least once in any `within` + 1 frames, and in each subtitle, it has the expected page.
+/// A transmission of valid subtitles that is good under the options meets its guarantees. Once a
+/// receiver got a header and has erased its old page, each cell has a space or a code that was
+/// expected at that frame or at one of the `within` frames before. The page is correct at least
+/// once in any `within` + 1 frames, and in each subtitle.
 pub fn law_of_good_with_repeats()
     ensures { LawOfGoodWithRepeats }
 {}
@@ -193,51 +201,55 @@ pub fn law_of_may_keep()
 {}
 
 /// A transmission that is good if repeats may have C4 (erase page) clear, and in which every header
-/// has C4 set, is good if each header must have C4 set. So all guarantees of a good transmission
-/// hold for it.
+/// has C4 set, is good if each header must have C4 set. So if `within` is 0, all guarantees of a
+/// good transmission hold for it.
 pub fn law_of_erasing_headers()
     ensures { LawOfErasingHeaders }
 {}
 
 /// A transmission that is good with some `within` is good with any greater `within`.
-pub fn law_of_longer_repeats()
-    ensures { LawOfLongerRepeats }
+pub fn law_of_longer_delay_with_repeats()
+    ensures { LawOfLongerDelayWithRepeats }
 {}
 
 /// The schedule of a subtitle file with at least one subtitle is good for any `within`, whether or
-/// not repeats may have C4 (erase page) clear.
+/// not repeats may have C4 (erase page) clear, unless the pace is less than the repeat bound.
 pub fn law_of_plan_repeats()
     ensures { LawOfPlanRepeats }
 {}
 
-/// If each packet in a range of frames is allowed after the packets before it, receivers recover in
-/// that range.
+/// If each packet in a range of frames is allowed after the packets before it, and a header of the
+/// page is sent within the repeat bound, the range meets the conditions under which receivers
+/// recover, apart from those for the text.
 pub fn law_of_followed_stretch()
     ensures { LawOfFollowedStretch }
 {}
 
-/// Without bit errors, a receiver that keeps its page at headers with C4 (erase page) clear has the
-/// codes that the rules define for such repeats, at the end of each frame.
+/// If a transmission keeps rules 1 to 6 and is received without errors, a receiver that keeps its
+/// page at headers with C4 (erase page) clear, and has erased its old page, has the codes that the
+/// rules define for such repeats, at the end of each frame.
 pub fn law_of_kept_codes()
     ensures { LawOfKeptCodes }
 {}
 
-/// If text ends or changes at a frame, a header that erases the page is sent at most `within`
-/// frames before or after it. So a receiver's old text is gone by then.
+/// If text ends or changes at a frame of a good transmission, more than `within` frames after its
+/// first frame and at least `within` frames before its last, a header that erases the page is sent
+/// at most `within` frames before or after it. So a receiver's old text is gone by then.
 pub fn law_of_old_text()
     ensures { LawOfOldText }
 {}
 
 /// A check against a range of a subtitle file gives the same result as a check against the file
-/// without the other subtitles.
+/// without the other subtitles, if the file can be read to its end.
 pub fn law_of_judged_parts()
     ensures { LawOfJudgedParts }
 {
     law_of_scope();
 }
 
-/// Two subtitle files with the same reliable subtitles, and the same frames with an unknown
-/// expected page, give the same events for a PES file.
+/// Two subtitle files give the same events for a PES file if they have the same reliable subtitles,
+/// drawn in the same way, and the same frames with an unknown expected page, and both or neither
+/// have unreliable subtitles.
 pub fn law_of_equal_reports()
     ensures { LawOfEqualReports }
 {}

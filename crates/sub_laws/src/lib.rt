@@ -17,7 +17,7 @@ pub use laws::{
     law_of_equal_reports, law_of_erasing_headers, law_of_exact_frames, law_of_first_reported,
     law_of_followed_stretch, law_of_full_recovery, law_of_full_stretch, law_of_good,
     law_of_good_with_repeats, law_of_judged_parts, law_of_kept_codes, law_of_longer_delay_of_files,
-    law_of_longer_repeats, law_of_lossless_reception, law_of_may_keep, law_of_no_delay,
+    law_of_longer_delay_with_repeats, law_of_lossless_reception, law_of_may_keep, law_of_no_delay,
     law_of_no_repeats, law_of_old_text, law_of_plan, law_of_plan_read, law_of_plan_repeats,
     law_of_repeated_stretch, law_of_right_cells, law_of_stretch, law_of_sufficient_parts,
     law_of_trust_without_delay, law_of_unreported_repeats, law_of_unreported_stretch,

@@ -25,7 +25,7 @@ use Rattle.sub_rules.specs.Transmission.{Transmission}
 use Rattle.sub_rules.specs.declared.fault.CheckFault.{CheckFault}
 use Rattle.sub_rules.specs.declared.pes_packet.NextPesPacket.{NextPesPacket}
 use Rattle.sub_rules.specs.declared.pes_packet.NextPesPacket.TheVariants.{Sent}
-use Rattle.sub_rules.specs.declared.sending.Sending.{Sending}
+use Rattle.sub_rules.specs.declared.valid_pes_packet.ValidPesPacket.{ValidPesPacket}
 use Rattle.sub_rules.proofs.PesReadingLemmas.{ReadsNext, ReportsNext, reads_end, reads_next}
 use Rattle.sub_rules.proofs.PesReadingLemmas.{reads_unread, reported_fault}
 use Rattle.sub_rules.proofs.FrameLists.{packets_before_appends_next_frame}
@@ -149,7 +149,7 @@ module _
             refuses x all is = grind (arith, nat_tests)
 
         module _
-            (v : PesValue) (sending : Sending)
+            (v : PesValue) (sending : ValidPesPacket)
             (is : ReportsNext (clock_of l.options) n reached.rest v (Ok (Some (Sent sending))))
             (taken : TakesValidPesPackets (n + 1) reported left)
           where

@@ -9,7 +9,8 @@ use Rattle.ttx_packet.specs.PacketAddress.{PacketAddress, address}
 use Rattle.ttx_packet.specs.PageId.{PageIdValue}
 use Rattle.ttx_page.specs.Page.{blank, space}
 use Rattle.ttx_page.specs.PacketKind.{is_this_page, kind}
-use Rattle.ttx_page.specs.Receiver.{Hears, LeavesCells, RunsBy, Step, is_dropped}
+use Rattle.ttx_page.specs.Receiver.{Hears, StoresForEvenParity, RunsBy, Step}
+use Rattle.ttx_page.specs.Receiver.{is_row_with_even_parity}
 use Rattle.ttx_page.specs.Receiver.ReceiverClass.{Storing}
 use Rattle.ttx_page.specs.Repeats.{HearsRepeats, ShowsRepeats}
 use Rattle.ttx_page.specs.Screen.{Display, Shows, screen_after}
@@ -51,7 +52,7 @@ arriving_packets r number (packet ∷ packets) =
 -- A receiver of page w uses an arriving packet. A receiver that drops rows does not use a row of
 -- its page with a byte of even parity.
 abbrev pub is_packet_used : ReceiverKind → PageIdValue → List ℕ → Bool
-is_packet_used DropRow w packet = not (is_dropped w packet)
+is_packet_used DropRow w packet = not (is_row_with_even_parity w packet)
 is_packet_used _ w packet = true
 
 -- The packets of a list that the receiver uses: those that arrive, without the rows that it drops.
@@ -85,7 +86,7 @@ pub record TakesPacket
       MatchBool (anew && is_this_page (kind w packet))
       (new.receiver_state ≡ record { heard = true; is_open = true; page = blank })
       (Step w old.receiver_state packet new.receiver_state)
-  pub cells : LeavesCells leaves w old.receiver_state packet new.receiver_state
+  pub cells : StoresForEvenParity leaves w old.receiver_state packet new.receiver_state
   -- If complete pages are required, the receiver's screen displays a page when the page ends;
   -- otherwise the screen does not change.
   pub screen : new.screen ≡ (if asks_complete then screen_after old new.receiver_state
@@ -104,7 +105,8 @@ abbrev pub may_be_lost_at : Option PacketAddress → Bool
 may_be_lost_at None = false
 may_be_lost_at (Some a) = not (a.packet_number == 0)
 
--- The index, in a list of packets, of the first packet that is listed as lost but must not be lost.
+-- The index, in a list of packets, of the first packet that is lost (`is_lost_packet`) but must not
+-- be lost; `None` if there is none.
 abbrev pub first_forbidden_loss : Reception → ℕ → List (List ℕ) → Option ℕ
 first_forbidden_loss r number [] = None
 first_forbidden_loss r number (packet ∷ packets) =

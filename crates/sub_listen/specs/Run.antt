@@ -72,8 +72,8 @@ first_in_frame within frames i =
 abbrev pub first_packet_number : Transmission → ℕ → ℕ
 first_packet_number frames i = length (packets_before frames i)
 
--- The index, within its frame, of the first Teletext packet of PES packet i that is listed as lost
--- but must not be lost.
+-- The index, within its frame, of the first Teletext packet of PES packet i that is lost
+-- (`is_lost_packet`) but must not be lost; `None` if there is none.
 abbrev pub forbidden_loss : Listening → Transmission → ℕ → Option ℕ
 forbidden_loss l frames i =
     option_map (λ place. first_in_frame l.options.within frames i + place)
@@ -81,8 +81,8 @@ forbidden_loss l frames i =
     (packets_of_frame frames i))
 
 -- PES packet i is received: its frame is after the frame of the PES packet before it (or the same
--- frame, if `within` is not 0) and not after TIME, and none of its packets is listed as lost but
--- must not be lost.
+-- frame, if `within` is not 0) and not after TIME, and none of its packets is lost
+-- (`is_lost_packet`) but must not be lost.
 pub record IsReceivedPesPacket (l : Listening) (frames : Transmission) (i : ℕ) : Type 0 where
   pub there : i < length frames
   pub rises : least_frame l.options.within frames i ≤ frame_at frames i
@@ -105,8 +105,8 @@ EndsAfterPesPacket l frames unread n =
     × (l.at < frame_at frames n))
 
 -- Reception fails after n PES packets: the next PES packet can't be read, its frame is not after
--- the frame before (or is before it, if `within` is not 0), or one of its packets is listed as lost
--- but must not be lost.
+-- the frame before (or is before it, if `within` is not 0), or its frame is not after TIME and one
+-- of its packets is lost (`is_lost_packet`) but must not be lost.
 abbrev pub RefusesAfterPesPacket : Listening → Transmission → Option UnreadReason → ℕ → ListenFault
     → Type 0
 RefusesAfterPesPacket l frames unread n (fault.File (check.Order index)) =
@@ -136,8 +136,9 @@ pub record FailsListening (l : Listening) (known left : Option (List ℕ)) (f : 
 
 -- ---- the run of a receiver
 
--- The effect of reception on the receiver: the receiver uses the packets up to TIME that arrive, or
--- the file is refused. For a byte of even parity it stores `leaves` of the old code.
+-- The effect of reception on the receiver: the receiver uses the packets that arrive, up to TIME or
+-- to the fault for which the file is refused. For a byte of even parity it stores `leaves` of the
+-- old code.
 pub record RunsPesPackets
     (leaves : ℕ → ℕ) (l : Listening) (frames : Transmission) (unread : Option UnreadReason)
     (w : PageIdValue) (old new : Display) (result : Result (Unit {0}) ListenFault)

@@ -23,11 +23,11 @@ use ttx_pes::{ComparingReader, FilePesPackets, PesPackets};
 /// The reason why a PES file can't be passed to a receiver completely.
 #[derive(Clone, Copy, Debug, PartialEq, Eq)]
 pub enum ListenFault {
-    /// The rest of the file can't be read, or a frame is not after the frame before. Contains the
-    /// fault that `check` reports.
+    /// The rest of the file can't be read, or a frame is not after the frame before (or is before
+    /// it, if `within` is not 0). Contains the fault that `check` has for this.
     File(CheckFault),
-    /// A packet is listed as lost but must not be lost: it is a page header, or its address can't
-    /// be decoded.
+    /// A packet is listed as lost and not skipped, but must not be lost: it is a page header, or
+    /// its address can't be decoded.
     LostHeader {
         /// The packet's frame, counted from 0 at the start of the day.
         frame: u32,
@@ -64,14 +64,14 @@ impl From<CheckFault> for ListenFault {
 ///
 /// The receiver receives the Teletext packets with the requested bit errors, without skipped and
 /// lost packets and without rows that it drops. Nothing is read after the first PES packet later
-/// than frame `at`; faults of that PES packet are still returned. If `within` is not 0, consecutive
-/// PES packets may belong to one frame, and all are received.
+/// than frame `at`. If the PES packet after the received ones can't be read, its fault is returned.
+/// If `within` is not 0, consecutive PES packets may belong to one frame, and all are received.
 ///
 /// # Errors
 ///
 /// Returns the first fault in file order. `File` has the fault that `check` reports if a PES packet
 /// can't be read, or `Order` if its frame is too early. `LostHeader` means that a page header, or a
-/// packet whose address can't be decoded, is listed as lost.
+/// packet whose address can't be decoded, is listed as lost and not skipped.
 pub fn listen<R: Receiver + Drop, S: Source>(
     receiver: &mut R,
     screen: &mut Option<Page>,

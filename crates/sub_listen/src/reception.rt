@@ -18,12 +18,12 @@ ghost use Rattle.sub_request.specs.Flips.{with_flip, with_flips};
 
 use sub_request::{Flip, Listening, ReceiverKind};
 use ttx_packet::{Packet, PageId, SentPacket};
-use ttx_page::{PacketKind, Page, Receiver, is_dropped, show};
+use ttx_page::{PacketKind, Page, Receiver, hear_and_show, is_dropped};
 use ttx_pes::SentUnits;
 
-/// Returns the index of the first packet of a PES packet that is listed as lost but must not be
-/// lost, since it is a page header or its address can't be decoded. `number` is the index of the
-/// PES packet's first packet within the file.
+/// Returns the index of the first packet of a PES packet that is listed as lost and not skipped,
+/// but must not be lost, since it is a page header or its address can't be decoded. `number` is the
+/// index of the PES packet's first packet within the file.
 pub fn first_forbidden_loss(
     listening: &Listening,
     number: u64,
@@ -113,11 +113,11 @@ fn take<R: Receiver + Drop>(
     if !is_packet_used(listening, packet) {
         return;
     }
-    if is_text_beginning(listening.receiver, receiver.watched(), packet) {
+    if restarts_at_packet(listening.receiver, receiver.watched(), packet) {
         // The header ends no page, so the screen does not change.
         restart_at_header(receiver, packet);
     } else if listening.options.asks_complete() {
-        show(receiver, screen, packet);
+        hear_and_show(receiver, screen, packet);
     } else {
         // Complete pages are not required, so the screen does not change and no page is copied.
         receiver.hear(packet);
@@ -137,7 +137,7 @@ fn is_packet_used(listening: &Listening, packet: &Packet) -> bool
 
 // Returns whether a receiver starts again at the packet: the user requests this kind of receiver,
 // and the packet is a header of its page.
-fn is_text_beginning(receiver: ReceiverKind, page_id: PageId, packet: &Packet) -> bool
+fn restarts_at_packet(receiver: ReceiverKind, page_id: PageId, packet: &Packet) -> bool
     ensures { result ≡ (restarts_at_header receiver && is_this_page (kind page_id packet.now)) }
 {
     match receiver {
@@ -156,8 +156,8 @@ fn is_header(page_id: PageId, packet: &Packet) -> bool
     }
 }
 
-// Passes a header of its page to a receiver that starts again. The receiver is in the same state as
-// one just tuned to the page, with a blank page.
+// Passes a header of its page to a receiver that starts again. The receiver is tuned again with a
+// blank page, and then receives the header.
 fn restart_at_header<R: Receiver + Drop>(receiver: &mut R, header: &Packet)
     requires header { IsTrue (is_this_page (kind (R.tuned_to receiver.old) header.now)) }
     ensures state { R.state receiver.new
@@ -168,7 +168,7 @@ fn restart_at_header<R: Receiver + Drop>(receiver: &mut R, header: &Packet)
     receiver.hear(header);
 }
 
-// Returns whether a packet is listed as lost but must not be lost.
+// Returns whether a packet is listed as lost and not skipped, but must not be lost.
 fn is_forbidden_loss(listening: &Listening, number: u64, packet: &SentPacket<'_>) -> bool
     ensures { result
         ≡ (is_lost_packet (reception_of listening.now) number

@@ -20,7 +20,7 @@ use Rattle.ttx_pes.proofs.PesPacketRangeLemmas.{count_pes_packets_suc}
 use Rattle.ttx_pes.proofs.PesPacketRangeLemmas.{first_pes_packets_suc, pes_packet_size_is_decoded}
 use Rattle.sub_listing.specs.Copying.{CopiesRest, HasCopied, HasCopiedPesPackets}
 use Rattle.sub_listing.specs.Extracting.{IsExtractedUntilFailure, IsExtractedCompletely}
-use Rattle.sub_listing.specs.Extracting.{IsExtractedUntilFault, Extracts}
+use Rattle.sub_listing.specs.Extracting.{IsExtractedWithFault, Extracts}
 use Rattle.sub_listing.specs.Extracting.{begins_with_gap_marker}
 use Rattle.sub_listing.specs.Extracting.{count_gap_markers}
 use Rattle.sub_listing.specs.Extracting.{max_pes_packet_count, fault_at_start}
@@ -224,7 +224,7 @@ pub rejected_rest_ends_extraction : (bytes : List ℕ) (left old mid new : Optio
     → HasCopiedPesPackets bytes left old mid k gaps
     → fault_at_start (rest_after_pes_packets k bytes) ≡ Some f
     → CopiesRest (rest_after_pes_packets k bytes) mid new (Ok tt)
-    → IsExtractedUntilFault bytes old new f k
+    → IsExtractedWithFault bytes old new f k
 rejected_rest_ends_extraction bytes left old mid new k gaps f so_far is rest =
     let all = ap length (packets_and_rest_make_bytes k bytes so_far.number) in
     let joined = length-append (first_pes_packets k bytes) (rest_after_pes_packets k bytes) in
@@ -241,7 +241,7 @@ pub pes_packet_count_is_exceeded : (bytes : List ℕ) (left old mid : Option (Li
     (f : PesFault)
     → HasCopiedPesPackets bytes left old mid k gaps
     → k ≡ max_pes_packet_count
-    → IsExtractedUntilFault bytes old mid f max_pes_packet_count
+    → IsExtractedWithFault bytes old mid f max_pes_packet_count
 pes_packet_count_is_exceeded bytes left old mid k gaps f so_far is =
     let few = pes_packet_count_is_bounded k bytes in
     let number = so_far.number in

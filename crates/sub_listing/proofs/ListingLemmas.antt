@@ -272,8 +272,8 @@ pub block-rises : (from to : ℕ) (old new : Option (List ℕ)) (s : SubtitleVal
     → from < to
 block-rises from to old new s t = rises from to t.blocks t.ends t.counted
 
--- The status of a listing that ends with a fault is `Fault` exactly if the fault is a failed
--- device.
+-- The status of a listing that ends with a fault is `Fault` exactly if the fault is a failure of a
+-- device or of memory.
 pub kind_of_failure-failed : (b : Bool) → has_failed (Some (status_of (kind_of_failure b))) ≡ b
 kind_of_failure-failed true = refl
 kind_of_failure-failed false = refl

@@ -2,7 +2,7 @@
 use Rattle.std.proofs.Common.{◌≡◌, ◌∙◌, ap, refl, sym, subst, arith, ℕ, ◌+◌, ◌<◌, ◌≤◌, ◌||◌}
 use Rattle.std.proofs.Common.{not, List, [], ◌∷◌, ◌++◌, map, Bool, true, false, append_assoc, drop}
 use Rattle.std.proofs.Common.{take, inl, inr}
-use Rattle.sub_io.specs.Flushing.{FlushesIfPending}
+use Rattle.sub_io.specs.Flushing.{FlushesOnlyIfPending}
 use Rattle.std.proofs.lemmas.List.{map-append, take-append-drop}
 use Rattle.std.proofs.lemmas.Bool.{true≢false}
 use Rattle.std.proofs.lemmas.Bool.Decides.{nat_tests}
@@ -286,7 +286,7 @@ failure_matches_flush_result a b false goes room on = stopped_printer_has_failed
 
 module _ {P N : Type 0} (name : P → N) (value : P → PrinterValue) (has_pending_reports : P → Bool)
     (IsFlushed : P → Bool → P → Type 0) (s t : P) (ok : Bool)
-    (call : FlushesIfPending has_pending_reports IsFlushed s ok t)
+    (call : FlushesOnlyIfPending has_pending_reports IsFlushed s ok t)
     (one : IsFlushed s ok t → (name t ≡ name s) × FlushesLines (value s) ok (value t)) where
   pub flush_keeps_name : name t ≡ name s
   flush_keeps_name = elim call [ inl same ↦ ap name same.1 | inr on ↦ (one on.1).0 ]

@@ -30,9 +30,9 @@ is_pes_packet (PesPacket answer) = true
 is_pes_packet _ = false
 
 -- The source failed, but the result reports unreadable bytes instead. Contracts rule this case out.
-abbrev pub reports_source_failure : {A : Type 0} → Received A → Bool
-reports_source_failure (Rest f) = is_read_fault f
-reports_source_failure _ = false
+abbrev pub reports_failure_as_rest : {A : Type 0} → Received A → Bool
+reports_failure_as_rest (Rest f) = is_read_fault f
+reports_failure_as_rest _ = false
 
 -- The first `read` of the bytes were consumed, and were written to the file.
 pub record HasCopied
@@ -40,8 +40,8 @@ pub record HasCopied
   pub left_eq : left ≡ Some (drop read bytes)
   pub written : Appends old new (take read bytes)
 
--- The bytes that one step of copying appended to the file: nothing at the end of the source, a
--- complete PES packet, or a prefix if the file failed.
+-- The bytes that one step of copying appended to the file: nothing if no PES packet was read, a
+-- complete PES packet, or a prefix of the bytes if the file failed.
 abbrev pub CopiesNext :
     List ℕ → Option (List ℕ) → Option (List ℕ) → Option (List ℕ) → Result (Received Bool) CopyFault
     → Type 0

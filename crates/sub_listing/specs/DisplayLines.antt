@@ -21,7 +21,7 @@ abbrev pub rows_text : ℕ → Rows → List ℕ
 rows_text zero page = []
 rows_text (suc n) page = rows_text n page ++ row_text (suc n) (row_at page (suc n))
 
--- The lines of all rows of a page, or the line `blank` if all rows are blank.
+-- The lines of the rows of a page that are not blank, or the line `blank` if all rows are blank.
 abbrev pub page_text : Rows → List ℕ
 page_text page = if length (rows_text 24 page) == 0 then codes "blank\n" else rows_text 24 page
 

@@ -41,7 +41,8 @@ count_gap_markers (suc n) b =
     with_packet_size_or (pes_packet_size b)
     (λ size. (if begins_with_gap_marker size b then 1 else 0) + count_gap_markers n (drop size b)) 0
 
--- The reason why the bytes do not begin with a PES packet; `None` if there are no bytes.
+-- The reason why the bytes do not begin with a PES packet; `None` if they do, or if there are no
+-- bytes.
 unfoldable pub fault_at_start : List ℕ → Option PesFault
 fault_at_start b = if length b == 0 then None else rest_fault b
 
@@ -79,7 +80,7 @@ pub record IsExtractedCompletely (bytes : List ℕ) (old new : Option (List ℕ)
 
 -- After `pes` PES packets, the bytes are rejected because of fault `f`. All bytes were written to
 -- the file, or only a prefix if the number of PES packets is too great to be counted.
-pub record IsExtractedUntilFault
+pub record IsExtractedWithFault
     (bytes : List ℕ) (old new : Option (List ℕ)) (f : PesFault) (pes : ℕ) : Type 0 where
   pub pes_packets : count_pes_packets pes bytes ≡ pes
   pub taken : AppendsPrefix old new bytes
@@ -107,7 +108,7 @@ abbrev pub Extracts :
 Extracts known old new (Ok e) = IfKnown known (λ bytes. IsExtractedCompletely bytes old new e.pes
     e.gaps)
 Extracts known old new (Err Empty) = IfKnown known (λ bytes. (bytes ≡ []) × Keeps old new)
-Extracts known old new (Err (Refused f n)) = IfKnown known (λ bytes. IsExtractedUntilFault bytes old
+Extracts known old new (Err (Refused f n)) = IfKnown known (λ bytes. IsExtractedWithFault bytes old
     new f n)
 Extracts known old new (Err (Read n)) = IfKnown known (λ bytes. IsExtractedUntilFailure bytes old
     new n)
@@ -121,8 +122,8 @@ abbrev pub extracted_line : Extracted → List ℕ
 extracted_line e =
     codes "written " ++ decimal e.pes ++ codes " pes " ++ decimal e.gaps ++ codes " gaps\n"
 
--- The line for a fault of `extract`: the source or the file failed, or the bytes after a PES packet
--- are not a PES packet.
+-- The line for a fault of `extract`: the source or the file failed, there are no bytes, or the
+-- bytes after the last PES packet are not a PES packet.
 abbrev pub extract_line : ExtractFault → FaultLine
 extract_line (Read n) = counted_from n (check_line (check.Pes 0 pes.Read))
 extract_line Write = line_with kind.Fault (pes_code pes.Write) Nowhere
@@ -134,7 +135,8 @@ abbrev pub extract_listing : Result Extracted ExtractFault → Listing
 extract_listing (Ok e) = done (extracted_line e)
 extract_listing (Err f) = fault_listing (extract_line f)
 
--- The result of `extract`: the file was written, and the line was printed.
+-- The command `extract` wrote the file as `Extracts` specifies, and printed the line of its result,
+-- unless `out` failed.
 pub record EndsExtract (source : SourceCall) (file out : SinkCall) (status : Status) : Type 0 where
   pub answer : Result Extracted ExtractFault
   pub extracts : Extracts source.known file.old file.new answer

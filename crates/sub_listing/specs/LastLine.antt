@@ -15,7 +15,8 @@ pub record PutsLine
   pub calls : PutsByPushes IsPush old line ok new
   pub bytes : AppendsPrefix (contents old) (contents new) line
 
--- Everything before the last line was flushed, and since then only that line was written.
+-- Everything before the last line was flushed, and since then only that line, or a prefix of it,
+-- was written.
 pub record BuffersLastLineOnly
     {K : Type 0} (contents : K → Option (List ℕ)) (buffered : K → ℕ)
     (IsPush : K → List ℕ → Option ℕ → K → Type 0) (new : K) : Type 0 where

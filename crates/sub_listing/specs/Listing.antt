@@ -35,7 +35,8 @@ followed text more = record { text = text ++ more.text; status = more.status }
 
 -- ---- the listing of one Teletext packet
 
--- The listing of a page header, packet X/0 (EN 300 706): its eight coded bytes, then 32 text bytes.
+-- The listing of a page header, packet X/0 (EN 300 706): its address, its eight coded bytes and its
+-- 32 text bytes; or a fault if the coded bytes can't be decoded.
 abbrev pub listing_of_header : ℕ → List ℕ → Option Header → Listing
 listing_of_header magazine packet None = fault_listing (packet_line BadHeader)
 listing_of_header magazine packet (Some h) =
@@ -43,8 +44,8 @@ listing_of_header magazine packet (Some h) =
 
 -- The listing of a packet X/1 to X/31 (EN 300 706). Rows 1 to 24 have 40 text bytes, and packets 25
 -- to 31 have no text.
-abbrev pub listing_of_row : ℕ → ℕ → List ℕ → Listing
-listing_of_row magazine packet_number packet = if nat_le packet_number 24
+abbrev pub listing_of_other_packet : ℕ → ℕ → List ℕ → Listing
+listing_of_other_packet magazine packet_number packet = if nat_le packet_number 24
     then done (address_line magazine packet_number ++ text_line (drop 2 packet))
     else done (address_line magazine packet_number)
 
@@ -54,7 +55,7 @@ abbrev pub listing_by_address : Option (ℕ × ℕ) → List ℕ → Listing
 listing_by_address None packet = fault_listing (packet_line BadAddress)
 listing_by_address (Some a) packet = if a.1 == 0
     then listing_of_header a.0 packet (header packet)
-    else listing_of_row a.0 a.1 packet
+    else listing_of_other_packet a.0 a.1 packet
 
 -- The output of `packet` for the 42 bytes of a Teletext packet.
 abbrev pub packet_listing : List ℕ → Listing

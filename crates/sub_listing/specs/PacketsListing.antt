@@ -20,8 +20,8 @@ abbrev pub pes_packet_lines : ℕ → PesValue → List ℕ
 pes_packet_lines number v = pes_line number v.pts ++ unit_lines 0 v.units
 
 -- The output of `packets` after `index` PES packets: the lines of each further PES packet, and
--- finally the number of listed packets. The first PES packet that is read has the number `first` in
--- its file.
+-- finally the number of listed packets or the line of a fault. The first PES packet that is read
+-- has the number `first` in its file.
 abbrev pub pes_listing : ℕ → ℕ → PesOutcome → Listing
 pes_listing first index ends = done (decimal index ++ codes " pes\n")
 pes_listing first index (fails f) = fault_listing (counted_from first (check_line (Pes index f)))

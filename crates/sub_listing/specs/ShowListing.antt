@@ -18,8 +18,9 @@ use Rattle.sub_listing.specs.Listing.{ListingRelation, Lists, Listing, done, fol
 use Rattle.sub_listing.specs.Listing.{fault_listing}
 
 -- The outcome of reading the subtitles after the first `from` TTI blocks. At the end, only skipped
--- blocks remain. A fault of the format is one that no continuation of the file can remove. If the
--- source failed, the fault names the block that was being read.
+-- blocks remain. After a fault of the format, no subtitle file continues with the bytes that were
+-- read; if the file ended too early, no subtitle file ends with them. If the source failed, the
+-- fault names the block that was being read.
 abbrev pub ReadsSubtitles : Bool → ℕ → Option (List ℕ) → Outcome → Option (List ℕ) → Type 0
 ReadsSubtitles failed from known ends left =
     (failed ≡ false) × (to : ℕ) × ConsumesSkippedBlocks from to known left
@@ -51,7 +52,7 @@ ReadsFile failed known outcome left =
     × ReadsSubtitles failed 0 following outcome left)
 
 -- The output of `show` after `count` subtitles: the line of each further subtitle, and finally the
--- number of subtitles.
+-- number of subtitles or the line of a fault.
 abbrev pub subtitles_listing : ℕ → Outcome → Listing
 subtitles_listing count ends = done (decimal count ++ codes " subtitles\n")
 subtitles_listing count (fails f block) = fault_listing (stl_line f block)

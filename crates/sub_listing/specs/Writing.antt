@@ -59,7 +59,7 @@ Work = Option (List ℕ) → Option (List ℕ) → Option (List ℕ) → Option 
     → Result ℕ WriteFault → Type 0
 
 -- A command that writes a file has a result, the number of items in the file or a fault, and
--- printed its line.
+-- printed its line, unless `out` failed.
 pub record EndsWithFileResult
     (input : SourceCall) (file out : SinkCall) (status : Status)
     (item_name : List ℕ) (HasWorked : Work)
@@ -88,9 +88,9 @@ WritesSchedule programme o serial old new (Err Write) =
 WritesSchedule programme o serial old new (Err NoSubtitles) =
     Keeps old new × (programme.records ≡ [])
 
--- The file received the schedule of the programme in the input. If the input contains no programme,
--- nothing was written, and the fault is reported; if the source failed, the fault contains the
--- block.
+-- The file received the schedule of the programme in the input, as `WritesSchedule` specifies. If
+-- no programme was loaded, nothing was written, and the fault is reported; if the source failed,
+-- the fault contains the block.
 abbrev pub Schedules : Drawing → OptionsValue → Bool → Work
 Schedules drawing o serial known left old new (Ok count) =
     IfKnown known (λ bytes. IsOkAnd (loaded_programme drawing bytes) (λ programme.

@@ -8,7 +8,7 @@ ghost use Rattle.ttx_pes.specs.Advancing.{faulty_rest_is_answer};
 ghost use Rattle.ttx_pes.specs.Reading.{is_gap_marker};
 ghost use Rattle.sub_listing.specs.Copying.{CopiesNext, CopiesRest, is_copy_source_failure};
 ghost use Rattle.sub_listing.specs.Copying.{is_copy_file_failure, is_pes_packet};
-ghost use Rattle.sub_listing.specs.Copying.{reports_source_failure};
+ghost use Rattle.sub_listing.specs.Copying.{reports_failure_as_rest};
 
 use std::marker::Model;
 use sub_io::{Flush, put_all};
@@ -28,12 +28,12 @@ pub enum CopyFault {
 
 /// The bytes of the PES packet that was read last. The model is the list of the bytes.
 #[derive(Drop)]
-pub struct CopyProgress {
+pub struct LastPesPacket {
     room: [u8; PES_PACKET_CAPACITY],
     len: usize,
 }
 
-impl Model for CopyProgress {
+impl Model for LastPesPacket {
     ghost use Rattle.std.specs.Prelude.{ℕ, ◌≤◌, List, take};
 
     ghost Value = { List ℕ };
@@ -43,10 +43,10 @@ impl Model for CopyProgress {
     ghost invariant = { λ p. p.len ≤ 1656 };
 }
 
-impl CopyProgress {
+impl LastPesPacket {
     /// Creates an empty buffer for a PES packet.
     pub fn new() -> Self {
-        CopyProgress {
+        LastPesPacket {
             room: [0; PES_PACKET_CAPACITY],
             len: 0,
         }
@@ -61,7 +61,7 @@ impl CopyProgress {
     }
 }
 
-impl TakePesPacket for CopyProgress {
+impl TakePesPacket for LastPesPacket {
     // The answer is `true` if the PES packet is a gap marker.
     type Answer = bool;
 
@@ -107,7 +107,7 @@ fn write_and_flush<F: Flush>(file: &mut F, bytes: &[u8]) -> Result<(), CopyFault
 pub fn copy_next<P: PesPackets, F: Flush>(
     pes_packets: &mut P,
     file: &mut F,
-    pes_packet: &mut CopyProgress,
+    pes_packet: &mut LastPesPacket,
 ) -> Result<Received<bool>, CopyFault>
     requires pes_packets { CanFail (P.failure_count pes_packets.old) }
     requires file { CanFail (F.failure_count file.old) }
@@ -118,7 +118,7 @@ pub fn copy_next<P: PesPackets, F: Flush>(
     ensures buffered { F.buffered file.old ≡ 0 → failed is_copy_file_failure result ≡ false
         → F.buffered file.new ≡ 0 }
     ensures never_reports_failed_read { IfOk result
-        (λ received. reports_source_failure received ≡ false) }
+        (λ received. reports_failure_as_rest received ≡ false) }
     ensures flushed { IfOk result (λ received. is_pes_packet received ≡ true → F.buffered file.new ≡
         0) }
     ensures device { P.device pes_packets.new ≡ P.device pes_packets.old }

@@ -10,7 +10,7 @@ ghost use Rattle.sub_listing.specs.Faults.{check_line};
 ghost use Rattle.sub_listing.specs.FaultLine.{counted_from};
 ghost use Rattle.sub_rules.specs.declared.fault.CheckFault.TheVariants.{Pes};
 
-use crate::copying::{CopyFault, CopyProgress, copy_next, copy_rest};
+use crate::copying::{CopyFault, LastPesPacket, copy_next, copy_rest};
 use crate::fault_line::FaultLine;
 use crate::faults::{fault_line_of_check, fault_line_of_file_write};
 use crate::lines::{Line, push_number, push_text};
@@ -54,9 +54,9 @@ pub enum ExtractFault {
 /// (ISO/IEC 13818-1) come with gap markers. Prints the number of PES packets and of gap markers, or
 /// the reason why the output is not a complete file of PES packets.
 ///
-/// Each PES packet is flushed as soon as it has arrived, and the line is printed after the system
-/// has stored the file. Bytes that are no PES packet are also written. Returns `Fault` if a device
-/// failed.
+/// Each PES packet is flushed as soon as it has arrived, and the line with the numbers is printed
+/// after the system has stored the file. Bytes after the last PES packet are also written. Returns
+/// `Fault` if a device failed.
 pub fn extract_packets<P: PesPackets, F: Close, K: Sink>(
     pes_packets: &mut P,
     file: &mut F,
@@ -97,7 +97,8 @@ pub fn extract_packets<P: PesPackets, F: Close, K: Sink>(
     }
 }
 
-// Copies all PES packets to the output file, and stores the file.
+// Copies all PES packets and any bytes after them to the output file, and stores the file if there
+// is no fault.
 fn write_pes_packets<P: PesPackets, F: Close>(
     pes_packets: &mut P,
     file: &mut F,
@@ -149,7 +150,7 @@ fn copy_pes_packets<P: PesPackets, F: Flush>(
     ensures never_reports_failed_read { IfErr result (λ f. reports_failure_as_rejection f ≡ false) }
     ensures done { OnOk result (F.buffered file.new ≡ 0) }
 {
-    let mut pes_packet = CopyProgress::new();
+    let mut pes_packet = LastPesPacket::new();
     let mut gaps = 0;
     'pes_packets: for pes in 0..u64::MAX {
         match copy_next(pes_packets, file, &mut pes_packet) {

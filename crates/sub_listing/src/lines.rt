@@ -36,8 +36,8 @@ const CODE_CAPACITY: usize = NUMBER_CAPACITY + 17;
 /// The maximum number of bytes of a fault's place.
 const PLACE_CAPACITY: usize = 80;
 
-/// The maximum number of bytes of a line. The longest line, `refused 72 Content` with a cell as its
-/// place, has 117 bytes.
+/// The maximum number of bytes of a line. A fault line with a cell as its place has at most 117
+/// bytes, even if each of its numbers had `NUMBER_CAPACITY` digits.
 pub const LINE_CAPACITY: usize = 128;
 
 /// A line to print.
@@ -193,7 +193,7 @@ fn push_fault_end<const N: usize>(line: &mut ArrayVec<u8, N>, rule: EndRule, fra
     push_text(line, b"\n");
 }
 
-// Appends the line for the end of skipped PES packets, which the fault names.
+// Appends the line for the end of skipped PES packets: `fault` is the fault of the last of them.
 fn push_skipped_packets<const N: usize>(line: &mut ArrayVec<u8, N>, fault: CheckFault, first: u64)
     requires { array_vec_len line.old + LINE_CAPACITY ≤ N }
     ensures { line.new.items ≡ line.old.items ++ skipped_packets_line first fault }

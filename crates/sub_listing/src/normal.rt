@@ -39,8 +39,9 @@ pub enum InputFault {
 /// Writes the normal form of a subtitle file (not defined by a standard), and prints the number of
 /// its subtitles, or the reason why there is no normal form.
 ///
-/// The input is read to its end before anything is written, and the line is printed after the
-/// system has stored the file. Returns `Fault` if a device failed or memory ran out.
+/// The input is read to its end, or up to the limit after which bytes can't change the result,
+/// before anything is written. The line with the number is printed after the system has stored the
+/// file. Returns `Fault` if a device failed or memory ran out.
 pub fn write_normal<S: Source, F: Close, K: Sink>(
     alloc: Global,
     input: &mut S,
@@ -128,11 +129,11 @@ pub fn read_input<A: Allocator + Drop, S: Source>(
     let mut bytes = Vec::new(alloc);
     let mut room = [0; PULL_CAPACITY];
     'chunks: while bytes.len() < READ_LIMIT {
-        let pes_packet = &mut room[..PULL_CAPACITY.min(READ_LIMIT - bytes.len())];
-        match input.pull(pes_packet) {
+        let chunk = &mut room[..PULL_CAPACITY.min(READ_LIMIT - bytes.len())];
+        match input.pull(chunk) {
             Ok(0) => return Ok(bytes),
             Ok(len) => {
-                let Ok(()) = bytes.extend_from_slice(&pes_packet[..len]) else {
+                let Ok(()) = bytes.extend_from_slice(&chunk[..len]) else {
                     return Err(InputFault::Memory);
                 };
             }

@@ -3,7 +3,7 @@ ghost use Rattle.std.specs.Prelude.{◌≡◌, ℕ, ◌+◌, ◌-◌, ◌<◌, �
 ghost use Rattle.std.specs.Prelude.{OnOk, false, is_err, true};
 ghost use Rattle.arrayvec.specs.ArrayVec.{array_vec_len};
 ghost use Rattle.sub_io.specs.Device.{CanFail};
-ghost use Rattle.ttx_pes.specs.BorrowedPacket.{NothingIsPending};
+ghost use Rattle.ttx_pes.specs.BorrowedPacket.{NothingIsPendingUnlessReady};
 ghost use Rattle.ttx_pes.specs.Outcome.{ReadsPackets, outcome_after};
 ghost use Rattle.ttx_pes.specs.Reading.{max_pes_packets};
 ghost use Rattle.ttx_pes.specs.declared.progress.Progress.TheVariants.{Reading};
@@ -80,7 +80,7 @@ impl PacketLister {
     }
 
     // Makes the lines of the PES packet that was read last.
-    fn list_next_result(&mut self, text: &mut Text) -> Option<Status>
+    fn list_read_packet(&mut self, text: &mut Text) -> Option<Status>
         requires few { self.old.index < max_pes_packets }
         requires empty { text.old.items ≡ [] }
         ensures lines { text.new.items
@@ -125,8 +125,8 @@ impl<P: PesPackets> Lister<P> for PacketLister {
         }
         match self.reader.next(input) {
             Ok(Compared::End) => end_with_count(text, self.index, b" pes\n"),
-            Ok(Compared::Same) => self.list_next_result(text),
-            Ok(Compared::Other) => self.list_next_result(text),
+            Ok(Compared::Same) => self.list_read_packet(text),
+            Ok(Compared::Other) => self.list_read_packet(text),
             Err(fault) => {
                 let pes = self.index;
                 let reported = fault_line_of_check(CheckFault::Pes { fault, pes });
@@ -150,7 +150,8 @@ fn flush_lines<P: PesPackets, K: Flush>(
         (printer_value (K.contents printer.new.out.now) (K.failure_count printer.new.out.now)
         printer.new.fault_count printer.new.failed printer.new.first) }
     ensures failed { printer.new.failed ≡ is_err result }
-    ensures settled { OnOk result (NothingIsPending printer.new.pending (P.ready pes_packets.now)) }
+    ensures settled { OnOk result (NothingIsPendingUnlessReady printer.new.pending
+        (P.ready pes_packets.now)) }
     ensures holds { (printer.old.pending ≡ false → K.buffered printer.old.out.now ≡ 0)
         → OnOk result (printer.new.pending ≡ false → K.buffered printer.new.out.now ≡ 0) }
 {

@@ -17,8 +17,8 @@ use sub_plan::{Options, PlanFault, schedule};
 /// Writes the schedule of a subtitle file, one PES packet for each page transmission (EN 300 472),
 /// and prints the number of page transmissions, or the reason why there is no schedule.
 ///
-/// The input is read to its end before anything is written, and the line is printed after the
-/// system has stored the file. Returns `Fault` if a device failed or memory ran out.
+/// The input is read to its end before anything is written, and the line with the number is printed
+/// after the system has stored the file. Returns `Fault` if a device failed or memory ran out.
 pub fn write_schedule<S: Source, F: Close, K: Sink>(
     alloc: Global,
     drawing: Drawing,

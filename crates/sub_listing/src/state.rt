@@ -36,8 +36,8 @@ type Rows = ArrayVec<u8, ROWS_CAPACITY>;
 
 type Text = ArrayVec<u8, STATE_CAPACITY>;
 
-/// Prints whether a receiver has received a header of its page, and the page or, if complete pages
-/// are required, the screen.
+/// Prints whether a receiver has received a header of its page. If it has, also prints whether the
+/// page is open, and the page or, if complete pages are required, the screen.
 pub fn print_state<R: Receiver, K: Sink>(
     receiver: &R,
     screen: &Option<Page>,
@@ -54,7 +54,7 @@ pub fn print_state<R: Receiver, K: Sink>(
     let mut text = Text::new();
     if receiver.heard() {
         push_text(&mut text, b"heard yes\n");
-        if receiver.open() {
+        if receiver.is_page_open() {
             push_text(&mut text, b"open yes\n");
         } else {
             push_text(&mut text, b"open no\n");

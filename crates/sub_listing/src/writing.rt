@@ -36,7 +36,7 @@ pub trait Work {
     ghost is_written_as_specified: { Self → writing.Work };
 
     /// Writes the output file of the command, and returns the number of items written. The input is
-    /// read to its end before anything is written, and the file is stored at the end.
+    /// read before anything is written, and the file is stored at the end if there is no fault.
     fn work<S: Source, F: Close>(
         &self,
         alloc: Global,

@@ -57,8 +57,8 @@ module _ (heard : List (List ℕ)) (p : List ℕ) (s : Listener) (read : Option 
       rw (has_row-push s.watched.page heard p row, is)
       (get_or-replicate 24 (row - 1) false false (omega arith))
 
-  -- A header that erases the page opens it, clears the sets of received rows, and makes the stored
-  -- page blank.
+  -- At a header that erases the page, a listener that opens and blanks the page, and empties its
+  -- sets of received rows, still agrees with the packets.
   pub erasing_header_keeps_knowledge : (h : Header) → kind s.watched.page p ≡ ThisPage h
       → (c4 h || not s.watched.keeps) ≡ true
       → Knows (heard ++ p ∷ []) (record s {
@@ -83,8 +83,9 @@ module _ (heard : List (List ℕ)) (p : List ℕ) (s : Listener) (read : Option 
     again_is = header_leaves_no_row_repeated h is;
   }
 
-  -- If repeats may have C4 (erase page) clear, a header with C4 clear opens the page and keeps the
-  -- received rows, but clears the set of rows received since the last header.
+  -- At a header with C4 (erase page) clear, if repeats may have it clear, a listener that opens the
+  -- page, keeps the received rows, and empties the set of rows received since the last header,
+  -- still agrees with the packets.
   pub repeating_header_keeps_knowledge : (h : Header) → kind s.watched.page p ≡ ThisPage h
       → (c4 h || not s.watched.keeps) ≡ false
       → Knows (heard ++ p ∷ []) (record s {
@@ -112,8 +113,8 @@ module _ (heard : List (List ℕ)) (p : List ℕ) (s : Listener) (read : Option 
         let more = last_header-push s.watched.page heard p in
         grind (arith, nat_tests)
 
-    -- A packet that is neither a header of the page nor a row of the open page does not change the
-    -- rows. It may close the page.
+    -- At a packet that is neither a header of the page nor a row of the open page, a listener that
+    -- changes no row, and closes the page if the packet ends it, still agrees with the packets.
     pub other_packet_keeps_knowledge : (opened : Bool)
         → opened ≡ (s.is_open && not (ends_page (kind s.watched.page p)))
         → ((row : ℕ) → 1 ≤ row → row ≤ 24 → s.is_open ≡ true

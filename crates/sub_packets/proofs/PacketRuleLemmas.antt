@@ -21,7 +21,7 @@ use Rattle.sub_rules.specs.PacketTests.{are_code_words, breaks, first_packet_of_
 use Rattle.sub_rules.specs.PacketTests.{is_enhancement_address}
 use Rattle.sub_rules.specs.PacketTests.{is_header_address, has_different_mode, has_different_text}
 use Rattle.sub_rules.specs.PacketTests.{packet_rules}
-use Rattle.sub_rules.specs.PacketTests.{is_same_subcode, is_subtitle_header}
+use Rattle.sub_rules.specs.PacketTests.{is_same_subcode, is_allowed_page_header}
 use Rattle.sub_rules.specs.declared.packet_rule.Watched.{Watched}
 
 equal_decisions_have_equal_negations : {P : Type 0} (r s : Bool) → Decides r P → Decides s P → not r
@@ -76,7 +76,7 @@ module _ (w : Watched) (heard : List (List ℕ)) (p : List ℕ) where
   -- Of the rules from `Control` on, a header of the page can break only `Control`.
   pub page_header_breaks_control_rule_only : (h : Header) → kind w.page p ≡ ThisPage h
       → rule_set (λ r. breaks r w heard p) (drop 3 packet_rules)
-      ≡ cond (not (is_subtitle_header w heard h)) 1 0
+      ≡ cond (not (is_allowed_page_header w heard h)) 1 0
   unfolding breaks rule_set packet_rules
   page_header_breaks_control_rule_only h k =
       let none = no_enhancement w p (λ e. let both = sym k ∙ e in cc) in

@@ -16,13 +16,13 @@ use Rattle.ttx_page.proofs.SpanListLemmas.{after-append, holds-append_right}
 use Rattle.ttx_page.proofs.TextSpan.{text_begins_at_header}
 use Rattle.sub_packets.proofs.KeptLemmas.{last_header-append, text_span-begins}
 use Rattle.sub_packets.specs.Listener.{BreakNoRule, Knows, KnowsLast, LastPacketsAreClean}
-use Rattle.sub_packets.specs.Listener.{begins_frame_with_header}
+use Rattle.sub_packets.specs.Listener.{frame_has_text_beginning}
 use Rattle.sub_rules.specs.Kept.{last_header}
 use Rattle.sub_rules.specs.PacketRules.{first_header, header_count}
 use Rattle.sub_rules.specs.PacketTests.{broken_rules, breaks, has_different_mode, packet_rules}
 use Rattle.sub_packets.specs.RepeatedPackets.{BeginsWithHeader, BreakSameRules}
 use Rattle.sub_packets.specs.RepeatedPackets.{LawOfRepeatedPackets}
-use Rattle.sub_packets.specs.RepeatedPackets.{HaveSameContent}
+use Rattle.sub_packets.specs.RepeatedPackets.{HaveSameEffect}
 use Rattle.sub_packets.specs.declared.listener.Listener.{Listener}
 use Rattle.sub_rules.specs.declared.packet_rule.PacketRule.{PacketRule}
 use Rattle.sub_rules.specs.declared.packet_rule.PacketRule.TheVariants as rule
@@ -49,14 +49,14 @@ rules_equal w b c p same = ap (λ test. filter test packet_rules) (λ k r. same 
 
 breaks_equal :
     (w : Watched) (b c : List (List ℕ)) (p : List ℕ)
-    → HaveSameContent w b c
+    → HaveSameEffect w b c
     → (r : PacketRule)
     → breaks r w b p ≡ breaks r w c p
 unfolding breaks
 breaks_equal w b c p same x = grind (arith, nat_tests)
 
 state_fits_equal :
-    (b c : List (List ℕ)) (s : Listener) → HaveSameContent s.watched b c → Knows b s → Knows c s
+    (b c : List (List ℕ)) (s : Listener) → HaveSameEffect s.watched b c → Knows b s → Knows c s
 state_fits_equal b c s same k = grind (arith, nat_tests)
 
 first_header_is_unchanged_by_repeat : (o : Option Header) (h : Header)
@@ -93,7 +93,7 @@ module _
     -- page header.
     alike :
         (others more : List (List ℕ))
-        → HaveSameContent w (heard ++ first ∷ more) ((heard ++ first ∷ others) ++ first ∷ more)
+        → HaveSameEffect w (heard ++ first ∷ more) ((heard ++ first ∷ others) ++ first ∷ more)
     alike others more =
         let h = header_from_numbers w first is in
         let has_header = or_left _ _ is_header in
@@ -164,7 +164,7 @@ law_of_repeated_packets w heard packets begins =
     let others = begins.others in
     subst
     (λ ps. BreakSameRules w heard (heard ++ ps) ps
-    × HaveSameContent w (heard ++ ps) ((heard ++ ps) ++ ps)) (sym begins.packets_are) (
+    × HaveSameEffect w (heard ++ ps) ((heard ++ ps) ++ ps)) (sym begins.packets_are) (
       repeated_packets_break_same_rules w heard first begins.is_header others,
       alike w heard first begins.is_header others others,
     )
@@ -186,15 +186,15 @@ pub received_again :
     → BreakNoRule s.watched heard ps (length ps)
     × KnowsLast (heard ++ ps) ps s
     × (headers ≡ header_count s.watched.page ps)
-    × ((from : ℕ) → s.begun ≡ begins_frame_with_header s.watched from s.begun ps)
+    × ((from : ℕ) → s.begun ≡ frame_has_text_beginning s.watched from s.begun ps)
 received_again heard last ps headers s known is same =
     let j = known.last_is headers is in
     let law = law_of_repeated_packets s.watched j.before last j.begins in
     let clean : BreakNoRule s.watched heard last (length last) =
     subst (λ xs. BreakNoRule s.watched xs last (length last)) (sym j.heard_eq)
     (λ k l. sym (law.0 k l) ∙ j.clean k l) in
-    let alike : HaveSameContent s.watched heard (heard ++ last) =
-    subst (λ xs. HaveSameContent s.watched xs (xs ++ last)) (sym j.heard_eq) law.1 in
+    let alike : HaveSameEffect s.watched heard (heard ++ last) =
+    subst (λ xs. HaveSameEffect s.watched xs (xs ++ last)) (sym j.heard_eq) law.1 in
     let begun = leading_header_is_a_beginning s.watched last j.begins in
     let started_eq = known.started_eq headers is in (
       subst (λ (xs : List (List ℕ)). BreakNoRule s.watched heard xs (length xs)) same clean,
@@ -222,7 +222,7 @@ pub kept_last :
     → (begins ≡ true
     → (0 < length ps) × (begins_text w.keeps (kind w.page (get_or ps 0 [])) ≡ true))
     → (clean ≡ true → BreakNoRule w heard ps (length ps))
-    → begun ≡ begins_frame_with_header w from before ps
+    → begun ≡ frame_has_text_beginning w from before ps
     → KnowsLast (heard ++ ps) ps (record s {
       begun = begun;
       last = cond (begins && clean) (Some headers) None;

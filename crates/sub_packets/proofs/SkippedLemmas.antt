@@ -6,7 +6,7 @@ use Rattle.std.proofs.Common.{inl, inr}
 use Rattle.std.proofs.lemmas.Bool.{cases_Bool, cond-false, cond-true}
 use Rattle.std.proofs.lemmas.Bool.Decides.{nat_tests}
 use Rattle.ttx_packet.specs.PacketAddress.{HasExactAddress, PacketAddress, address}
-use Rattle.ttx_packet.specs.PageHeader.{HasExactHeader, c11, coded_header, header}
+use Rattle.ttx_packet.specs.PageHeader.{HasExactHeader, c11, decoded_header, header}
 use Rattle.ttx_packet.specs.declared.header.Header.{Header}
 use Rattle.ttx_page.specs.PacketKind.{is_this_page, kind}
 use Rattle.ttx_page.specs.Span.{text_span}
@@ -36,8 +36,9 @@ module _ (p : List ℕ) (s : Listener) (a : PacketAddress) (at : address p ≡ S
   unfolding kind
   other_packet_is_no_header some = grind (arith, nat_tests)
 
-  pub skipped_header_is_of_another_page : (h : Header) → a.packet_number ≡ 0 → coded_header p ≡ Some
-      h
+  pub skipped_header_is_of_another_page : (h : Header)
+      → a.packet_number ≡ 0
+      → decoded_header p ≡ Some h
       → can_skip_header a.magazine h s ≡ true
       → is_this_page (kind s.watched.page p) ≡ false
   unfolding kind header
@@ -104,7 +105,7 @@ module _
     -- The header has the C11 of the first page header, is no header of the page, and does not end
     -- the page.
     module _ (none : a.packet_number ≡ 0) (coded : HasExactHeader p) (h : Header)
-        (says : coded_header p ≡ Some h)
+        (says : decoded_header p ≡ Some h)
         (passes : can_skip_header a.magazine h s ≡ true) where
       header_eq : header p ≡ Some h
       unfolding header

@@ -11,7 +11,7 @@ use Rattle.stl_rows.specs.Programme.{ProgrammeValue}
 use Rattle.stl_rows.proofs.DuePageLemmas.{due_page_stays_without_edges}
 use Rattle.ttx_page.proofs.DifferingLemmas.{zero_difference_equal_cells}
 use Rattle.ttx_page.proofs.DifferingLemmas.{zero_difference_equal_columns}
-use Rattle.ttx_page.specs.Differing.{differing, row_difference}
+use Rattle.ttx_page.specs.Differing.{differing_cell_count, row_difference}
 use Rattle.ttx_page.specs.Page.{DiffersFirst, IsCell, Rows, blank, blank_row, cell, row_at}
 use Rattle.ttx_page.specs.Page.{space}
 use Rattle.sub_plan.specs.Schedule.{due_page_in}
@@ -114,7 +114,7 @@ unexpected_eq s page first f n left o is_left found =
 
 pub no_unexpected_cell_shows_expected_codes :
     (s : Listener) (page : ℕ → Rows) (first f n : ℕ)
-    → differing blank s.comparison.page ≡ 0
+    → differing_cell_count blank s.comparison.page ≡ 0
     → first_unexpected_kept_cell s page first f n ≡ None
 unfolding first_unexpected_kept_cell
 no_unexpected_cell_shows_expected_codes s page first f n same =

@@ -40,7 +40,8 @@ pub record Knows (heard : List (List ℕ)) (s : Listener) : Type 0 where
   pub open_eq : s.is_open ≡ is_open_after (kind s.watched.page) heard
   pub subcode_eq :
       s.subcode ≡ option_map (λ (h : Header). h.subcode) (last_header s.watched.page heard)
-  -- The rows received since the page was last erased, with the codes of each row's first packet.
+  -- The rows received since the page was last erased, while it was open, with the codes of each
+  -- row's first packet.
   pub sent_eq : (row : ℕ) → 1 ≤ row → row ≤ 24
       → slice_index_or s.sent (row - 1) false
       ≡ is_some
@@ -51,7 +52,7 @@ pub record Knows (heard : List (List ℕ)) (s : Listener) : Type 0 where
       ≡ row_or_blank
       (first_packet_of_row s.watched.page (text_span s.watched.keeps (kind s.watched.page) heard)
       row)
-  -- The rows received since the last header of the page.
+  -- The rows received since the last header of the page, while the page was open.
   pub again_is : (row : ℕ) → 1 ≤ row → row ≤ 24
       → slice_index_or s.again (row - 1) false ≡ has_row s.watched.page heard row
 
@@ -71,8 +72,8 @@ pub record LastPacketsAreClean (w : Watched) (heard last : List (List ℕ)) (hea
     pub count : header_count w.page last ≡ headers
 
 -- The frame has a header that erases the page: among its first `from` packets, or among `packets`.
-abbrev pub begins_frame_with_header : Watched → ℕ → Bool → List (List ℕ) → Bool
-begins_frame_with_header w from before packets =
+abbrev pub frame_has_text_beginning : Watched → ℕ → Bool → List (List ℕ) → Bool
+frame_has_text_beginning w from before packets =
     (nat_lt 0 from && before) || has_text_beginning w.keeps (kind w.page) packets
 
 -- The listener's state agrees with all packets received, `heard`, and with those of the last PES
@@ -87,15 +88,15 @@ pub record KnowsLast (heard last : List (List ℕ)) (s : Listener) : Type 0 wher
 
 -- A header with the C11 `serial` has the same C11 (magazine serial) as the first page header; false
 -- if no page header was received.
-abbrev pub has_serial_mode : Option Bool → Bool → Bool
-has_serial_mode None serial = false
-has_serial_mode (Some first) serial = is_same_bit first serial
+abbrev pub has_first_mode : Option Bool → Bool → Bool
+has_first_mode None serial = false
+has_first_mode (Some first) serial = is_same_bit first serial
 
 -- A page header can be skipped: it has the C11 of the first page header, is no header of the page,
 -- and does not end the open page.
 abbrev pub can_skip_header : ℕ → Header → Listener → Bool
 can_skip_header magazine h s =
-    has_serial_mode s.serial (c11 h)
+    has_first_mode s.serial (c11 h)
     && (if s.is_open then not (magazine == s.watched.page.magazine) && not (c11 h)
     else not (magazine == s.watched.page.magazine && h.page == s.watched.page.page))
 

@@ -20,7 +20,7 @@ pub record BeginsWithHeader (w : Watched) (packets : List (List ℕ)) : Type 0 w
 -- Both lists of packets have the same effect on later packets: they have the same first page header
 -- and last header of the page, the page is open after both or after neither, and the rows since the
 -- last header and since the page was erased are the same.
-pub record HaveSameContent (w : Watched) (one other : List (List ℕ)) : Type 0 where
+pub record HaveSameEffect (w : Watched) (one other : List (List ℕ)) : Type 0 where
   pub header_eq : first_header one ≡ first_header other
   pub last_is : last_header w.page one ≡ last_header w.page other
   pub open_eq : is_open_after (kind w.page) one ≡ is_open_after (kind w.page) other
@@ -43,4 +43,4 @@ LawOfRepeatedPackets =
     (w : Watched) (heard packets : List (List ℕ))
     → BeginsWithHeader w packets
     → BreakSameRules w heard (heard ++ packets) packets
-    × HaveSameContent w (heard ++ packets) ((heard ++ packets) ++ packets)
+    × HaveSameEffect w (heard ++ packets) ((heard ++ packets) ++ packets)

@@ -9,9 +9,9 @@ ghost use Rattle.ttx_page.specs.Page.{IsRow, row_at};
 ghost use Rattle.ttx_page.specs.PacketKind.{kind};
 ghost use Rattle.sub_packets.specs.Listener.{rule_set};
 ghost use Rattle.sub_rules.specs.PacketRules.{codes_of};
-ghost use Rattle.sub_rules.specs.PacketTests.{breaks, is_enhancement_address, repeats_page};
-ghost use Rattle.sub_rules.specs.PacketTests.{is_allowed_header};
-ghost use Rattle.sub_rules.specs.PacketTests.{is_subtitle_header, packet_rules};
+ghost use Rattle.sub_rules.specs.PacketTests.{breaks, is_enhancement_address, counts_as_repeat};
+ghost use Rattle.sub_rules.specs.PacketTests.{erases_or_may_repeat};
+ghost use Rattle.sub_rules.specs.PacketTests.{is_allowed_page_header, packet_rules};
 
 use crate::listener::Listener;
 use crate::packet_rules::{
@@ -58,50 +58,56 @@ impl Listener {
     {
         let none = RuleSet::none();
         match found {
-            PacketKind::ThisPage(header) => { none.with_earlier_rule(!self.is_subtitle(&header)) }
+            PacketKind::ThisPage(header) => {
+                none.with_earlier_rule(!self.is_allowed_page_header(&header))
+            }
             PacketKind::EndsPage => none,
             PacketKind::Row(row) => {
-                RuleSet::of_row(self.has_even_row(packet), self.has_changed(row, packet))
+                RuleSet::of_row(
+                    self.breaks_parity(packet),
+                    self.breaks_row_changed(row, packet),
+                )
             }
-            PacketKind::Other => RuleSet::of_enhancement(self.is_enhanced(packet)),
+            PacketKind::Other => RuleSet::of_enhancement(self.breaks_enhancement(packet)),
         }
     }
 
     // Returns whether a header of the page has the control bits of a subtitle page, and has C4
     // (erase page) set or is an allowed repeat.
-    fn is_subtitle(&self, header: &Header) -> bool
+    fn is_allowed_page_header(&self, header: &Header) -> bool
         ensures { (heard : List (List ℕ)) → Knows heard self.now
-            → result ≡ is_subtitle_header self.now.watched heard header.now }
+            → result ≡ is_allowed_page_header self.now.watched heard header.now }
     {
-        self.is_allowed_header(header) && has_subtitle_bits(self.watched.national, header)
+        self.erases_or_may_repeat(header) && has_subtitle_bits(self.watched.national, header)
     }
 
     // Returns whether a header of the page has C4 (erase page) set or is an allowed repeat.
-    fn is_allowed_header(&self, header: &Header) -> bool
+    fn erases_or_may_repeat(&self, header: &Header) -> bool
         ensures { (heard : List (List ℕ)) → Knows heard self.now
-            → result ≡ is_allowed_header self.now.watched heard header.now }
+            → result ≡ erases_or_may_repeat self.now.watched heard header.now }
     {
-        is_erasing(header) || (self.watched.keeps && self.repeats_page(header))
+        is_erasing(header) || (self.watched.keeps && self.counts_as_repeat(header))
     }
 
     // Returns whether a header of the page counts as a repeat: it has the sub-code of the page's
     // last header, if there is one; and if complete pages are required, the page is not open.
-    fn repeats_page(&self, header: &Header) -> bool
+    fn counts_as_repeat(&self, header: &Header) -> bool
         ensures { (heard : List (List ℕ)) → Knows heard self.now → result
-            ≡ repeats_page self.now.watched.complete self.now.watched.page heard header.now }
+            ≡ counts_as_repeat self.now.watched.complete self.now.watched.page heard header.now }
     {
         is_same_subcode(self.subcode, header) && !self.is_incomplete()
     }
 
     // Returns whether the page is open and the row has a byte with even parity.
-    fn has_even_row(&self, packet: &Packet) -> bool
+    fn breaks_parity(&self, packet: &Packet) -> bool
         ensures { result ≡ (self.now.is_open && is_some (first_even_parity_byte packet.now)) }
     {
         self.is_open && has_even_byte(packet)
     }
 
-    // Returns whether the page is open and the row was received before with different codes.
-    fn has_changed(&self, row: u8, packet: &Packet) -> bool
+    // Returns whether the page is open and, since it was last erased, the row was first received
+    // with different codes.
+    fn breaks_row_changed(&self, row: u8, packet: &Packet) -> bool
         requires { IsRow row }
         ensures { result ≡ (self.now.is_open && slice_index_or self.now.sent (row - 1) false
             && not (row_difference (row_at self.now.comparison.page row) (codes_of packet.now)
@@ -111,7 +117,7 @@ impl Listener {
     }
 
     // Returns whether the page is open and the packet is a packet X/25 to X/28 of its magazine.
-    fn is_enhanced(&self, packet: &Packet) -> bool
+    fn breaks_enhancement(&self, packet: &Packet) -> bool
         ensures { result
             ≡ (self.now.is_open && is_enhancement_address self.now.watched.page
             (address packet.now)) }

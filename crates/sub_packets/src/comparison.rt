@@ -18,17 +18,17 @@ use ttx_page::{Page, count_differing_columns};
 
 /// The page that the packets show, the expected page, and the number of wrong cells.
 ///
-/// After the expected page has changed, the number is unknown until the next header. From then on,
-/// each row updates it.
+/// After the expected page has changed, the number is unknown until the next header that erases the
+/// page. From then on, each row updates it.
 #[derive(Drop)]
 pub struct Comparison {
     page: Page,
     due: Page,
     // The number of wrong cells, 0 to 960. `None` if the expected page has changed since the last
-    // header; usually a header comes before the number is needed.
+    // header that erased the page; usually such a header comes before the number is needed.
     wrong: Option<u16>,
     // The number of cells in which a blank page differs from the expected page, which is the value
-    // of `wrong` after a header.
+    // of `wrong` after a header that erases the page.
     blank_page_difference_count: u16,
 }
 
@@ -90,7 +90,7 @@ impl Comparison {
         } }
         ensures page { IsPage self.old.page }
     {
-        let before = wrong_columns_in_row(&self.page, &self.due, row);
+        let before = count_wrong_cells_in_row(&self.page, &self.due, row);
         let after = count_differing_columns(codes, self.due.row(row));
         self.page.set_row(row, codes);
         self.wrong = updated_wrong_count(self.wrong, before, after);
@@ -169,7 +169,7 @@ fn is_zero(count: Option<u16>) -> bool
 }
 
 // Returns the number of cells of a row in which two pages differ.
-fn wrong_columns_in_row(page: &Page, due: &Page, row: u8) -> u16
+fn count_wrong_cells_in_row(page: &Page, due: &Page, row: u8) -> u16
     requires { IsRow row }
     ensures value { result ≡ row_difference (row_at page.now row) (row_at due.now row) }
     ensures range { result ≤ 40 }

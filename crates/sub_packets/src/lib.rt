@@ -5,7 +5,7 @@
 //!
 //! ```text
 //! let mut listener = Listener::new(watched, due);
-//! listener.hear_frame_packets(&units, false, 250, 0, &mut taker); // 2 headers of the page
+//! listener.hear_pes_packet(&units, false, 250, 0, &mut taker); // 2 headers of the page
 //! listener.first_wrong(); // Some((22, 7))
 //! ```
 #![tactic(auto)]

@@ -6,7 +6,7 @@ ghost use Rattle.std.specs.Prelude.{◌&&◌, ◌==◌, not, Some};
 ghost use Rattle.std.specs.Prelude.{slice_index_or, slice_set};
 ghost use Rattle.std.specs.List.{filter};
 ghost use Rattle.sub_io.specs.Reporting.{Reports};
-ghost use Rattle.ttx_packet.specs.PageHeader.{HasExactHeader, coded_header, header};
+ghost use Rattle.ttx_packet.specs.PageHeader.{HasExactHeader, decoded_header, header};
 ghost use Rattle.ttx_page.specs.Page.{AreCodes, IsPage, IsRow, blank};
 ghost use Rattle.ttx_page.specs.PacketKind.{begins_text, is_this_page, kind};
 ghost use Rattle.ttx_page.specs.Span.{is_open_after};
@@ -24,7 +24,7 @@ use crate::last_heard::{
     begins_with_header, clean_header_count, has_started, has_started_before, header_count_after,
     stays_clean,
 };
-use crate::packet_rules::{begins_text, first_serial, has_serial_mode, is_serial, text_codes};
+use crate::packet_rules::{begins_text, first_serial, has_first_mode, is_serial, text_codes};
 use crate::rule_set::report_rules;
 use crate::taker::Taker;
 use stl_rows::Programme;
@@ -49,9 +49,10 @@ pub struct Listener {
     pub(crate) is_open: bool,
     // The sub-code of the last header of the page; `None` before a header of the page was received.
     pub(crate) subcode: Option<u16>,
-    // The rows received since the page was last erased; row 1 is at index 0.
+    // The rows received while the page was open, since it was last erased; row 1 is at index 0.
     pub(crate) sent: [bool; 24],
-    // The rows received since the last header of the page; row 1 is at index 0.
+    // The rows received since the last header of the page, while the page was open; row 1 is at
+    // index 0.
     pub(crate) again: [bool; 24],
     /// The page that the packets show, and the expected page.
     pub comparison: Comparison,
@@ -77,7 +78,7 @@ impl Listener {
     ghost use Rattle.sub_packets.specs.StoredPage.{is_kept_page_incomplete};
     ghost use Rattle.sub_packets.specs.Listener.{CanBeSkipped, Knows, KnowsLast};
     ghost use Rattle.sub_packets.specs.Listener.{CanAlwaysBeSkipped};
-    ghost use Rattle.sub_packets.specs.Listener.{begins_frame_with_header};
+    ghost use Rattle.sub_packets.specs.Listener.{frame_has_text_beginning};
     ghost use Rattle.sub_packets.specs.Listener.{can_skip_header, rule_set};
 
     /// Returns the state before the first packet, with the expected page `due`.
@@ -130,7 +131,7 @@ impl Listener {
     /// If packets that begin with a header that erases the page and break no rule are sent again,
     /// they change nothing, so they are not examined.
     #[inline(always)]
-    pub fn hear_frame_packets<A: Taker>(
+    pub fn hear_pes_packet<A: Taker>(
         &mut self,
         units: &SentUnits<'_>,
         again: bool,
@@ -146,7 +147,7 @@ impl Listener {
             → (again ≡ true → last ≡ packets_of_units units.now) → KnowsLast
             (heard ++ packets_of_units units.now) (packets_of_units units.now) self.new
             × (result ≡ header_count self.old.watched.page (packets_of_units units.now))
-            × (self.new.begun ≡ begins_frame_with_header self.old.watched from self.old.begun
+            × (self.new.begun ≡ frame_has_text_beginning self.old.watched from self.old.begun
             (packets_of_units units.now))
             × Reports A.is_reported taker.old taker.new
             (numbered_packet_events self.old.watched frame from heard (packets_of_units units.now)
@@ -176,7 +177,7 @@ impl Listener {
         ensures knows { (heard : List (List ℕ)) → Knows heard self.old → KnowsLast
             (heard ++ packets_of_units units.now) (packets_of_units units.now) self.new
             × (result ≡ header_count self.old.watched.page (packets_of_units units.now))
-            × (self.new.begun ≡ begins_frame_with_header self.old.watched from self.old.begun
+            × (self.new.begun ≡ frame_has_text_beginning self.old.watched from self.old.begun
             (packets_of_units units.now))
             × Reports A.is_reported taker.old taker.new
             (numbered_packet_events self.old.watched frame from heard (packets_of_units units.now)
@@ -243,16 +244,16 @@ impl Listener {
         if packet_number != 0 {
             return self.is_closed_for_magazine(is_open, magazine);
         }
-        if self.is_for_page(is_open, magazine, packet) {
+        if self.affects_page(is_open, magazine, packet) {
             return false;
         }
-        self.skips_header(magazine, packet)
+        self.is_skippable_header(magazine, packet)
     }
 
     // Returns whether a page header in the page's magazine belongs to the page or, if the page is
     // open, ends it. Only the magazine and the page number are compared.
     #[inline(always)]
-    fn is_for_page(&self, is_open: bool, magazine: u8, packet: &SentPacket<'_>) -> bool
+    fn affects_page(&self, is_open: bool, magazine: u8, packet: &SentPacket<'_>) -> bool
         ensures { magazine ≢ self.now.watched.page.magazine → result ≡ false }
     {
         magazine == self.watched.page.magazine()
@@ -272,9 +273,9 @@ impl Listener {
     // Not inlined into `can_be_skipped`, which would then keep fewer values in registers for other
     // packets.
     #[inline(never)]
-    fn skips_header(&self, magazine: u8, packet: &SentPacket<'_>) -> bool
+    fn is_skippable_header(&self, magazine: u8, packet: &SentPacket<'_>) -> bool
         ensures { IsTrue result → HasExactHeader packet.now × ((h : Header)
-            × (coded_header packet.now ≡ Some h)
+            × (decoded_header packet.now ≡ Some h)
             × (can_skip_header magazine h self.now ≡ true)) }
     {
         match packet.exact_header() {
@@ -290,7 +291,7 @@ impl Listener {
         ensures { result ≡ can_skip_header magazine header.now self.now }
     {
         let is_serial = is_serial(header);
-        if !has_serial_mode(self.serial, is_serial) {
+        if !has_first_mode(self.serial, is_serial) {
             return false;
         }
         let is_magazine = magazine == self.watched.page.magazine();
@@ -340,7 +341,7 @@ impl Listener {
     }
 
     // Receives a packet, and returns whether it is a header of the page. If a row is sent several
-    // times, the codes of its first packet are kept.
+    // times before the page is erased, the codes of its first packet are kept.
     #[inline(always)]
     fn hear(&mut self, packet: &Packet, found: PacketKind, page_header: Option<Header>) -> bool
         requires kind { found ≡ kind self.old.watched.page packet.now }
@@ -358,7 +359,7 @@ impl Listener {
                 if begins_text(self.watched.keeps, &found) {
                     self.start(header.subcode);
                 } else {
-                    self.repeat_header(header.subcode);
+                    self.note_repeated_header(header.subcode);
                 }
                 true
             }
@@ -378,7 +379,7 @@ impl Listener {
         }
     }
 
-    // Returns whether the page is open and the row has not been received yet.
+    // Returns whether the page is open and the row has not been received since it was last erased.
     fn is_new_row(&self, row: u8) -> bool
         requires { IsRow row }
         ensures { result
@@ -405,7 +406,7 @@ impl Listener {
     }
 
     // Notes a header that does not erase the page: the text stays, and each row must be sent again.
-    fn repeat_header(&mut self, subcode: u16)
+    fn note_repeated_header(&mut self, subcode: u16)
         ensures { self.new ≡ record self.old {
           is_open = true;
           subcode = Some subcode;

@@ -7,7 +7,7 @@ ghost use Rattle.ttx_packet.specs.RowPacket.{first_even_parity_byte};
 ghost use Rattle.ttx_packet.specs.declared.header.Header.{Header};
 ghost use Rattle.ttx_page.specs.Page.{AreCodes};
 ghost use Rattle.ttx_page.specs.PacketKind.{begins_text};
-ghost use Rattle.sub_packets.specs.Listener.{has_serial_mode};
+ghost use Rattle.sub_packets.specs.Listener.{has_first_mode};
 ghost use Rattle.sub_plan.specs.Sending.{national_bits};
 ghost use Rattle.sub_rules.specs.PacketRules.{codes_of};
 ghost use Rattle.sub_rules.specs.PacketTests.{are_code_words, is_enhancement_address};
@@ -91,7 +91,7 @@ pub(crate) fn first_serial(serial: Option<bool>, page_header: Option<Header>) ->
 }
 
 /// Returns whether `control` has the control bit `flag`.
-fn is_bit(control: Control, flag: Control) -> bool
+fn has_bit(control: Control, flag: Control) -> bool
     ensures { result ≡ is_flag_set control flag.0 }
 {
     control.contains(flag)
@@ -102,9 +102,9 @@ fn national_bits(header: &Header) -> NationalBits
     ensures { result ≡ national_bits header.now }
 {
     NationalBits {
-        c12: is_bit(header.control, Control::C12),
-        c13: is_bit(header.control, Control::C13),
-        c14: is_bit(header.control, Control::C14),
+        c12: has_bit(header.control, Control::C12),
+        c13: has_bit(header.control, Control::C13),
+        c14: has_bit(header.control, Control::C14),
     }
 }
 
@@ -116,8 +116,8 @@ pub(crate) fn is_same_bit(one: bool, other: bool) -> bool
 
 /// Returns whether `is_serial` equals C11 of the first page header; `false` before a page header
 /// was received.
-pub(crate) fn has_serial_mode(serial: Option<bool>, is_serial: bool) -> bool
-    ensures { result ≡ has_serial_mode serial is_serial }
+pub(crate) fn has_first_mode(serial: Option<bool>, is_serial: bool) -> bool
+    ensures { result ≡ has_first_mode serial is_serial }
 {
     match serial {
         Some(first) => is_same_bit(first, is_serial),
@@ -129,7 +129,7 @@ pub(crate) fn has_serial_mode(serial: Option<bool>, is_serial: bool) -> bool
 pub(crate) fn is_erasing(header: &Header) -> bool
     ensures { result ≡ c4 header.now }
 {
-    is_bit(header.control, Control::C4)
+    has_bit(header.control, Control::C4)
 }
 
 /// Returns whether a packet of this kind erases the page. If C4 (erase page) must always be set,
@@ -161,10 +161,10 @@ pub(crate) fn has_subtitle_bits(national: National, header: &Header) -> bool
     ensures { result ≡ has_subtitle_bits national header.now }
 {
     let control = header.control;
-    !is_bit(control, Control::C5)
-        && is_bit(control, Control::C6)
-        && is_bit(control, Control::C7)
-        && !is_bit(control, Control::C10)
+    !has_bit(control, Control::C5)
+        && has_bit(control, Control::C6)
+        && has_bit(control, Control::C7)
+        && !has_bit(control, Control::C10)
         && national_bits(header) == national.bits()
 }
 
@@ -184,7 +184,7 @@ pub(crate) fn is_enhancement(page: PageId, packet: &Packet) -> bool
 pub(crate) fn has_even_byte(packet: &Packet) -> bool
     ensures { result ≡ is_some (first_even_parity_byte packet.now) }
 {
-    packet.first_even().is_some()
+    packet.first_even_parity_column().is_some()
 }
 
 /// Returns the 40 codes of a row: its bytes without their parity bits.

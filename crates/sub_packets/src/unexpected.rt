@@ -39,8 +39,8 @@ impl Listener {
     }
 }
 
-// Returns the page with a space for each code that was expected in its cell within the last
-// `within` frames.
+// Returns the page with a space for each code that was expected in its cell at `frame` or at one of
+// the `within` frames before. Frames before `first` do not count.
 fn page_without_due_codes(
     shown: &Page,
     programme: &Programme,
@@ -54,7 +54,7 @@ fn page_without_due_codes(
     let mut left = *shown;
     blank_due_cells(&mut left, &programme.due_page(frame));
     let mut at = frame;
-    while let Some(before) = last_edge_before(programme, at, least) {
+    while let Some(before) = frame_before_last_edge(programme, at, least) {
         blank_due_cells(&mut left, &programme.due_page(before));
         at = before;
     }
@@ -73,7 +73,7 @@ fn earliest(first: u32, frame: u32, within: u32) -> u32
 
 // Returns the last frame before the last cue at or before `at`; `None` if there is no such cue, or
 // if that frame is before `least`.
-fn last_edge_before(programme: &Programme, at: u32, least: u32) -> Option<u32>
+fn frame_before_last_edge(programme: &Programme, at: u32, least: u32) -> Option<u32>
     ensures { MatchOption result
         ((f : ℕ) → least ≤ f → f ≤ at → due_page_in programme.now f ≡ due_page_in programme.now at)
         (λ before. (least ≤ before) × (before < at)

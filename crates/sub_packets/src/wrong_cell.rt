@@ -22,8 +22,9 @@ impl Listener {
     }
 
     /// Returns the row (1 to 24) and column (0 to 39) of the first wrong cell. A cell is wrong if
-    /// it differs from the expected page, or if its row has text and was not sent since the last
-    /// header of the page, although repeats may have C4 (erase page) clear.
+    /// it differs from the expected page. If repeats may have C4 (erase page) clear, a cell whose
+    /// expected code is not a space is also wrong if its row was not sent since the last header of
+    /// the page.
     pub fn first_wrong(&self) -> Option<(u8, u8)>
         ensures { result ≡ first_wrong_kept_cell self.now }
     {

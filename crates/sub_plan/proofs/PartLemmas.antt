@@ -16,7 +16,7 @@ use Rattle.stl_rows.specs.declared.national.National.{National}
 use Rattle.sub_plan.specs.Options.{OptionsValue}
 use Rattle.sub_plan.specs.Schedule.{sending_at}
 use Rattle.sub_plan.specs.Sending.{sending}
-use Rattle.sub_plan.specs.Steps.{packets_at, steps}
+use Rattle.sub_plan.specs.Steps.{pes_packet_bytes_at, steps}
 use Rattle.sub_plan.proofs.ScheduleBases.{property_holds_on_range}
 use Rattle.sub_plan.proofs.StepLemmas.{IsIntervalOfOnePage}
 
@@ -84,16 +84,16 @@ equal_functions_flat_map_equally f g (x ∷ xs) h =
 pub stretch-bytes : (due : ℕ → Rows) (o : OptionsValue) (national : National) (serial : Bool)
     (first b end last : ℕ)
     → IsIntervalOfOnePage due first b end last
-    → flat_map (packets_at o.origin (sending o.page national serial (due b)))
+    → flat_map (pes_packet_bytes_at o.origin (sending o.page national serial (due b)))
     (steps o.every b end)
     ≡ flat_map (sending_at due o national serial) (steps o.every b end)
 unfolding steps
 stretch-bytes due o national serial first b end last s =
-    let own = packets_at o.origin (sending o.page national serial (due b)) in
+    let own = pes_packet_bytes_at o.origin (sending o.page national serial (due b)) in
     let at = sending_at due o national serial in
     equal_functions_flat_map_equally own at
     (filter (λ f. (f - b) % o.every == 0) (range_with_len b (end - b)))
     (All-filter (λ f. (f - b) % o.every == 0) (λ f. own f ≡ at f) (range_with_len b (end - b))
     (property_holds_on_range (λ f. own f ≡ at f) b (end - b)
-    (λ j low high. ap (λ page. packets_at o.origin (sending o.page national serial page) j)
+    (λ j low high. ap (λ page. pes_packet_bytes_at o.origin (sending o.page national serial page) j)
     (sym (s.same j low (omega (arith, s.some)))))))

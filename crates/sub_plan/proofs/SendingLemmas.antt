@@ -304,8 +304,9 @@ module _ (w : PageIdValue) (national : National) (serial : Bool) (page : Rows) (
             row_packet_has_row_kind,
           )
 
--- By induction over the page transmissions, packets before the last header of the page have no
--- effect on the rows shown.
+-- If page transmissions are cut anywhere, the packets since the last header of the page are rows of
+-- one page. The proof is by induction over the page transmissions: the last one that has a header
+-- decides.
 pub law_of_cut_sendings : LawOfCutSendings
 law_of_cut_sendings w national serial due [] n ok shape =
     rw (take_all {A = List ℕ} n [] (omega arith))

@@ -12,7 +12,7 @@ use Rattle.std.proofs.lemmas.List.Elements.{All-from_get_or}
 use Rattle.ttx_packet.specs.declared.header.Header.{Header}
 use Rattle.ttx_packet.specs.Hamming84.{code_word}
 use Rattle.ttx_packet.specs.PacketAddress.{IsPacket, address_code_words}
-use Rattle.ttx_packet.specs.PageHeader.{header_numbers, header_packet, IsHeader}
+use Rattle.ttx_packet.specs.PageHeader.{header_numbers, header_packet, IsEncodableHeader}
 use Rattle.ttx_packet.specs.PageId.{PageIdValue}
 use Rattle.ttx_packet.specs.Parity.{odd_parity_byte}
 use Rattle.ttx_packet.specs.RowPacket.{row_packet}
@@ -70,10 +70,10 @@ row_codes_make_packet magazine row codes size all =
     (All-weaker (λ c. c < 0x80) (λ c. odd_parity_byte c < 0x100) odd_byte_is_byte codes all))
 
 watched_header_is_header : (w : PageIdValue) (national : National) (serial : Bool) → IsWatchable w
-    → IsHeader (watched_header w national serial)
+    → IsEncodableHeader (watched_header w national serial)
 watched_header_is_header w national serial ok = grind (arith, nat_tests, bit_is_below_two)
 
-closing_header_is_header : (serial : Bool) → IsHeader (closing_header serial)
+closing_header_is_header : (serial : Bool) → IsEncodableHeader (closing_header serial)
 closing_header_is_header serial = grind (arith, nat_tests, bit_is_below_two)
 
 abbrev pub watched_header_packet : PageIdValue → National → Bool → List ℕ

@@ -14,33 +14,35 @@ abbrev pub page_888 : PageIdValue
 page_888 = record { magazine = 0; page = 0x88 }
 
 -- A header packet of page 888: ten coded bytes, the last of them `last`, and 32 spaces.
-abbrev pub header_of_888_ending_with : ℕ → List ℕ
-header_of_888_ending_with last =
+abbrev pub header_of_888_with_last_coded_byte : ℕ → List ℕ
+header_of_888_with_last_coded_byte last =
     (0x15 ∷ 0x15 ∷ 0xD0 ∷ 0xD0 ∷ 0x15 ∷ 0xD0 ∷ 0x15 ∷ 0xD0 ∷ 0x02 ∷ last ∷ []) ++ replicate 32 0x20
 
--- The header of page 888 with a national option ends with these coded bytes in parallel and in
--- serial mode. The last coded byte has C11 to C14 as its four data bits.
-abbrev pub HasLastHeaderBytes : National → ℕ → ℕ → Type 0
-HasLastHeaderBytes national parallel serial =
-    (header_packet 0 (watched_header page_888 national false) ≡ header_of_888_ending_with parallel)
-    × (header_packet 0 (watched_header page_888 national true) ≡ header_of_888_ending_with serial)
+-- The last coded byte of the header of page 888 with a national option is `parallel` in parallel
+-- mode and `serial` in serial mode. Its four data bits are C11 to C14.
+abbrev pub HasLastCodedByte : National → ℕ → ℕ → Type 0
+HasLastCodedByte national parallel serial =
+    (header_packet 0 (watched_header page_888 national false)
+    ≡ header_of_888_with_last_coded_byte parallel)
+    × (header_packet 0 (watched_header page_888 national true)
+    ≡ header_of_888_with_last_coded_byte serial)
 
 -- The header of page 888 for each national option, in parallel and in serial mode.
 abbrev pub ExampleOfWatchedHeaders : Type 0
 ExampleOfWatchedHeaders =
-    HasLastHeaderBytes English 0x15 0x02
-    × HasLastHeaderBytes German 0xD0 0xC7
-    × HasLastHeaderBytes Swedish 0x64 0x73
-    × HasLastHeaderBytes Italian 0xA1 0xB6
-    × HasLastHeaderBytes French 0x49 0x5E
-    × HasLastHeaderBytes Spanish 0x8C 0x9B
-    × HasLastHeaderBytes Czech 0x38 0x2F
-    × HasLastHeaderBytes Polish 0x15 0x02
-    × HasLastHeaderBytes Turkish 0x38 0x2F
-    × HasLastHeaderBytes Croatian 0x8C 0x9B
-    × HasLastHeaderBytes Romanian 0xFD 0xEA
-    × HasLastHeaderBytes Estonian 0x64 0x73
-    × HasLastHeaderBytes Lithuanian 0xA1 0xB6
+    HasLastCodedByte English 0x15 0x02
+    × HasLastCodedByte German 0xD0 0xC7
+    × HasLastCodedByte Swedish 0x64 0x73
+    × HasLastCodedByte Italian 0xA1 0xB6
+    × HasLastCodedByte French 0x49 0x5E
+    × HasLastCodedByte Spanish 0x8C 0x9B
+    × HasLastCodedByte Czech 0x38 0x2F
+    × HasLastCodedByte Polish 0x15 0x02
+    × HasLastCodedByte Turkish 0x38 0x2F
+    × HasLastCodedByte Croatian 0x8C 0x9B
+    × HasLastCodedByte Romanian 0xFD 0xEA
+    × HasLastCodedByte Estonian 0x64 0x73
+    × HasLastCodedByte Lithuanian 0xA1 0xB6
 
 -- The closing header of magazine 8, in parallel and in serial mode.
 abbrev pub ExampleOfClosingHeaders : Type 0

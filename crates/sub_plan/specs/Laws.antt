@@ -26,7 +26,7 @@ use Rattle.sub_plan.specs.Sending.{sending, watched_header}
 -- ---- laws of one page transmission
 
 -- Whatever was sent before, a page transmission shows the page from which it was made. So a
--- receiver of the complete transmission shows the expected page.
+-- receiver of the complete transmission has the expected page.
 abbrev pub LawOfSending : Type 0
 LawOfSending =
     (w : PageIdValue) (national : National) (serial : Bool) (page : Rows) (before : List (List ℕ))
@@ -36,9 +36,9 @@ LawOfSending =
     → IsCell row column
     → shown w (before ++ sending w national serial page) row column ≡ cell page row column
 
--- A packet of a page transmission: 42 bytes; all code words without a wrong bit; in each header,
--- C11 as the transmission mode requires; and any header of the page is the header of this
--- transmission.
+-- A packet of a page transmission: 42 bytes; in the address bytes and in the coded bytes of a
+-- header, code words without a wrong bit; in each header, C11 as the transmission mode requires;
+-- and any header of the page is the header of this transmission.
 pub record IsSentPacket
     (w : PageIdValue) (national : National) (serial : Bool) (packet : List ℕ) : Type 0 where
   pub whole : IsPacket packet
@@ -150,8 +150,9 @@ pub record IsLastSending (due : ℕ → Rows) (every first last f g : ℕ) : Typ
   pub no_later_match : (k : ℕ) → g < k → k ≤ f → IsFalse (is_sending due every first last k)
   pub same : due g ≡ due f
 
--- From the first frame on, each frame has a page transmission at or before it, and the last of
--- these shows the page expected at the frame. So the last transmission is never out of date.
+-- From the first frame to the last, each frame has a page transmission at or before it, and the
+-- last of these shows the page expected at the frame. So the last transmission is never out of
+-- date.
 abbrev pub LawOfLastSending : Type 0
 LawOfLastSending =
     (due : ℕ → Rows) (every first last f : ℕ)

@@ -10,5 +10,5 @@ unfoldable pub steps : ℕ → ℕ → ℕ → List ℕ
 steps every from end = filter (λ f. (f - from) % every == 0) (range_with_len from (end - from))
 
 -- The bytes of a PES packet that carries Teletext packets at a frame.
-abbrev pub packets_at : ℕ → List (List ℕ) → ℕ → List ℕ
-packets_at origin packets frame = canonical_packet (pes_value origin packets frame)
+abbrev pub pes_packet_bytes_at : ℕ → List (List ℕ) → ℕ → List ℕ
+pes_packet_bytes_at origin packets frame = canonical_packet (pes_value origin packets frame)

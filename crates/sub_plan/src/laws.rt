@@ -9,14 +9,14 @@ ghost use Rattle.sub_plan.specs.Laws.{LawOfLastSending, LawOfPesValues, LawOfSen
 ghost use Rattle.sub_plan.specs.Laws.{LawOfClock, LawOfExactClock, LawOfNearClock};
 ghost use Rattle.sub_plan.specs.Laws.{LawOfSendings, LawOfSentPackets, LawOfSize};
 
-/// Whatever was sent before, a receiver shows after a page transmission the page from which the
-/// transmission was made.
+/// Whatever was sent before, a page transmission shows the page from which it was made.
 pub fn law_of_sending()
     ensures { LawOfSending }
 {}
 
-/// Each packet of a page transmission is complete, consists of code words, and has C11 as the
-/// transmission mode requires. Its only header of the page is the header of the transmission.
+/// Each packet of a page transmission has 42 bytes, its address bytes and the coded bytes of a
+/// header are code words without a wrong bit, and each header has C11 as the transmission mode
+/// requires. Its only header of the page is the header of the transmission.
 pub fn law_of_sent_packets()
     ensures { LawOfSentPackets }
 {}
@@ -53,7 +53,7 @@ pub fn law_of_equal_pages()
     ensures { LawOfEqualPages }
 {}
 
-/// The last page transmission up to a frame shows the page expected at that frame.
+/// The last page transmission up to a frame of a schedule shows the page expected at that frame.
 pub fn law_of_last_sending()
     ensures { LawOfLastSending }
 {}

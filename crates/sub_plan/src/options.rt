@@ -1,5 +1,5 @@
-//! The options of a schedule and of checking a schedule: the page, the repeat bound, the PTS of
-//! frame 0, the time until the page must be right, and the maximum distance of PES packets.
+//! The options of a schedule and of checking a schedule, such as the page, the repeat bound and the
+//! PTS of frame 0.
 ghost use Rattle.std.specs.Prelude.{◌≡◌, ◌≢◌, ℕ, ◌^◌, ◌<◌, ◌≤◌, ◌↔◌, ◌⊎◌, None, Some, Err};
 ghost use Rattle.std.specs.Prelude.{IfErr, IfOk, false, true};
 ghost use Rattle.stl_file.specs.TimeCode.{day};
@@ -18,8 +18,8 @@ const TICKS_PER_FRAME: u64 = 3600;
 /// One more than the greatest PTS, which has 33 bits.
 const PTS_END: u64 = 8_589_934_592;
 
-/// The number of frames of a day at 25 frames per second. A PES file has at most one PES packet per
-/// frame.
+/// The number of frames of a day at 25 frames per second. A PES file has at most as many PES
+/// packets.
 const FRAMES_PER_DAY: u64 = MAX_PES_PACKETS as u64;
 
 /// The greatest repeat bound and the greatest pace in frames: a day.
@@ -134,8 +134,8 @@ impl Options {
         })
     }
 
-    /// Also requires complete pages: at the end of each frame, a later header has ended the page,
-    /// since decoders show a page only after that header.
+    /// Also requires complete pages: at the end of each frame at which the page must be right, a
+    /// later header has ended it, since some decoders show a page only after that header.
     pub fn asking_complete(self) -> Options
         ensures { result ≡ record self { asks_complete = true } }
     {
@@ -182,7 +182,8 @@ impl Options {
     }
 
     /// Also requires that PES packets are at most this many frames apart, 1 to 2,160,000, a day. So
-    /// every loss of PES packets is detected, even a long one.
+    /// a loss that leaves two PES packets further apart is detected, even if so many TS packets are
+    /// missing that their continuity counter shows no gap.
     ///
     /// # Errors
     ///
@@ -277,7 +278,7 @@ impl Options {
         if self.within == 0 {
             exact_frame(self.origin, pts)
         } else {
-            nearest_frame(self.origin, pts)
+            frame_including_pts(self.origin, pts)
         }
     }
 }
@@ -303,7 +304,7 @@ fn exact_frame(origin: u64, pts: u64) -> Option<u32>
 
 // Returns the frame of the day whose ticks include this PTS; they begin 900 ticks before the
 // frame's own PTS.
-fn nearest_frame(origin: u64, pts: u64) -> Option<u32>
+fn frame_including_pts(origin: u64, pts: u64) -> Option<u32>
     requires { origin < 2 ^ 33 }
     ensures { result ≡ frame_with_tolerance origin pts }
 {

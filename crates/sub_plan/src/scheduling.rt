@@ -8,7 +8,7 @@ ghost use Rattle.sub_plan.specs.Fault.{is_plan_write_failure};
 ghost use Rattle.sub_plan.specs.declared.fault.PlanFault.TheVariants.{NoSubtitles};
 ghost use Rattle.stl_file.specs.TimeCode.{day};
 ghost use Rattle.sub_plan.specs.Schedule.{due_page_in, plan, plan_frames, sendings, sendings_at};
-ghost use Rattle.sub_plan.specs.Steps.{packets_at, steps};
+ghost use Rattle.sub_plan.specs.Steps.{pes_packet_bytes_at, steps};
 
 use crate::fault::PlanFault;
 use crate::options::Options;
@@ -30,15 +30,15 @@ fn put_at<K: Sink>(
     requires few { length packets.now ≤ 32 }
     requires count { CanFail (K.failure_count sink.old) }
     ensures bytes { Writes (K.contents sink.old) (K.contents sink.new)
-        (packets_at options.now.origin packets.now frame) result }
+        (pes_packet_bytes_at options.now.origin packets.now frame) result }
     ensures count { CountsFailure (K.failure_count sink.old) result (K.failure_count sink.new) }
 {
     let mut repeated_sending = RepeatedPacket::from_packets(packets);
-    repeat_at(sink, options, frame, &mut repeated_sending)
+    put_packet_at(sink, options, frame, &mut repeated_sending)
 }
 
-// Writes a page transmission at a frame, repeated from an earlier frame.
-fn repeat_at<K: Sink>(
+// Writes a page transmission as a PES packet with the PTS of a frame.
+fn put_packet_at<K: Sink>(
     sink: &mut K,
     options: &Options,
     frame: u32,
@@ -48,7 +48,7 @@ fn repeat_at<K: Sink>(
     requires count { CanFail (K.failure_count sink.old) }
     ensures bytes { (packets : List (List ℕ)) → packet.old.units ≡ numbered_units 0 packets
         → Writes (K.contents sink.old) (K.contents sink.new)
-        (packets_at options.now.origin packets frame) result }
+        (pes_packet_bytes_at options.now.origin packets frame) result }
     ensures units { packet.new.units ≡ packet.old.units }
     ensures count { CountsFailure (K.failure_count sink.old) result (K.failure_count sink.new) }
 {
@@ -80,7 +80,8 @@ fn send_steps<K: Sink>(
     ensures few { IfOk result (λ n. n ≤ end - from) }
     ensures number { IfOk result (λ n. n ≡ length (steps options.now.every from end)) }
     ensures bytes { Writes (K.contents sink.old) (K.contents sink.new) (flat_map
-        (packets_at options.now.origin packets.now) (steps options.now.every from end)) result }
+        (pes_packet_bytes_at options.now.origin packets.now)
+        (steps options.now.every from end)) result }
     ensures count { CountsFailure (K.failure_count sink.old) result (K.failure_count sink.new) }
 {
     let every = repeat_interval(options);
@@ -88,15 +89,16 @@ fn send_steps<K: Sink>(
     let mut frame = from;
     let mut count = 0;
     while frame < end {
-        repeat_at(sink, options, frame, &mut packet)?;
+        put_packet_at(sink, options, frame, &mut packet)?;
         count += 1;
         frame += every;
     }
     Ok(count)
 }
 
-// Returns the first frame after `frame` with a different expected page, or `last` if no page
-// differs; and the expected page at the returned frame. Draws the page only at cues.
+// Returns the first frame after `frame` with a different expected page, or `last` if no page before
+// `last` differs; and the expected page at the returned frame. Draws the page only at cues and at
+// `last`.
 fn next_change(programme: &Programme, frame: u32, page: &Page, last: u32) -> (u32, Page)
     requires within { frame < last }
     requires page { page.now ≡ due_page_in programme.now frame }
@@ -163,11 +165,11 @@ fn send_all<K: Sink>(
 /// Writes the schedule of a programme, from the first TCI to the last TCO, and returns the number
 /// of page transmissions.
 ///
-/// Each page transmission is one PES packet (EN 300 472): the header of the page, its rows and the
-/// closing header. The frames with a page transmission are the first frame, each frame at which the
-/// expected page changes, every `every` frames between two of these frames, and the last frame.
-/// `serial` sets C11, magazine serial, in all headers. The expected page is drawn only at cues, and
-/// nothing is kept in memory.
+/// Each page transmission is one PES packet (EN 300 472): the header of the page, its rows with
+/// text and the closing header. The frames with a page transmission are the first frame, each frame
+/// at which the expected page changes, every `every` frames between two of these frames, and the
+/// last frame. `serial` sets C11, magazine serial, in all headers. The expected page is drawn only
+/// at cues, and the schedule is not kept in memory.
 ///
 /// # Errors
 ///

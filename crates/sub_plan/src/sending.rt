@@ -12,13 +12,13 @@ use ttx_page::Page;
 
 /// The maximum number of packets of a page transmission: the header of the page, 24 rows and the
 /// closing header.
-const MAX_PES_PACKETS: usize = 26;
+const MAX_TRANSMISSION_PACKETS: usize = 26;
 
 /// The packets of one page transmission, in the order of transmission.
 #[derive(Drop)]
 pub(crate) struct PageSending {
     // The packets, of which only the first `count` are used.
-    packets: [Packet; MAX_PES_PACKETS],
+    packets: [Packet; MAX_TRANSMISSION_PACKETS],
     count: usize,
 }
 
@@ -38,7 +38,7 @@ impl PageSending {
         ensures { result ≡ packet ∷ [] }
     {
         PageSending {
-            packets: [packet; MAX_PES_PACKETS],
+            packets: [packet; MAX_TRANSMISSION_PACKETS],
             count: 1,
         }
     }

@@ -37,7 +37,7 @@ impl<'a> Model for PesInput<'a> {
 }
 
 impl<'a> PesInput<'a> {
-    /// Returns the name of the file with PES packets.
+    /// Returns the name of the file that has PES packets or a transport stream.
     pub fn name(&self) -> &'a str
         ensures { result.now ≡ self.now }
     {
@@ -71,9 +71,10 @@ pub enum FileNames<'a> {
     None,
     /// The request reads a subtitle file.
     ReadStl(StlInput<'a>),
-    /// The request reads a file with PES packets.
+    /// The request reads a file of PES packets or a transport stream.
     ReadPes(PesInput<'a>),
-    /// The request reads a subtitle file and a file with PES packets.
+    /// The request reads a subtitle file, and PES packets from a file of PES packets or from a
+    /// transport stream.
     ReadBoth(StlInput<'a>, PesInput<'a>),
     /// The request reads a subtitle file and writes another file.
     Write(StlInput<'a>, Output<'a>),

@@ -31,8 +31,8 @@ pub enum ReceiverKind {
 #[derive(Drop)]
 pub struct Listening {
     /// The options of the run: the page to which the receiver is tuned, the PTS of frame 0, whether
-    /// complete pages are required, and `within`, which decides the frame of a PTS. The repeat
-    /// bound is not used.
+    /// complete pages are required, and `within`, which decides the frame of a PTS. The other
+    /// options are not used.
     pub options: Options,
     /// The last frame that is received, as a frame of the day (the argument TIME).
     pub at: u32,

@@ -13,7 +13,8 @@ use thiserror::Error;
 /// A fault for which the program cannot carry out the request in its arguments. The order of the
 /// variants is the order of reports.
 ///
-/// The program does not print the texts below, but the lines of `say`.
+/// The program does not print the texts below. `print_usage_fault` of `sub_answer` prints a line
+/// with the fault's number and name.
 #[derive(Debug, Drop, Error)]
 pub enum UsageFault {
     /// Fault code 0: the arguments are no valid command line.
@@ -163,9 +164,9 @@ pub enum Request<'a> {
         stl: &'a str,
         /// The PES packets to check.
         pes: PesSelection<'a>,
-        /// The options of the check: the page, the repeat bound, the PTS of frame 0, whether
-        /// complete pages are required, and the number of frames within which the page must be
-        /// right.
+        /// The options of the check: the page, the repeat bound, the PTS of frame 0, the pace,
+        /// whether complete pages are required, the number of frames within which the page must be
+        /// right, and whether repeats may keep the page.
         options: Options,
         /// The national option of the subtitles' text.
         national: National,
@@ -195,7 +196,7 @@ pub enum Request<'a> {
     },
     /// `survey RECORDING`: lists the contents of a recording.
     Survey {
-        /// The name of the recording, a transport stream.
+        /// The name of the recording, a transport stream or a file of PES packets.
         recording: &'a str,
         /// The page, the PID and the packet size to survey.
         options: SurveyOptions,

@@ -65,7 +65,7 @@ module _ (test : Event → Bool)
           ∙ list_any_ignores_failing_tail _ _ (packet_events_fail_test _ _ _ _ _ _) ∙
           list_any_ignores_failing_tail _ _ (gap_events_fail_test i _)
 
--- The event has a PES packet number other than `pes`, or reports trusted frames.
+-- The event reports a fault of a PES packet with a number other than `pes`, or trusted frames.
 abbrev pub has_other_pes_number : ℕ → Event → Bool
 has_other_pes_number pes (Reported (fault.Order index)) = not (index == pes)
 has_other_pes_number pes (Reported (fault.Pes index f)) = not (index == pes)

@@ -11,7 +11,7 @@ use lib.Count.{ones_in}
 use Rattle.ttx_packet.specs.Hamming84.{code_word}
 use Rattle.ttx_packet.specs.Parity.{is_odd, character_code}
 use Rattle.ttx_packet.specs.PacketAddress.{address, HasExactAddress, IsPacket}
-use Rattle.ttx_packet.specs.RowPacket.{HasOddText}
+use Rattle.ttx_packet.specs.RowPacket.{HasOddParityText}
 use Rattle.ttx_packet.proofs.Hamming84Lemmas.{decoded_nibble-code_word}
 use Rattle.sub_rules.specs.PacketRules.{codes_of}
 
@@ -79,8 +79,8 @@ pub same_packet :
     → HasExactAddress p
     → HasExactAddress q
     → address p ≡ address q
-    → HasOddText p
-    → HasOddText q
+    → HasOddParityText p
+    → HasOddParityText q
     → map character_code (drop 2 p) ≡ map character_code (drop 2 q)
     → p ≡ q
 same_packet p q wp wq xp xq a op oq codes =

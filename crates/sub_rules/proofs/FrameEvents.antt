@@ -6,7 +6,8 @@ use Rattle.sub_rules.specs.FrameRules.{Criteria, frame_at, packets_before, packe
 use Rattle.sub_rules.specs.Transmission.{Transmission}
 use Rattle.sub_rules.specs.declared.event.Event.{Event}
 
--- `gap_events` are the events at the ends of n frames without a PES packet.
+-- The events at the ends of the n frames without a PES packet that follow the first i frames of the
+-- transmission.
 unfoldable pub gap_events : Criteria → Transmission → ℕ → ℕ → List Event
 gap_events g frames i zero = []
 gap_events g frames i (suc n) =
@@ -29,7 +30,7 @@ events_of_first_frames g frames zero = []
 events_of_first_frames g frames (suc n) = events_of_first_frames g frames n ++ frame_events g frames
     n
 
--- `events` are all events of a transmission, if each frame is one PES packet.
+-- All events of a transmission in which each frame is one PES packet.
 unfoldable pub events : Criteria → Transmission → List Event
 events g frames =
     events_of_first_frames g frames (length frames) ++ closing_events g frames (length frames)

@@ -22,7 +22,7 @@ use Rattle.sub_rules.specs.PesPacketEvents.{skipped_run_after_events, steps_of_c
 use Rattle.sub_rules.specs.PesPacketEvents.{steps_of_each}
 use Rattle.sub_rules.specs.PesPacketEvents.{steps_of_pes_packets, steps_of_sent}
 use Rattle.sub_rules.specs.PesPacketEvents.{steps_of_pending_end}
-use Rattle.sub_rules.specs.PesPacketEvents.{reported_of_pes_packets, until_skipped}
+use Rattle.sub_rules.specs.PesPacketEvents.{ungrouped_events_of_pes_packets, until_skipped}
 use Rattle.sub_rules.specs.PesPackets.{PesPacket, frames_of, read_until_skipped, sent_after}
 use Rattle.sub_rules.specs.PesPackets.PesPacket.{Skipped, Sent}
 use Rattle.sub_rules.specs.Transmission.{Transmission}
@@ -205,7 +205,7 @@ first_faults_agree : (g : Criteria) (pes_packets : List PesPacket) → g.within 
     → first_reported_fault (all_events_of_pes_packets g pes_packets)
     ≡ first_reported_fault (events (until_skipped g pes_packets) (read_until_skipped pes_packets
     g.unread).frames)
-unfolding all_events_of_pes_packets reported_of_pes_packets events events_of_first_frames
+unfolding all_events_of_pes_packets ungrouped_events_of_pes_packets events events_of_first_frames
     current_pes
 first_faults_agree g pes_packets at_once =
     let frames = frames_of pes_packets in

@@ -88,7 +88,7 @@ answer_reads_pes_packet : (clock : Clock) (n : ℕ) (bytes : List ℕ) (pes_pack
 answer_reads_pes_packet clock n bytes pes_packets unread pes_packet answer few reads is by =
     grind (arith, nat_tests, pes_packets_at-next clock n bytes answer few is)
 
--- A valid PES packet is sent if its PTS belongs to a frame.
+-- A valid PES packet whose PTS belongs to a frame is read as sent in that frame.
 pub valid_answer_reads_sent_packet : (clock : Clock) (n : ℕ) (bytes : List ℕ)
     (pes_packets : List PesPacket)
     (unread : Option UnreadReason) (v : PesValue) (frame : ℕ)
@@ -115,7 +115,7 @@ unfolding pes_packet_of
 off_frame_answer_reads_skipped_packet clock n bytes pes_packets unread v few reads is none =
     grind (arith, nat_tests, answer_reads_pes_packet)
 
--- An invalid PES packet is skipped.
+-- A PES packet with a fault in its contents is skipped.
 pub bad_answer_reads_skipped_packet : (clock : Clock) (n : ℕ) (bytes : List ℕ)
     (pes_packets : List PesPacket)
     (unread : Option UnreadReason) (f : PesFault)
@@ -138,7 +138,8 @@ pub end_answer_leaves_no_packets : (clock : Clock) (n : ℕ) (bytes : List ℕ)
 end_answer_leaves_no_packets clock n bytes pes_packets unread few reads is =
     grind (arith, nat_tests, pes_packets_at-next clock n bytes (Ok None) few is)
 
--- If the bytes left do not begin with a PES packet, no packet is left, and `unread` has the fault.
+-- If the reader returns a fault that is not in the contents of a PES packet, no packet is left, and
+-- `unread` has the fault.
 pub failed_answer_leaves_no_packets : (clock : Clock) (n : ℕ) (bytes : List ℕ)
     (pes_packets : List PesPacket)
     (unread : Option UnreadReason) (f : PesFault)
@@ -150,7 +151,7 @@ pub failed_answer_leaves_no_packets : (clock : Clock) (n : ℕ) (bytes : List �
 failed_answer_leaves_no_packets clock n bytes pes_packets unread f few reads is kind =
     grind (arith, nat_tests, pes_packets_at-next clock n bytes (Err f) few is)
 
--- A fault of a PES packet is never a failure of the source.
+-- A fault in the contents of a PES packet is never a failure of the source.
 pub packet_fault_is_no_read_failure : (f : PesFault) → is_packet_content_fault f ≡ true →
     is_read_fault f ≡ false
 packet_fault_is_no_read_failure f kind = grind (arith, nat_tests)
@@ -197,7 +198,9 @@ both_rests_give_the_same_file : (clock : Clock) (given : ℕ) (bytes : List ℕ)
 both_rests_give_the_same_file clock given bytes answer is = grind
     (arith, nat_tests, value_leaves_rest)
 
--- A file that ends at its first skipped packet is its first packet, followed by such a file.
+-- The frames of a file up to its first skipped packet are the frame of the reader's next PES
+-- packet, followed by those of the remaining bytes; there are none if the reader returns a fault or
+-- the end of the file.
 pub file_at-next :
     (clock : Clock) (given : ℕ) (bytes : List ℕ)
     → given ≤ max_pes_packets

@@ -20,7 +20,7 @@ use Rattle.sub_rules.specs.Transmission.{SentFrame, Transmission}
 use Rattle.sub_rules.specs.declared.fault.CheckFault.{CheckFault}
 use Rattle.sub_rules.specs.declared.pes_packet.NextPesPacket.{NextPesPacket}
 use Rattle.sub_rules.specs.declared.pes_packet.NextPesPacket.TheVariants as next
-use Rattle.sub_rules.specs.declared.sending.Sending.{Sending}
+use Rattle.sub_rules.specs.declared.valid_pes_packet.ValidPesPacket.{ValidPesPacket}
 use Rattle.sub_rules.proofs.PesPacketFileLemmas.{file_at-next}
 
 appended_frame_is_sent :
@@ -73,7 +73,7 @@ pub record ReadsNext
 
 pub reads_next :
     (clock : Clock) (n : ℕ) (bytes : List ℕ) (frames : Transmission) (unread : Option UnreadReason)
-    (v : PesValue) (sending : Sending)
+    (v : PesValue) (sending : ValidPesPacket)
     → ReadsAs clock n bytes (drop n frames) unread
     → ReportsNext clock n bytes v (Ok (Some (next.Sent sending)))
     → ReadsNext clock n bytes frames unread v sending.frame

@@ -1,14 +1,14 @@
 -- All events of a transmission, in order (not defined by a standard). Each broken rule is an event
 -- with its place. Some rules are checked at the end of each frame and may stay broken over several
 -- frames; for these rules, the events give the first and the last frame at which the rule is
--- broken. The events are in the order of the checks, so the first event is the reason for rejecting
+-- broken. The events are in the order of the checks, so the first fault is the reason for rejecting
 -- the file.
 --
 -- A fault's beginning and end are separate events, because a wrong page stays on air until
 -- something else is sent: a single event with both frames would be reported only then.
 --
--- For each PES packet, the checker first ends the frames without packets before it, then the
--- packet's own frame. The end of a frame without a PES packet takes only the earlier PES packets
+-- For each frame of the transmission, the checker first ends the frames without packets before it,
+-- then the frame itself. The end of a frame without a PES packet takes only the earlier PES packets
 -- into account.
 use Rattle.std.specs.Prelude.{ℕ, zero, suc, max, ◌+◌, ◌-◌, ◌&&◌, ◌==◌, Bool, true, false, not, List}
 use Rattle.std.specs.Prelude.{[], ◌∷◌, ◌++◌, map, length, take, Option, Some, None, is_some}
@@ -44,8 +44,8 @@ use Rattle.sub_rules.specs.declared.active_faults.ActiveFaults.{ActiveFaults}
 unfoldable pub end_rules : List EndRule
 end_rules = end.Content ∷ end.Gap ∷ end.Incomplete ∷ end.Undecided ∷ end.Silent ∷ []
 
--- The place of a broken rule that concerns the entire page: (0, 0), which is no cell. `None` if the
--- rule is not broken.
+-- The place of a broken rule that concerns the entire frame instead of one cell of the page: (0,
+-- 0), which is no cell. `None` if the rule is not broken.
 abbrev pub entire_frame_place : Bool → Option (ℕ × ℕ)
 entire_frame_place true = Some (0, 0)
 entire_frame_place false = None
@@ -76,8 +76,8 @@ first_cell test =
     (λ above. option_map (λ column. (above + 1, column)) (first_below 40 (test (above + 1))))
     (first_below 24 (λ above. is_some (first_below 40 (test (above + 1)))))
 
--- After these packets, the cell is right: `IsRight` as a test. A cell with the expected printing
--- code is wrong if its row was not sent since the last header.
+-- After these packets, the cell is right: `IsRight` as a test. A cell whose expected code is not a
+-- space is wrong if its row was not sent since the last header of the page.
 abbrev pub is_right_cell : Bool → PageIdValue → List (List ℕ) → Rows → ℕ → ℕ → Bool
 is_right_cell keeps page packets due row column =
     kept keeps page packets row column == cell due row column
@@ -131,7 +131,8 @@ abbrev pub is_silent_for : Option ℕ → ℕ → ℕ → Bool
 is_silent_for None last f = false
 is_silent_for (Some pace) last f = nat_le (last + pace) f
 
--- No PES packet was sent in the last `pace` frames up to frame f. False if no pace is required.
+-- The first n frames of the transmission have no PES packet in the last `pace` frames up to frame
+-- f. False if no pace is required.
 unfoldable pub is_silent : Criteria → Transmission → ℕ → ℕ → Bool
 is_silent g frames zero f = is_some g.pace
 is_silent g frames (suc n) f = is_silent_for g.pace (latest_frame frames (suc n)) f
@@ -227,13 +228,14 @@ was_undecided undecided first f zero = undecided f
 was_undecided undecided first f (suc n) =
     was_undecided undecided first f n || (nat_le (first + suc n) f && undecided (f - suc n))
 
--- The expected page is unknown at frame f or at one of the `within` frames before f.
+-- The expected page is unknown at frame f or at one of the `within` frames before f. Frames before
+-- the first frame of the transmission do not count.
 abbrev pub is_undecided_within : Criteria → Transmission → ℕ → Bool
 is_undecided_within g frames f = was_undecided g.undecided (frame_at frames 0) f g.within
 
 -- The first cell with a code, other than a space, that was not expected at frame f or at one of the
 -- `within` frames before f, after n frames of the transmission. `None` if the expected page is
--- unknown at one of these frames.
+-- unknown at one of these frames. Frames before the first frame of the transmission do not count.
 abbrev pub unexpected_cell : Criteria → Transmission → ℕ → ℕ → Option (ℕ × ℕ)
 unexpected_cell g frames n f =
     if is_undecided_within g frames f
@@ -244,8 +246,8 @@ unexpected_cell g frames n f =
     f g.within
 
 -- The first cell with a fault at the end of frame f, after n frames of the transmission. If the
--- page is overdue, each cell must be correct; otherwise each cell must have a space or a code that
--- was expected at frame f or at one of the `within` frames before f.
+-- page is overdue or `within` is 0, the first wrong cell (`wrong_cell`); otherwise the first cell
+-- with an unexpected code (`unexpected_cell`).
 abbrev pub broken_cell : Criteria → Transmission → ℕ → ℕ → Option (ℕ × ℕ)
 broken_cell g frames n f =
     if is_late g frames n f then wrong_cell g frames n f else unexpected_cell g frames n f
@@ -359,7 +361,8 @@ numbered_packet_events w frame from before packets (suc n) =
 abbrev pub packet_events : Watched → ℕ → List (List ℕ) → List (List ℕ) → ℕ → List Event
 packet_events w frame before packets n = numbered_packet_events w frame 0 before packets n
 
--- The event `NoFirstHeader`, if the first frame has no header of the page.
+-- The event `NoFirstHeader`, if frame i of the transmission is the first frame and has no header of
+-- the page.
 unfoldable pub first_header_events : Criteria → Transmission → ℕ → List Event
 first_header_events g frames zero =
     if has_page_header (kind g.watched.page) (packets_of_frame frames 0)
@@ -373,8 +376,8 @@ first_header_events g frames (suc i) = []
 abbrev pub fault_ending_events : ActiveFaults → ℕ → List Event
 fault_ending_events last frame = end_events last frame no_active_faults frame
 
--- The fault for the bytes after the last frame that was read, at PES packet number `pes`. `Empty`
--- if all bytes were read, for a file without frames.
+-- The fault of PES packet number `pes`, which is skipped or begins the rest that cannot be read.
+-- Without a reason it is `Empty`, the fault of a file without PES packets.
 abbrev pub unread_fault : ℕ → Option UnreadReason → CheckFault
 unread_fault pes (Some (BadPacket f)) = fault.Pes pes f
 unread_fault pes (Some NoFrame) = fault.OffFrame pes

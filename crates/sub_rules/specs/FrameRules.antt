@@ -15,8 +15,8 @@ use Rattle.sub_rules.specs.Kept.{IsRight}
 use Rattle.sub_rules.specs.Transmission.{SentFrame, Transmission}
 use Rattle.sub_rules.specs.declared.packet_rule.Watched.{Watched}
 
--- The reason why the rest of a PES file cannot be read as frames: the next bytes are no valid PES
--- packet, or the PTS of the next PES packet belongs to no frame of the day.
+-- The reason why a PES packet, or the rest of a PES file, cannot be read as frames: a fault of the
+-- reader, or a PTS that belongs to no frame of the day.
 pub data UnreadReason : Type 0 where
   BadPacket : PesFault → UnreadReason
   NoFrame : UnreadReason
@@ -125,8 +125,8 @@ HasRecentPageHeader g frames n f =
     (f + 1 < frame_at frames 0 + g.every)
     ⊎ ((j : ℕ) × (j < n) × (f < frame_at frames j + g.every) × HasHeader g frames j)
 
--- If a pace is required, a PES packet was sent less than that many frames before the end of frame
--- f.
+-- If a pace is required, a PES packet was sent in one of the last frames up to frame f, as many as
+-- the pace.
 abbrev pub HasRecentPesPacket : Criteria → Transmission → ℕ → ℕ → Type 0
 HasRecentPesPacket g frames n f =
     (pace : ℕ) → g.pace ≡ Some pace → (j : ℕ) × (j < n) × (f < frame_at frames j + pace)

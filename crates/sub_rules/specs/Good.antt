@@ -10,7 +10,7 @@ use Rattle.ttx_packet.specs.PageHeader.{header, HasExactCodeWords}
 use Rattle.ttx_packet.specs.PageHeader.{c4, c5, c6, c7, c10, c11}
 use Rattle.ttx_packet.specs.PageId.{PageIdValue}
 use Rattle.ttx_page.specs.declared.packet_kind.PacketKind.TheVariants.{ThisPage}
-use Rattle.ttx_page.specs.Noise.{IsOddRow, AreEqualInRow}
+use Rattle.ttx_page.specs.Noise.{HasOddParityTextIfRow, AreEqualIfSameRow}
 use Rattle.ttx_page.specs.Page.{cell, IsCell}
 use Rattle.ttx_page.specs.PacketKind.{kind}
 use Rattle.ttx_page.specs.Shown.{shown}
@@ -59,8 +59,8 @@ IsEnhancement page packet =
 -- equal, and no packet X/25 to X/28 of the magazine is sent. `packets` are those between a header
 -- of the page and the header that ends it.
 pub record IsCleanSpan (page : PageIdValue) (packets : List (List ℕ)) : Type 0 where
-  pub odd : All (IsOddRow page) packets
-  pub same : All (λ first. All (AreEqualInRow page first) packets) packets
+  pub odd : All (HasOddParityTextIfRow page) packets
+  pub same : All (λ first. All (AreEqualIfSameRow page first) packets) packets
   pub plain : All (λ packet. IsEnhancement page packet → ⊥) packets
 
 -- While the page is open, its rows are clean, at each packet of the transmission.
@@ -105,7 +105,8 @@ ShowsDuePages programme page transmission =
     → shown page (on_air_until transmission f) row column ≡ cell (due_page_in programme f) row
     column
 
--- Rules 1 to 6 of a good transmission, which concern everything except the displayed text.
+-- Rules 1 to 6 of a good transmission, which concern everything except the displayed text, and the
+-- limit for the interval between PES packets, if the options have one.
 pub record KeepsRules
     (programme : ProgrammeValue) (transmission : Transmission) (options : OptionsValue)
     : Type 0 where
@@ -135,11 +136,12 @@ pub record KeepsRules
   -- The interval between PES packets is within the limit of the options, if they have one.
   pub paced : KeepsPace options.pace transmission
 
--- A transmission of these subtitles is good if it keeps all seven rules.
+-- A transmission of these subtitles is good if it keeps all seven rules and the limit for the
+-- interval between PES packets, if the options have one.
 pub record Good
     (programme : ProgrammeValue) (transmission : Transmission) (options : OptionsValue)
     : Type 0 where
-  -- Rules 1 to 6 of a good transmission.
+  -- Rules 1 to 6 of a good transmission, and the limit for the interval between PES packets.
   pub rules : KeepsRules programme transmission options
   -- Rule 7: at the end of each frame, the expected page is shown.
   pub content : ShowsDuePages programme options.page transmission

@@ -1,6 +1,6 @@
 -- The requirements if repeats may have C4 (erase page) clear. Inserters set C4 when the text
--- changes, and many clear it when they repeat the page. Such a repeat must contain the entire page,
--- unchanged.
+-- changes, and many clear it when they repeat the page. After such a repeat, the page is correct
+-- only when each row with text was sent again.
 use Rattle.std.specs.Prelude.{◌≡◌, ◌≢◌, ◌↔◌, ℕ, ◌⊎◌, Bool, false, List, [], ◌∷◌}
 use Rattle.std.specs.Prelude.{Option, Some, None, IsTrue, IsFalse}
 use Rattle.std.specs.List.{list_any}
@@ -8,7 +8,7 @@ use Rattle.std.specs.Option.{option_or}
 use Rattle.ttx_packet.specs.declared.header.Header.{Header}
 use Rattle.ttx_packet.specs.PageHeader.{c4, c5, c6, c7, c10}
 use Rattle.ttx_packet.specs.PageId.{PageIdValue}
-use Rattle.ttx_page.specs.Noise.{ErasesPage}
+use Rattle.ttx_page.specs.Noise.{ErasesPageIfHeader}
 use Rattle.ttx_page.specs.Page.{Rows, cell, space}
 use Rattle.ttx_page.specs.PacketKind.{is_row, kind}
 use Rattle.ttx_page.specs.Shown.{kept, shown}
@@ -28,15 +28,15 @@ has_row page packets row =
     list_any (λ packet. is_row row (kind page packet)) (span (kind page) packets)
 
 -- The cell is correct after these packets: it has the expected code, and unless that code is a
--- space, its row was sent after the last header of the page.
+-- space, its row was sent after the last header of the page, while the page was open.
 pub record IsRight
     (keeps : Bool) (page : PageIdValue) (packets : List (List ℕ)) (due : Rows) (row column : ℕ)
     : Type 0 where
   pub kept_eq : kept keeps page packets row column ≡ cell due row column
   pub again : cell due row column ≢ space → IsTrue (has_row page packets row)
 
--- If each header of the page has C4 (erase page) set, a cell is correct if and only if it shows the
--- expected code, as `Good` requires.
+-- If each header of the page must have C4 (erase page) set, a cell is correct if and only if it
+-- shows the expected code, as `Good` requires.
 abbrev pub LawOfRightCells : Type 0
 LawOfRightCells =
     (page : PageIdValue) (packets : List (List ℕ)) (due : Rows) (row column : ℕ)
@@ -86,5 +86,5 @@ HasSubtitleHeaderBits national page packet =
 -- bits of a subtitle page, and has C4 (erase page) set or, if that is allowed, repeats the page.
 pub record HasAllowedHeader (w : Watched) (before : List (List ℕ)) (packet : List ℕ) : Type 0 where
   pub control : HasSubtitleHeaderBits w.national w.page packet
-  pub erases : IsFalse w.keeps → ErasesPage w.page packet
+  pub erases : IsFalse w.keeps → ErasesPageIfHeader w.page packet
   pub keeping : ErasesOrRepeats w.complete w.page before packet

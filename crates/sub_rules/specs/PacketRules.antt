@@ -1,4 +1,4 @@
--- The seven rules for Teletext packets. Whether a packet breaks a rule depends on all packets
+-- The seven rules for Teletext packets. Whether a packet breaks a rule may depend on the packets
 -- before it.
 use Rattle.std.specs.Prelude.{◌≡◌, ℕ, ◌<◌, List, [], ◌∷◌, take, length, slice_index_or}
 use Rattle.std.specs.Prelude.{Option, Some, None, IsTrue, filter, map, drop}
@@ -11,7 +11,7 @@ use Rattle.ttx_packet.specs.Parity.{character_code}
 use Rattle.ttx_packet.specs.declared.header.Header.{Header}
 use Rattle.ttx_page.specs.declared.packet_kind.PacketKind.TheVariants.{Row}
 use Rattle.ttx_packet.specs.PageId.{PageIdValue}
-use Rattle.ttx_page.specs.Noise.{IsOddRow}
+use Rattle.ttx_page.specs.Noise.{HasOddParityTextIfRow}
 use Rattle.ttx_page.specs.PacketKind.{is_this_page, kind}
 use Rattle.ttx_page.specs.Span.{is_open_after, text_span}
 use Rattle.sub_rules.specs.Good.{IsEnhancement}
@@ -52,9 +52,9 @@ KeepsRule rule.Mode w before p =
 KeepsRule rule.Control w before p = HasAllowedHeader w before p
 -- Parity: while the page is open, its rows have 40 bytes of odd parity.
 KeepsRule rule.Parity w before p =
-    IsTrue (is_open_after (kind w.page) before) → IsOddRow w.page p
+    IsTrue (is_open_after (kind w.page) before) → HasOddParityTextIfRow w.page p
 -- RowChanged: while the page is open, a row equals the earlier packets of the same row since the
--- page was last erased.
+-- last header of the page or, if repeats may keep the page, since the last header that erases it.
 KeepsRule rule.RowChanged w before p =
     IsTrue (is_open_after (kind w.page) before)
     → (row : ℕ)

@@ -68,25 +68,27 @@ abbrev pub is_same_subcode : Option Header → Header → Bool
 is_same_subcode None h = true
 is_same_subcode (Some last) h = h.subcode == last.subcode
 
--- The header h of the page repeats the page that was sent before: `IsRepeat` as a test.
-abbrev pub repeats_page : Bool → PageIdValue → List (List ℕ) → Header → Bool
-repeats_page complete page before h =
+-- The header h counts as a repeat of the page, `IsRepeat` as a test: it has the sub-code of the
+-- page's previous header, if there is one; and if complete pages are required, the page is not
+-- open.
+abbrev pub counts_as_repeat : Bool → PageIdValue → List (List ℕ) → Header → Bool
+counts_as_repeat complete page before h =
     is_same_subcode (last_header page before) h
     && not (complete && is_open_after (kind page) before)
 
 -- The header h of the page has C4 (erase page) set or, if that is allowed, repeats the page.
-abbrev pub is_allowed_header : Watched → List (List ℕ) → Header → Bool
-is_allowed_header w before h = c4 h || (w.keeps && repeats_page w.complete w.page before h)
+abbrev pub erases_or_may_repeat : Watched → List (List ℕ) → Header → Bool
+erases_or_may_repeat w before h = c4 h || (w.keeps && counts_as_repeat w.complete w.page before h)
 
--- The header h of the page is allowed after these packets, and has the control bits of a subtitle
--- page.
-abbrev pub is_subtitle_header : Watched → List (List ℕ) → Header → Bool
-is_subtitle_header w before h = is_allowed_header w before h && has_subtitle_bits w.national h
+-- The header h of the page is allowed after these packets: it has C4 (erase page) set or is an
+-- allowed repeat, and has the control bits of a subtitle page.
+abbrev pub is_allowed_page_header : Watched → List (List ℕ) → Header → Bool
+is_allowed_page_header w before h =
+    erases_or_may_repeat w before h && has_subtitle_bits w.national h
 
--- The packet is a header of the page that is not allowed after these packets, or has wrong control
--- bits.
+-- The packet is a header of the page that is not allowed after these packets.
 abbrev pub is_wrong_header : Watched → List (List ℕ) → PacketKind → Bool
-is_wrong_header w before (ThisPage h) = not (is_subtitle_header w before h)
+is_wrong_header w before (ThisPage h) = not (is_allowed_page_header w before h)
 is_wrong_header w before _ = false
 
 -- The packet q exists, and its text differs from `codes`.

@@ -34,9 +34,9 @@ pub record IsReadAs (clock : Clock) (pes : PesValue) (s : SentFrame) : Type 0 wh
   pub frame : clock pes.pts ≡ Some s.frame
   pub packets : s.packets ≡ map (λ (u : UnitValue). u.packet) pes.units
 
--- The bytes are a PES file that carries these frames, if the clock converts each PTS to a frame
--- number: valid PES packets, at most as many as a day has frames. Consecutive PES packets of one
--- frame are merged, and the frame numbers increase.
+-- The bytes are a PES file that carries these frames on this clock: valid PES packets, at most as
+-- many as a day has frames, each with a PTS that the clock converts to the number of its frame. If
+-- `within` is not 0, consecutive PES packets of one frame are merged. The frame numbers increase.
 pub record CarriesOnClock
     (clock : Clock) (within : ℕ) (bytes : List ℕ) (frames : Transmission)
     : Type 0 where

@@ -2,7 +2,7 @@
 -- standard): the events of the transmission, and the fault of each skipped packet. For consecutive
 -- skipped packets with the same fault, only the first and the last are reported.
 --
--- A checker cannot look ahead, so its steps for a PES packet depend only on the frames before it.
+-- A checker cannot look ahead, so its steps for a PES packet do not depend on later PES packets.
 -- If `within` is not 0, consecutive PES packets of one frame are merged, so a frame ends only when
 -- a PES packet of another frame comes, or the file ends.
 use Rattle.std.specs.Prelude.{ℕ, zero, suc, ◌+◌, ◌-◌, ◌&&◌, ◌||◌, ◌==◌, ◌≡◌, Bool, false, not}
@@ -62,8 +62,8 @@ steps_of_gap g frames i (suc n) =
 
 -- ---- steps for one PES packet
 
--- The steps before the packets of frame i of the transmission: the check of its frame number, and
--- the ends of the frames without a PES packet before it.
+-- The steps before the packets of frame i of the transmission: the check of its frame number, the
+-- ends of the frames without a PES packet before it, and the beginning of the frame.
 abbrev pub steps_of_arrival : Criteria → Transmission → ℕ → List CheckStep
 steps_of_arrival g frames i =
     map Emits (order_events g frames i)
@@ -129,7 +129,8 @@ steps_of_each g sent pes (Skipped u ∷ pes_packets) =
     AtPes pes ∷ Emits (Reported (unread_fault pes (Some u)))
     ∷ steps_of_each g sent (suc pes) pes_packets
 
--- The events of a file without frames: the reason why the rest of the file cannot be read.
+-- The events at the end of a file that has PES packets but no frames: the reason why the rest of
+-- the file cannot be read, if it cannot.
 abbrev pub unread_fault_events : ℕ → Option UnreadReason → List Event
 unread_fault_events pes None = []
 unread_fault_events pes (Some u) = Reported (unread_fault pes (Some u)) ∷ []
@@ -167,8 +168,8 @@ abbrev pub is_after : FaultPlace → FaultPlace → Bool
 is_after (place.Pes last) (place.Pes pes) = pes == suc last
 is_after _ _ = false
 
--- The fault `refusal` continues a run of skipped packets: its packet comes right after the packet
--- of the fault `last`, and both faults have the same number.
+-- The fault `refusal` continues a run of skipped packets: its packet is skipped and comes right
+-- after the packet of the fault `last`, and both faults have the same number.
 unfoldable pub continues : CheckFault → CheckFault → Bool
 continues last refusal =
     (fault_row refusal).is_skipped
@@ -240,14 +241,14 @@ events_of_pes_packets g pes_packets = announced_events no_run
     (events_reported_after [] (steps_of_each g [] 0 pes_packets))
 
 -- The events of a PES file, with each skipped packet.
-unfoldable pub reported_of_pes_packets : Criteria → List PesPacket → List Event
-reported_of_pes_packets g pes_packets = events_reported_after []
+unfoldable pub ungrouped_events_of_pes_packets : Criteria → List PesPacket → List Event
+ungrouped_events_of_pes_packets g pes_packets = events_reported_after []
     (steps_of_pes_packets g pes_packets)
 
 -- All events of a PES file, with runs of skipped PES packets grouped.
 unfoldable pub all_events_of_pes_packets : Criteria → List PesPacket → List Event
 all_events_of_pes_packets g pes_packets =
-    let reported = reported_of_pes_packets g pes_packets in
+    let reported = ungrouped_events_of_pes_packets g pes_packets in
     announced_events no_run reported ++ run_ending_events (skipped_run_after_events no_run reported)
 
 -- ---- the first fault of a PES file

@@ -20,7 +20,7 @@ use Rattle.sub_rules.specs.Transmission.{SentFrame, Transmission}
 use Rattle.sub_rules.specs.declared.fault.CheckFault.{CheckFault}
 use Rattle.sub_rules.specs.declared.pes_packet.NextPesPacket.{NextPesPacket}
 use Rattle.sub_rules.specs.declared.pes_packet.NextPesPacket.TheVariants as next
-use Rattle.sub_rules.specs.declared.sending.Sending.{Sending}
+use Rattle.sub_rules.specs.declared.valid_pes_packet.ValidPesPacket.{ValidPesPacket}
 
 -- A PES packet of a file: it carries a frame, or is skipped for this reason.
 pub data PesPacket : Type 0 where
@@ -34,13 +34,13 @@ pub record PesPacketFileValue : Type 0 where
 
 -- The PES packet with this frame and these Teletext packets. It is skipped if its PTS belongs to no
 -- frame.
-abbrev pub sent_pes_packet : Option ℕ → List (List ℕ) → PesPacket
-sent_pes_packet None packets = Skipped NoFrame
-sent_pes_packet (Some frame) packets = Sent (record { frame = frame; packets = packets })
+abbrev pub pes_packet_at_frame : Option ℕ → List (List ℕ) → PesPacket
+pes_packet_at_frame None packets = Skipped NoFrame
+pes_packet_at_frame (Some frame) packets = Sent (record { frame = frame; packets = packets })
 
 -- The PES packet for a result of the reader. `clock` converts the PTS to a frame.
 unfoldable pub pes_packet_of : Clock → Result PesValue PesFault → PesPacket
-pes_packet_of clock (Ok v) = sent_pes_packet (clock v.pts) (packets_of_units v.units)
+pes_packet_of clock (Ok v) = pes_packet_at_frame (clock v.pts) (packets_of_units v.units)
 pes_packet_of clock (Err f) = Skipped (BadPacket f)
 
 -- Why the rest of the file cannot be read, given the reader's fault; `None` if the entire file was
@@ -83,9 +83,10 @@ pub record ReadsPesPacket
 abbrev pub OnPesPacket : Result (Option NextPesPacket) CheckFault → Type 0 → Type 0
 OnPesPacket answer IsSo = IfOk answer (λ pes_packet. IsSome pes_packet → IsSo)
 
--- The property `IsSo` holds for the frame of the result, if the result is a packet that is sent.
-abbrev pub IfSent : Result (Option NextPesPacket) CheckFault → (Sending → Type 0) → Type 0
-IfSent answer IsSo = (sending : Sending) → answer ≡ Ok (Some (next.Sent sending)) → IsSo sending
+-- The property `IsSo` holds for the PES packet of the result, if the result is a valid PES packet.
+abbrev pub IfSent : Result (Option NextPesPacket) CheckFault → (ValidPesPacket → Type 0) → Type 0
+IfSent answer IsSo =
+    (sending : ValidPesPacket) → answer ≡ Ok (Some (next.Sent sending)) → IsSo sending
 
 -- A result of `next_pes_packet` agrees with the bytes after n PES packets: it is the first of
 -- `pes_packets`, with the value v; or no packet is left, for the reason `unread`.
@@ -162,7 +163,8 @@ pub record PesFileValue : Type 0 where
   pub frames : Transmission
   pub unread : Option UnreadReason
 
--- The frames of the PES packets before the first skipped one, and why reading ends there.
+-- The frames of the PES packets before the first skipped one, and why it is skipped; without a
+-- skipped packet, all frames and `unread`.
 unfoldable pub read_until_skipped : List PesPacket → Option UnreadReason → PesFileValue
 read_until_skipped [] unread = record { frames = []; unread = unread }
 read_until_skipped (Sent s ∷ pes_packets) unread =
@@ -170,6 +172,7 @@ read_until_skipped (Sent s ∷ pes_packets) unread =
     record { frames = s ∷ rest.frames; unread = rest.unread }
 read_until_skipped (Skipped u ∷ pes_packets) unread = record { frames = []; unread = Some u }
 
--- The frames of a PES file before its first skipped packet, and why reading ends there.
+-- The frames of a PES file before its first skipped packet, and why the rest is not read; `None` if
+-- the entire file is read.
 abbrev pub file_until_first_skipped : PesPacketFileValue → PesFileValue
 file_until_first_skipped file = read_until_skipped file.pes_packets file.unread

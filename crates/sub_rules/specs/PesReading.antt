@@ -21,8 +21,9 @@ abbrev pub ReadsAs : Clock → ℕ → List ℕ → Transmission → Option Unre
 ReadsAs clock given bytes frames unread =
     file_at clock given bytes ≡ record { frames = frames; unread = unread }
 
--- If `within` is 0, a file carries a transmission with the clock of the options if and only if each
--- PTS is exact. So results for any `within` also hold for exact PTS values.
+-- If `within` is 0, a file carries a transmission with the clock of the options if and only if it
+-- has one PES packet for each frame, with exactly the PTS of that frame (`Carries`). So results for
+-- any `within` also hold for exact PTS values.
 abbrev pub LawOfExactFrames : Type 0
 LawOfExactFrames =
     (options : OptionsValue) (bytes : List ℕ) (frames : Transmission)

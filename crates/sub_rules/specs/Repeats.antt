@@ -1,7 +1,7 @@
 -- Good transmissions if a page may take up to `within` frames to become correct, and if repeats may
 -- have C4 (erase page) clear. Then packets may come late, and a page may be sent in parts over
 -- several frames. Inserters set C4 when the text changes, and many clear it when they repeat the
--- page; such a repeat must contain the entire page, unchanged.
+-- page; after such a repeat, the page is correct only when each row with text was sent again.
 --
 -- `keeps` says whether repeats may have C4 clear. If `keeps` is false and `within` is 0, the rules
 -- are those of `Good`, with complete pages if the options require them.
@@ -9,7 +9,7 @@ use Rattle.std.specs.Prelude.{◌≡◌, ◌↔◌, ℕ, ◌+◌, ◌-◌, ◌<�
 use Rattle.std.specs.Prelude.{length, take, slice_index_or, All, IfSome, IsTrue, IsFalse}
 use Rattle.ttx_packet.specs.PageHeader.{HasExactCodeWords}
 use Rattle.ttx_packet.specs.PageId.{PageIdValue}
-use Rattle.ttx_page.specs.Noise.{ErasesPage}
+use Rattle.ttx_page.specs.Noise.{ErasesPageIfHeader}
 use Rattle.ttx_page.specs.Page.{IsCell, cell, space}
 use Rattle.ttx_page.specs.PacketKind.{kind}
 use Rattle.ttx_page.specs.Shown.{kept}
@@ -26,7 +26,7 @@ use Rattle.sub_rules.specs.Transmission.{last_frame, on_air_until}
 -- ---- the page at the end of a frame
 
 -- The page is correct at the end of frame f: each cell has the expected code and, unless that code
--- is a space, its row was sent after the last header of the page.
+-- is a space, its row was sent after the last header of the page, while the page was open.
 abbrev pub IsCorrectPage : Bool → ProgrammeValue → PageIdValue → Transmission → ℕ → Type 0
 IsCorrectPage keeps programme page transmission f =
     (row column : ℕ)
@@ -50,8 +50,7 @@ IsDueWithin programme transmission options f row column code =
     × (f ≤ e + options.within)
     × (code ≡ cell (due_page_in programme e) row column))
 
--- At the end of each frame from a to b, each cell has an allowed code: a space, or a code that was
--- expected in the cell at that frame or at one of the `within` frames before it.
+-- At the end of each frame from a to b, each cell has an allowed code (`IsDueWithin`).
 abbrev pub KeepsDueCodes :
     Bool → ProgrammeValue → Transmission → OptionsValue → ℕ → ℕ → Type 0
 KeepsDueCodes keeps programme transmission options a b =
@@ -64,7 +63,8 @@ KeepsDueCodes keeps programme transmission options a b =
 
 -- ---- good transmissions if repeats may have C4 (erase page) clear
 
--- Rules 1 to 6 of a good transmission. `keeps` says whether repeats may have C4 (erase page) clear.
+-- Rules 1 to 6 of a good transmission, and the limit for the interval between PES packets, if the
+-- options have one. `keeps` says whether repeats may have C4 (erase page) clear.
 pub record KeepsRulesWithRepeats
     (keeps : Bool) (programme : ProgrammeValue) (transmission : Transmission)
     (options : OptionsValue)
@@ -81,7 +81,7 @@ pub record KeepsRulesWithRepeats
   -- page) set or, if `keeps` is true, repeats the page.
   pub control : EachPacket (HasSubtitleHeaderBits programme.drawing.national options.page)
       transmission
-  pub erases : IsFalse keeps → EachPacket (ErasesPage options.page) transmission
+  pub erases : IsFalse keeps → EachPacket (ErasesPageIfHeader options.page) transmission
   pub keeping :
       (f n : ℕ)
       → f ≤ last_frame transmission
@@ -133,9 +133,9 @@ pub record GoodWithRepeats
     : Type 0 where
   -- Rules 1 to 6 of a good transmission.
   pub rules : KeepsRulesWithRepeats keeps programme transmission options
-  -- Rule 7: at the end of each frame, each cell has a space or a code that was expected in it at
-  -- that frame or at one of the `within` frames before. At least one of any `within` + 1
-  -- consecutive frames is finished, at least one frame of each subtitle, and the last frame.
+  -- Rule 7: at the end of each frame, each cell has an allowed code (`IsDueWithin`). At least one
+  -- of any `within` + 1 consecutive frames is finished, at least one frame of each subtitle, and
+  -- the last frame.
   pub codes :
       KeepsDueCodes keeps programme transmission options (first_frame transmission)
       (last_frame transmission)
@@ -167,6 +167,6 @@ LawOfMayKeep =
 abbrev pub LawOfErasingHeaders : Type 0
 LawOfErasingHeaders =
     (programme : ProgrammeValue) (transmission : Transmission) (options : OptionsValue)
-    → EachPacket (ErasesPage options.page) transmission
+    → EachPacket (ErasesPageIfHeader options.page) transmission
     → GoodWithRepeats true programme transmission options
     → GoodWithRepeats false programme transmission options

@@ -9,7 +9,8 @@
 -- before a faulty PES packet, or before bytes that cannot be read, is not trusted, since these may
 -- belong to it. The trusted frames of a run of fault-free frames begin with the first header of the
 -- page that has C4 (erase page) set, or with any header of the page if C4 must always be set. They
--- are reported when the run ends.
+-- are reported when the run ends; at the end of a file without other events, only if subtitles were
+-- rejected.
 --
 -- If the page need not be correct at each frame end, a run is trusted only if the page was finished
 -- at one of its ends. If the run ends because the page is overdue or the file ends, the last frames
@@ -57,7 +58,7 @@ current_pes [] = 0
 current_pes (AtPes pes ∷ past) = pes
 current_pes (m ∷ past) = current_pes past
 
--- The frame of the last PES packet; 0 before the first PES packet.
+-- The frame of the last PES packet that was not skipped; 0 if there is none.
 unfoldable pub last_packet_frame : List CheckStep → ℕ
 last_packet_frame [] = 0
 last_packet_frame (Begins f ∷ past) = f
@@ -91,7 +92,8 @@ is_emitted m = false
 -- ---- fault-free frames
 
 -- The first frame that is no longer trusted because of this event; `None` if the event is no fault
--- that affects receivers. For an overdue page, it is the first frame with the unfinished page.
+-- that affects receivers. For a fault at the end of a frame at which the page is overdue, it is the
+-- first frame with the unfinished page.
 unfoldable pub invalidated_by : List CheckStep → Event → Option ℕ
 invalidated_by past (Reported f) =
     invalidated_frame (last_packet_frame past) (late_run_start past) (fault_row f).invalidates
@@ -170,7 +172,8 @@ first_untrusted_at_close past left =
     (if left then unwrap_or (back_frame_of past) (last_packet_frame past) else suc
     (last_packet_frame past))
 
--- The event with PES packet number `pes`, which counts skipped packets too.
+-- The event; a fault whose place is a PES packet gets the number `pes`, which counts skipped
+-- packets too.
 unfoldable pub with_pes_number : ℕ → Event → Event
 with_pes_number pes (Reported refusal) = Reported (fault_with_pes_number pes refusal)
 with_pes_number pes event = event

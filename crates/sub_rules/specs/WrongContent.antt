@@ -1,4 +1,4 @@
--- What receivers show if a check rejects a transmission because of wrong text.
+-- What receivers decode if a check rejects a transmission because of wrong text.
 use Rattle.std.specs.Prelude.{◌≡◌, ◌≢◌, ℕ, ◌<◌, ◌≤◌, ◌⊎◌, length, take, IsFalse}
 use Rattle.ttx_page.specs.Page.{cell}
 use Rattle.ttx_page.specs.Receiver.{State, Hears}
@@ -20,9 +20,10 @@ pub record AreReadUpTo (frames : Transmission) (f : ℕ) (read : Transmission) :
   pub up_to : last_frame read ≤ f
   pub next : n < length frames → (last_frame read ≡ f) ⊎ (f < frame_at frames n)
 
--- In this cell, every receiver that starts at the first packet and receives without errors shows a
--- code other than the expected one at the end of frame f, whatever page it showed before.
-pub record IsWrongEverywhere
+-- In this cell of the decoded page, every receiver that starts at the first packet and receives
+-- without errors has a code other than the expected one at the end of frame f, whatever the page
+-- contained before.
+pub record IsWrongForEveryReceiver
     (programme : ProgrammeValue) (options : OptionsValue) (frames : Transmission)
     (f row column : ℕ)
     : Type 0 where

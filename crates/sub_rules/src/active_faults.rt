@@ -9,13 +9,18 @@ use crate::end_rule::EndRule;
 /// The active faults: the rules that are broken at the end of a frame.
 #[derive(Drop)]
 pub struct ActiveFaults {
-    /// The row, 1 to 24, and the column, 0 to 39, of the first wrong cell, if there is one.
+    /// The row, 1 to 24, and the column, 0 to 39, of the first cell with a fault, if there is one.
+    /// If `within` is not 0, a cell has a fault only if the page is overdue and the cell is wrong,
+    /// or if the page is not overdue and the cell has a code, other than a space, that was expected
+    /// neither at this frame nor at one of the `within` frames before.
     pub content: Option<(u8, u8)>,
     /// Whether the repeat bound is exceeded: so many frames had no header of the page.
     pub gap: bool,
-    /// Whether complete pages are required, and the page is open.
+    /// Whether complete pages are required, and the page is open and, if `within` is not 0,
+    /// overdue.
     pub incomplete: bool,
-    /// Whether the expected page is unknown, because a subtitle was rejected.
+    /// Whether the expected page is unknown, or was unknown at one of the `within` frames before,
+    /// because a subtitle was rejected.
     pub undecided: bool,
     /// Whether the pace is exceeded: so many frames had no PES packet.
     pub silent: bool,
@@ -46,8 +51,8 @@ impl ActiveFaults {
         self.content.is_none() & !self.gap & !self.incomplete & !self.undecided & !self.silent
     }
 
-    /// Returns the place at which a rule is broken: the first wrong cell, or row 0 and column 0 for
-    /// a rule about the entire page. Returns `None` if the rule is not broken.
+    /// Returns the place at which a rule is broken: the first cell with a fault, or row 0 and
+    /// column 0 for a rule about the entire frame. Returns `None` if the rule is not broken.
     pub fn at(&self, rule: EndRule) -> Option<(u8, u8)>
         ensures { result ≡ place_of_broken_rule rule self.now }
     {
@@ -61,7 +66,7 @@ impl ActiveFaults {
     }
 }
 
-// Returns row 0 and column 0 if a rule about the entire page is broken; otherwise `None`.
+// Returns row 0 and column 0 if a rule about the entire frame is broken; otherwise `None`.
 fn entire_frame_place(is_broken: bool) -> Option<(u8, u8)>
     ensures { result ≡ entire_frame_place is_broken }
 {

@@ -6,13 +6,17 @@ use sub_io::FaultCode;
 /// A rule that is checked at the end of each frame. It may stay broken for several frames.
 #[derive(Clone, Copy, Debug, PartialEq, Eq)]
 pub enum EndRule {
-    /// The page that is shown is the expected page.
+    /// Each cell has the expected code, and each row with expected text was sent since the last
+    /// header of the page. If `within` is not 0, each cell may also have a space or a code that was
+    /// expected at one of the `within` frames before, until the page is overdue.
     Content,
     /// The page has had a header within the repeat bound.
     Gap,
-    /// The page is not open, if complete pages are required.
+    /// If complete pages are required, the page is not open. If `within` is not 0, it may be open
+    /// until it is overdue.
     Incomplete,
-    /// The expected page is known: no rejected subtitle may be expected.
+    /// The expected page is known, and so are those of the `within` frames before: no rejected
+    /// subtitle may be expected.
     Undecided,
     /// A PES packet has come within the pace, if a pace is required.
     Silent,

@@ -7,7 +7,8 @@ use crate::fault::CheckFault;
 #[derive(Clone, Copy, Debug, PartialEq, Eq)]
 pub enum Event {
     /// A rule is broken at this place. For a rule that is checked at the end of each frame, the
-    /// event is reported only if the fault was not already active at the end of the frame before.
+    /// event is reported only if the fault was not already active at this place at the end of the
+    /// frame before.
     Reported(CheckFault),
     /// An active fault has ended.
     Ended {

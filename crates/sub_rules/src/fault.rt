@@ -14,13 +14,15 @@ use ttx_pes::PesFault;
 /// A fault of a subtitle file and a PES file, with its place, in the order of the manual's table of
 /// faults.
 ///
-/// `pes` counts PES packets from 0. `frame` is a frame of the day. `packet` counts from 0 among the
-/// Teletext units of its PES packet. `row` is 1 to 24, `column` 0 to 39.
+/// `pes` counts PES packets from 0. `frame` is a frame of the day. `packet` counts the Teletext
+/// packets of the frame from 0: those of its PES packet or, if `within` is not 0, those of all
+/// consecutive PES packets of the frame. `row` is 1 to 24, `column` 0 to 39.
 #[derive(Clone, Copy, Debug, PartialEq, Eq)]
 pub enum CheckFault {
     /// The subtitle file was rejected.
     Subtitles(LoadFault),
-    /// A PES packet is not a valid PES packet with Teletext, or reading the file failed.
+    /// A PES packet is not a valid PES packet with Teletext or is one too many, or reading the file
+    /// failed.
     Pes {
         /// The number of the PES packet, counted from 0.
         pes: u32,
@@ -34,7 +36,8 @@ pub enum CheckFault {
         /// The number of the PES packet, counted from 0.
         pes: u32,
     },
-    /// The frame of a PES packet is not after the frame of the previous PES packet.
+    /// The frame of a PES packet is before the frame of the previous PES packet or, if `within` is
+    /// 0, the same.
     Order {
         /// The number of the PES packet, counted from 0.
         pes: u32,
@@ -66,7 +69,8 @@ pub enum CheckFault {
         packet: u32,
     },
     /// A header of the page does not have the control bits of a subtitle page: C4, C6 or C7 is
-    /// clear, C5 or C10 is set, or C12 to C14 are not those of the national option.
+    /// clear, C5 or C10 is set, or C12 to C14 are not those of the national option. If repeats may
+    /// keep the page, C4 may be clear in a header that repeats it.
     Control {
         /// The frame of the Teletext packet.
         frame: u32,
@@ -80,8 +84,8 @@ pub enum CheckFault {
         /// The number of the Teletext packet in its frame, counted from 0.
         packet: u32,
     },
-    /// A row of the open page differs from an earlier packet of the same row, sent since the last
-    /// header of the page.
+    /// A row of the open page differs from the first packet of the same row, sent since the last
+    /// header of the page or, if repeats may keep the page, since the last header that erases it.
     RowChanged {
         /// The frame of the Teletext packet.
         frame: u32,
@@ -100,9 +104,10 @@ pub enum CheckFault {
         /// The first frame of the transmission.
         frame: u32,
     },
-    /// At the end of a frame, a cell of the page differs from the expected page. If the page may
-    /// take `within` frames to become correct, the fault is reported when the page is overdue, or
-    /// at once if the cell has a code that was not expected within these frames.
+    /// At the end of a frame, a cell of the page differs from the expected page, or a row with
+    /// expected text was not sent since the last header of the page. If the page may take `within`
+    /// frames to become correct, the fault is reported when the page is overdue, or at once if the
+    /// cell has a code other than a space that was not expected within these frames.
     Content {
         /// The frame at whose end the cell is wrong.
         frame: u32,
@@ -113,7 +118,7 @@ pub enum CheckFault {
     },
     /// The repeat bound is exceeded: no frame within it had a header of the page.
     Gap {
-        /// The last of the frames without a header of the page.
+        /// The first frame at whose end the repeat bound is exceeded.
         frame: u32,
     },
     /// At the end of a frame, the page is open although complete pages are required: no later
@@ -131,11 +136,12 @@ pub enum CheckFault {
     },
     /// The pace is exceeded: no frame within it had a PES packet.
     Silent {
-        /// The last of the frames without a PES packet.
+        /// The first frame at whose end the pace is exceeded.
         frame: u32,
     },
     /// A subtitle ends after the last frame. If the page may take `within` frames to become
-    /// correct, also if the page is still wrong at the end of the last frame but not yet overdue.
+    /// correct, also if at the end of the last frame the page is still wrong, or open although
+    /// complete pages are required, but not yet overdue.
     Late {
         /// The last frame of the transmission.
         frame: u32,
@@ -202,7 +208,7 @@ impl CheckFault {
     }
 
     /// Returns the place of the fault: a TTI block or a text position in the subtitle file; or a
-    /// PES packet, a frame, a Teletext packet or a cell.
+    /// PES packet, a frame, a Teletext packet or a cell; `Nowhere` for `Empty`.
     pub fn place(self) -> FaultPlace
         ensures { result ≡ place_of_fault self }
     {

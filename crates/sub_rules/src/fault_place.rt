@@ -27,11 +27,12 @@ pub enum FaultPlace {
         /// The frame, counted from 0 at midnight.
         frame: u32,
     },
-    /// A Teletext packet, counted from 0 among the Teletext units of its PES packet.
+    /// A Teletext packet of a frame, which has one PES packet or, if `within` is not 0, one or more
+    /// consecutive PES packets.
     Packet {
         /// The frame of the PES packet.
         frame: u32,
-        /// The number of the Teletext packet, counted from 0.
+        /// The number of the Teletext packet in its frame, counted from 0.
         packet: u32,
     },
     /// A cell of the page at the end of a frame.

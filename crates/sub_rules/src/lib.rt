@@ -6,7 +6,7 @@
 //!
 //! ```text
 //! next_pes_packet(&mut reader, &mut source, &options, 0)?;
-//! // Some(Sent(Sending { frame: 250, .. }))
+//! // Some(Sent(ValidPesPacket { frame: 250, .. }))
 //! CheckFault::Gap { frame: 250 }.code(); // 73 Gap
 //! ```
 #![tactic(auto)]
@@ -19,7 +19,7 @@ mod fault_place;
 mod fault_row;
 mod packet_rule;
 mod pes_packet;
-mod sending;
+mod valid_pes_packet;
 
 pub use active_faults::ActiveFaults;
 pub use end_rule::EndRule;
@@ -29,4 +29,4 @@ pub use fault_place::FaultPlace;
 pub use fault_row::FaultRow;
 pub use packet_rule::{PacketRule, Watched};
 pub use pes_packet::{NextPesPacket, next_pes_packet};
-pub use sending::{Sending, units_of};
+pub use valid_pes_packet::{ValidPesPacket, units_of};

@@ -13,7 +13,8 @@ pub enum PacketRule {
     HeaderCode,
     /// All page headers, of any page and magazine, have the same C11 (magazine serial).
     Mode,
-    /// A header of the page has the control bits of a subtitle page.
+    /// A header of the page has the control bits of a subtitle page, and has C4 (erase page) set
+    /// or, if that is allowed, repeats the page.
     Control,
     /// A row of the open page has odd parity.
     Parity,

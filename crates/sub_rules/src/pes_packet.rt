@@ -17,7 +17,7 @@ ghost use Rattle.sub_rules.specs.PesPackets.{TakesOnePesPacket};
 ghost use Rattle.sub_rules.specs.PesPackets.{ReportsPesPacket};
 
 use crate::fault::CheckFault;
-use crate::sending::Sending;
+use crate::valid_pes_packet::ValidPesPacket;
 use sub_plan::Options;
 use ttx_pes::{Compared, ComparingReader, PesFault, PesPackets};
 
@@ -25,7 +25,7 @@ use ttx_pes::{Compared, ComparingReader, PesFault, PesPackets};
 #[derive(Clone, Copy, Debug, PartialEq, Eq)]
 pub enum NextPesPacket {
     /// The PES packet is valid, and its PTS belongs to a frame of the day.
-    Sent(Sending),
+    Sent(ValidPesPacket),
     /// The PES packet is skipped: it is invalid (`Pes`), or its PTS belongs to no frame
     /// (`OffFrame`).
     Skipped(CheckFault),
@@ -38,8 +38,9 @@ pub enum NextPesPacket {
 ///
 /// # Errors
 ///
-/// Returns `Pes` with `Truncated`, `Start`, `Length` or `TooMany` if the next bytes are no PES
-/// packet, and with `Read` if the source fails.
+/// Returns `Pes` with `Truncated`, `Start` or `Length` if the next bytes are no PES packet, with
+/// `TooMany` if bytes follow after as many PES packets as a day has frames, and with `Read` if the
+/// source fails.
 #[inline(always)]
 pub fn next_pes_packet<P: PesPackets>(
     reader: &mut ComparingReader,
@@ -84,7 +85,7 @@ pub fn next_pes_packet<P: PesPackets>(
         → FailsWithinPacket (P.remaining source.old) (P.left source.new)) }
     // The call reads nothing beyond the PES packet.
     ensures settled { OnPesPacket result (P.left source.new ≡ P.remaining source.new) }
-    // The call cannot fail if the source already has the bytes of the PES packet.
+    // Reading cannot fail if the source already has the bytes of the PES packet.
     ensures ready { P.ready source.old ≡ true → failed is_pes_read_failure result ≡ false }
     ensures device { P.device source.new ≡ P.device source.old }
     ensures count { CountsFailureIf P.failure_count source.old (failed is_pes_read_failure result)
@@ -95,7 +96,7 @@ pub fn next_pes_packet<P: PesPackets>(
             if !fault.is_packet_content_fault() {
                 return Err(CheckFault::Pes { pes, fault });
             }
-            reader.skip_packet();
+            reader.continue_after_fault();
             Ok(Some(NextPesPacket::Skipped(CheckFault::Pes { pes, fault })))
         }
         Ok(Compared::End) => Ok(None),
@@ -112,14 +113,15 @@ fn pes_packet_of(pts: u64, options: &Options, pes: u32, again: bool) -> NextPesP
         → ReadsPesPackets (clock_of options.now) pes bytes pes_packets unread
         → ReportsPesPacket (clock_of options.now) pes bytes pes_packets unread v
         (Ok (Some result)) }
-    ensures again { (sending : Sending) → result ≡ NextPesPacket.Sent sending
+    ensures again { (sending : ValidPesPacket) → result ≡ NextPesPacket.Sent sending
         → sending.again ≡ again }
-    ensures day { (sending : Sending) → result ≡ NextPesPacket.Sent sending → sending.frame < day }
+    ensures day { (sending : ValidPesPacket) → result ≡ NextPesPacket.Sent sending
+        → sending.frame < day }
     ensures skipped { (fault : CheckFault) → result ≡ NextPesPacket.Skipped fault
         → (is_pes_read_failure fault ≡ false) × (is_subtitle_fault fault ≡ false) }
 {
     match options.frame_of(pts) {
-        Some(frame) => NextPesPacket::Sent(Sending { frame, again }),
+        Some(frame) => NextPesPacket::Sent(ValidPesPacket { frame, again }),
         None => NextPesPacket::Skipped(CheckFault::OffFrame { pes }),
     }
 }

@@ -14,7 +14,7 @@ use Rattle.sub_rules.specs.PesPacketEvents.{closing_events_of_pes_packets, run_e
 use Rattle.sub_rules.specs.PesPacketEvents.{no_run, skipped_run_after_events, sent_by_pes_packets}
 use Rattle.sub_rules.specs.PesPacketEvents.{steps_of_closing}
 use Rattle.sub_rules.specs.PesPacketEvents.{steps_of_each, steps_of_pending_end}
-use Rattle.sub_rules.specs.PesPacketEvents.{reported_of_pes_packets}
+use Rattle.sub_rules.specs.PesPacketEvents.{ungrouped_events_of_pes_packets}
 use Rattle.sub_rules.specs.PesPackets.{PesPacket, frames_of, joined_after, sent_after}
 use Rattle.sub_rules.specs.PesPackets.PesPacket.{Skipped, Sent}
 use Rattle.sub_rules.specs.Transmission.{Transmission}
@@ -159,10 +159,11 @@ module _ (g : Criteria) (pes_packets : List PesPacket) (a b i : ℕ)
           anything)
 
   any_event_is_a_report : IsAnythingReported g pes_packets → reports (history_after [] steps) ≡ true
-  unfolding all_events_of_pes_packets reported_of_pes_packets
+  unfolding all_events_of_pes_packets ungrouped_events_of_pes_packets
   any_event_is_a_report (inl something) =
       any_report_is_a_report (history_after [] steps) refl
-      (λ none. something (no_events_announce_nothing (reported_of_pes_packets g pes_packets) none))
+      (λ none. something
+      (no_events_announce_nothing (ungrouped_events_of_pes_packets g pes_packets) none))
   any_event_is_a_report (inr any_unreliable) =
       or_right (list_any is_emitted (history_after [] steps))
       _
@@ -170,9 +171,9 @@ module _ (g : Criteria) (pes_packets : List PesPacket) (a b i : ℕ)
 
   pub all_events_report_stretch : IsAnythingReported g pes_packets → ReportsTrustedStretch
       (all_events_of_pes_packets g pes_packets)
-  unfolding all_events_of_pes_packets reported_of_pes_packets
+  unfolding all_events_of_pes_packets ungrouped_events_of_pes_packets
   all_events_report_stretch anything =
-      let reported : List Event = reported_of_pes_packets g pes_packets in
+      let reported : List Event = ungrouped_events_of_pes_packets g pes_packets in
       let same : reported ≡ events_reported_after [] (steps ++ close) = refl in
       let (from, to, low, high, c) = all_steps_report_stretch (any_event_is_a_report anything) in (
         from,

@@ -16,7 +16,7 @@ use Rattle.sub_rules.specs.Trusted.{has_no_active_faults}
 use Rattle.sub_rules.specs.declared.event.Event.TheVariants.{Trusted}
 use Rattle.sub_rules.specs.declared.active_faults.ActiveFaults.{ActiveFaults}
 use Rattle.sub_rules.proofs.EndRuleLemmas.{no_active_faults_is_unique}
-use Rattle.sub_laws.specs.CleanStretch.{IsEnd, IsUnreported}
+use Rattle.sub_laws.specs.CleanStretch.{IsEnd, HasNoReceiverFault}
 use Rattle.sub_laws.proofs.FrameByFrame.{IsFaultFree}
 use Rattle.sub_laws.proofs.GoodLemmas.{rising_frames_rise_at_each_index}
 use Rattle.sub_laws.proofs.PrefixLemmas.{RiseTo, frame_at-take, packets-take}
@@ -63,7 +63,7 @@ module _ (g : Criteria) (due : ℕ → Rows) (ending : ℕ → Option ℕ) (firs
   stays : RunLastsTo g frames from to
   stays = may.stretch_is_trusted_correct.stays
 
-  fault_free : IsUnreported g part from to
+  fault_free : HasNoReceiverFault g part from to
   fault_free = unreported g frames from to stays
 
   up : RiseTo part (length part)

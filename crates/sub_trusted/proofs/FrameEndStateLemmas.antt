@@ -26,8 +26,8 @@ use Rattle.sub_rules.specs.Trusted.{frame_if_finished}
 use Rattle.sub_rules.specs.Trusted.{first_correct_of}
 
 module _ (g : Criteria) (frames : Transmission) where
-  -- The steps `u` are the steps `t` and then the first steps at the end of frame f, after n frames
-  -- of the transmission.
+  -- The values that decide about trusted frames after the steps `u` are those after the steps `t`
+  -- and then the first steps at the end of frame f, after n frames of the transmission.
   pub record ChecksFrameEnd (n f : ℕ) (t u : List CheckStep) : Type 0 where
     pub run_eq : run_of u ≡ run_of t
     pub first_correct_eq :

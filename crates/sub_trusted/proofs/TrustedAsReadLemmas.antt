@@ -14,7 +14,7 @@ use Rattle.ttx_page.proofs.SpanListLemmas.{holds-append_right}
 use Rattle.ttx_page.proofs.TextSpan.{beginning_is_header}
 use Rattle.ttx_page.specs.Page.{space}
 use Rattle.ttx_page.specs.PacketKind.{begins_text, is_row, kind}
-use Rattle.ttx_page.specs.Repeats.{SendsText}
+use Rattle.ttx_page.specs.Repeats.{SendsOnlyRowsOfText}
 use Rattle.ttx_page.specs.Shown.{kept}
 use Rattle.ttx_page.specs.Span.{from_text_beginning, has_text_beginning, has_page_header}
 use Rattle.ttx_page.specs.Span.{is_open_after}
@@ -28,8 +28,8 @@ use Rattle.sub_rules.specs.Repeats.{IsDueWithin, IsCorrectPage, HasFinishedFrame
 use Rattle.sub_rules.specs.Transmission.{IsRising, Transmission, first_frame, on_air, on_air_until}
 use Rattle.sub_rules.specs.Transmission.{packets_between, packets_of}
 use Rattle.sub_laws.specs.OnScreen.{CompleteWithin}
-use Rattle.sub_laws.specs.Repeats.{FinishesInTime, IsRepeatedStretch}
-use Rattle.sub_laws.specs.ReportedRepeats.{IsSufficientRepeats}
+use Rattle.sub_laws.specs.Repeats.{FinishesInTime, IsSoundStretchWithRepeats}
+use Rattle.sub_laws.specs.ReportedRepeats.{IsSufficientWithRepeats}
 use Rattle.sub_trusted.specs.TrustedFrames.{MatchesReadPackets}
 use Rattle.sub_laws.proofs.TransmissionLemmas.{packets_between-split, packets_between-void}
 
@@ -197,19 +197,19 @@ module _ (keeps : Bool) (programme : ProgrammeValue) (options : OptionsValue) (t
           )
           page_is_unended_on_air
 
-    stretch_is_repeated_on_air : IsRepeatedStretch keeps t options a b → IsRepeatedStretch keeps u
-        options a b
+    stretch_is_repeated_on_air : IsSoundStretchWithRepeats keeps t options a b
+        → IsSoundStretchWithRepeats keeps u options a b
     stretch_is_repeated_on_air stretch = record {
       first = on_air_begins_early_enough;
       rising = is.rising;
       sends = λ f low high.
           subst
           (λ (ps : List (List ℕ)).
-          SendsText keeps options.page ps (kept keeps options.page (on_air_until u f)))
+          SendsOnlyRowsOfText keeps options.page ps (kept keeps options.page (on_air_until u f)))
           (ap (drop 0) (both_have_same_packets t u a b rising is f low high))
           (subst
           (λ (ps : List (List ℕ)).
-          SendsText keeps options.page (on_air t a 0 f) (text_codes_of options.page ps))
+          SendsOnlyRowsOfText keeps options.page (on_air t a 0 f) (text_codes_of options.page ps))
           (same_text_is_on_air f low high) (stretch.sends f low high));
       repeats = λ start low high.
           let (f, after, before, found) = stretch.repeats start low high in
@@ -221,8 +221,8 @@ module _ (keeps : Bool) (programme : ProgrammeValue) (options : OptionsValue) (t
         → IsDueWithin programme u options f row column code
     code_is_expected_on_air f row column code h1 = grind (arith, nat_tests)
 
-    pub repeats_are_sufficient_on_air : IsSufficientRepeats keeps programme t options a b
-        → IsSufficientRepeats keeps programme u options a b
+    pub repeats_are_sufficient_on_air : IsSufficientWithRepeats keeps programme t options a b
+        → IsSufficientWithRepeats keeps programme u options a b
     repeats_are_sufficient_on_air enough = record {
       stretch = stretch_is_repeated_on_air enough.stretch;
       codes = λ f row column low high named.

@@ -48,7 +48,7 @@ use Rattle.sub_rules.specs.Trusted.{has_no_active_faults, stays_fault_free, repo
 use Rattle.sub_rules.specs.Trusted.{events_reported_at_step, frame_if_finished}
 use Rattle.sub_rules.specs.Trusted.{first_correct_of}
 
--- If the run has a first frame with a correct page, it is the current frame or was found before.
+-- If the run has a first frame with a finished page, it is the current frame or was found before.
 correct_frame_is_new_or_kept : (run whole first_unfinished : Option ℕ) (f w : ℕ)
     → option_or (if is_none run then None else whole) (frame_if_finished f first_unfinished) ≡ Some
     w

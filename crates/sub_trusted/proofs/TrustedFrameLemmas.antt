@@ -15,8 +15,8 @@ use Rattle.sub_rules.specs.Transmission.{Transmission, last_frame, packets_of}
 use Rattle.sub_rules.specs.declared.packet_rule.PacketRule.{PacketRule}
 use Rattle.sub_rules.proofs.EndRuleLemmas.{no_active_faults_is_unique}
 use Rattle.sub_rules.proofs.PrefixEventLemmas.{active_faults_at-prefix}
-use Rattle.sub_laws.specs.CleanStretch.{HoldsAtFrameEnds, IsEnd, IsWithinTransmission, IsUnreported}
-use Rattle.sub_laws.specs.CleanStretch.{is_needed_by_receivers}
+use Rattle.sub_laws.specs.CleanStretch.{HoldsAtFrameEnds, IsEnd, IsWithinTransmission}
+use Rattle.sub_laws.specs.CleanStretch.{HasNoReceiverFault, is_needed_by_receivers}
 use Rattle.sub_trusted.specs.TrustedFrames.{is_rising_at, rising_count, rising_part}
 use Rattle.sub_laws.proofs.GoodLemmas.{passing_packet_is_in_frame}
 use Rattle.sub_laws.proofs.PrefixLemmas.{RiseTo, before, first-same, frame_at-take, packet_at}
@@ -181,7 +181,7 @@ module _ (g : Criteria) (frames : Transmission) (from to : ℕ)
   packets_fault_free r i k needed l below low high =
       grind (arith, nat_tests, cases_lt, later, order, run_begins_in_part, rising_part_rises)
 
-  pub unreported : IsUnreported g part from to
+  pub unreported : HasNoReceiverFault g part from to
   unreported = record {
     stretch = stretch;
     rising = prefix_is_rising frames m (rising_count_is_at_most_length frames)

@@ -16,9 +16,9 @@ use Rattle.sub_rules.specs.PesPackets.{PesPacket}
 use Rattle.sub_rules.specs.Repeats.{HasFinishedFrame}
 use Rattle.sub_rules.specs.Transmission.{Transmission, first_frame, packets_of}
 use Rattle.sub_rules.specs.declared.event.Event.TheVariants.{Trusted}
-use Rattle.sub_laws.specs.CleanStretch.{IsUnreported, HasNoOpenEnd, criteria_with_refusals}
+use Rattle.sub_laws.specs.CleanStretch.{HasNoReceiverFault, HasNoOpenEnd, criteria_with_refusals}
 use Rattle.sub_laws.specs.Repeats.{FinishesInTime}
-use Rattle.sub_laws.specs.ReportedRepeats.{IsSufficientRepeats}
+use Rattle.sub_laws.specs.ReportedRepeats.{IsSufficientWithRepeats}
 use Rattle.sub_trusted.specs.TrustedFrames.{MatchesReadPackets, LawOfTrustedFrames, LawOfKnownPages}
 use Rattle.sub_trusted.specs.TrustedFrames.{MayStay}
 use Rattle.sub_trusted.specs.TrustedFrames.{rising_part}
@@ -64,7 +64,7 @@ module _ (programme : ProgrammeValue) (options : OptionsValue) (unread : Option 
     may : IsTrustedCorrect g frames from to
     may = grind (arith, nat_tests, all_trusted_stretches_are_correct)
 
-    fault_free : IsUnreported g part from to
+    fault_free : HasNoReceiverFault g part from to
     fault_free = unreported g frames from to may.stays
 
     none_open_in_part : HasNoOpenEnd g part from to
@@ -74,7 +74,8 @@ module _ (programme : ProgrammeValue) (options : OptionsValue) (unread : Option 
     begins = begins_with_header g frames from to may.stays
 
     module _ (on_air : Transmission) (is : MatchesReadPackets part on_air from to) where
-      sufficient_repeats_hold : IsSufficientRepeats options.keeps programme on_air options from to
+      sufficient_repeats_hold :
+          IsSufficientWithRepeats options.keeps programme on_air options from to
       sufficient_repeats_hold =
           repeats_are_sufficient_on_air options.keeps programme options part on_air from to
           fault_free.rising
@@ -183,7 +184,7 @@ law_of_trusted_frames programme options unread any_unreliable undecided pes_pack
           is none at_once;
     }
 
-known : (g : Criteria) (part : Transmission) (from to : ℕ) → IsUnreported g part from to
+known : (g : Criteria) (part : Transmission) (from to : ℕ) → HasNoReceiverFault g part from to
     → (f x : ℕ) → first_frame part ≤ f → x ≤ f + g.within
     → from ≤ x
     → x ≤ to
@@ -213,7 +214,7 @@ law_of_known_pages g pes_packets from to reported f first last near =
     pes_packets)
     (Trusted from to)
     (all_trusted_stretches_are_correct g frames pes_packets refl) reported in
-    let fault_free : IsUnreported g part from to = unreported g frames from to may.stays in
+    let fault_free : HasNoReceiverFault g part from to = unreported g frames from to may.stays in
     let order = fault_free.stretch.in_order in
     elim (cases_lt f from) [
       | inl before ↦ known g part from to fault_free f from first near (le_refl from) order

@@ -12,7 +12,7 @@ use Rattle.sub_rules.specs.PesPacketEvents.{closing_events_of_pes_packets, no_ru
 use Rattle.sub_rules.specs.PesPacketEvents.{skipped_run_after_events, sent_by_pes_packets}
 use Rattle.sub_rules.specs.PesPacketEvents.{steps_of_closing}
 use Rattle.sub_rules.specs.PesPacketEvents.{steps_of_each, steps_of_pending_end}
-use Rattle.sub_rules.specs.PesPacketEvents.{reported_of_pes_packets}
+use Rattle.sub_rules.specs.PesPacketEvents.{ungrouped_events_of_pes_packets}
 use Rattle.sub_rules.specs.PesPackets.{PesPacket, frames_of, joined_after, sent_after}
 use Rattle.sub_rules.specs.PesPackets.PesPacket.{Skipped, Sent}
 use Rattle.sub_rules.specs.Transmission.{Transmission}
@@ -246,8 +246,9 @@ module _ (g : Criteria) (frames : Transmission) where
 
   reported_stretches_are_good : (pes_packets : List PesPacket) → sent_by_pes_packets g pes_packets ≡
       frames
-      → HoldsForEachTrusted (IsTrustedAtClose g frames 0) (reported_of_pes_packets g pes_packets)
-  unfolding reported_of_pes_packets
+      → HoldsForEachTrusted (IsTrustedAtClose g frames 0)
+      (ungrouped_events_of_pes_packets g pes_packets)
+  unfolding ungrouped_events_of_pes_packets
   reported_stretches_are_good pes_packets all = grind
       (arith, nat_tests, all_steps_trust_good_stretches, start)
 
@@ -256,7 +257,7 @@ module _ (g : Criteria) (frames : Transmission) where
       → HoldsForEachTrusted (IsTrustedAtClose g frames 0) (all_events_of_pes_packets g pes_packets)
   unfolding all_events_of_pes_packets
   all_events_trust_good_stretches pes_packets all =
-      let reported : List Event = reported_of_pes_packets g pes_packets in
+      let reported : List Event = ungrouped_events_of_pes_packets g pes_packets in
       All-append (HoldsIfTrusted (IsTrustedAtClose g frames 0)) (announced_events no_run reported) _
       (each-announced (IsTrustedAtClose g frames 0) no_run reported (reported_stretches_are_good
       pes_packets all))

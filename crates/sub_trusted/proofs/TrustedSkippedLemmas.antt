@@ -15,7 +15,7 @@ use Rattle.sub_rules.specs.PesPacketEvents.{skipped_run_after_events, sent_by_pe
 use Rattle.sub_rules.specs.PesPacketEvents.{steps_of_closing}
 use Rattle.sub_rules.specs.PesPacketEvents.{steps_of_each, steps_of_pes_packets}
 use Rattle.sub_rules.specs.PesPacketEvents.{steps_of_pending_end}
-use Rattle.sub_rules.specs.PesPacketEvents.{reported_of_pes_packets}
+use Rattle.sub_rules.specs.PesPacketEvents.{ungrouped_events_of_pes_packets}
 use Rattle.sub_rules.specs.PesPackets.{PesPacket, frames_of, joined_after}
 use Rattle.sub_rules.specs.PesPackets.PesPacket.{Skipped}
 use Rattle.sub_rules.specs.Transmission.{Transmission}
@@ -241,8 +241,8 @@ module _ (g : Criteria) (earlier : List PesPacket) (u : UnreadReason) (later : L
 
     pub trusted_stretches_exclude_skipped : HoldsForEachTrusted IsOutsideStretch
         (all_events_of_pes_packets g all)
-    unfolding all_events_of_pes_packets reported_of_pes_packets steps_of_each events_reported_after
-        events_reported_at_step
+    unfolding all_events_of_pes_packets ungrouped_events_of_pes_packets steps_of_each
+        events_reported_after events_reported_at_step
     trusted_stretches_exclude_skipped =
         let rest : List CheckStep =
         steps_of_each g sent (suc pes) later
@@ -256,7 +256,8 @@ module _ (g : Criteria) (earlier : List PesPacket) (u : UnreadReason) (later : L
         (steps_of_each-append g [] 0 pes earlier (Skipped u ∷ later) (omega arith))
         ∙ joined first (own ++ steps_of_each g sent (suc pes) later) (steps_of_pending_end g frames)
         (steps_of_closing g frames (length all) (length frames)) in
-        let reported : HoldsForEachTrusted IsOutsideStretch (reported_of_pes_packets g all) =
+        let reported : HoldsForEachTrusted IsOutsideStretch
+        (ungrouped_events_of_pes_packets g all) =
         subst (HoldsForEachTrusted IsOutsideStretch)
         (sym
         (ap (events_reported_after []) parts
@@ -278,10 +279,10 @@ module _ (g : Criteria) (earlier : List PesPacket) (u : UnreadReason) (later : L
         (before_all g earlier later u)
         sends)))) in
         All-append (HoldsIfTrusted IsOutsideStretch)
-        (announced_events no_run (reported_of_pes_packets g all)) _
-        (each-announced IsOutsideStretch no_run (reported_of_pes_packets g all) reported)
+        (announced_events no_run (ungrouped_events_of_pes_packets g all)) _
+        (each-announced IsOutsideStretch no_run (ungrouped_events_of_pes_packets g all) reported)
         (each-ended IsOutsideStretch
-        (skipped_run_after_events no_run (reported_of_pes_packets g all)))
+        (skipped_run_after_events no_run (ungrouped_events_of_pes_packets g all)))
       where
         joined : (ks ls ms ns : List CheckStep) → ks ++ ls ++ ms ++ ns ≡ ks ++ (ls ++ ms ++ ns)
         joined ks ls ms ns =

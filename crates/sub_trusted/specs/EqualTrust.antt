@@ -42,8 +42,8 @@ AreTrusted g pes_packets from to =
 
 -- Frames that are trusted although subtitles were rejected are also trusted for a file with any
 -- other subtitles in place of the rejected ones, if these are expected only in frames whose
--- expected page was unknown, and if that file has any event. If `within` is not 0, this holds up to
--- each frame with a finished page.
+-- expected page was unknown, and if the check against that file has any event. If `within` is not
+-- 0, this holds up to each frame with a finished page.
 abbrev pub LawOfEqualTrust : Type 0
 LawOfEqualTrust =
     (programme : ProgrammeValue) (options : OptionsValue) (unread : Option UnreadReason)

@@ -1,5 +1,4 @@
--- The guarantees for trusted frames, and that all frames with these guarantees are reported as
--- trusted.
+-- The guarantees for trusted frames, and the conditions under which frames are reported as trusted.
 use Rattle.std.specs.Prelude.{◌≡◌, ◌≢◌, ℕ, zero, suc, ◌+◌, ◌<◌, ◌≤◌, ◌==◌, ◌&&◌, nat_lt, Bool}
 use Rattle.std.specs.Prelude.{List, [], ◌∷◌, ◌++◌, ◌⊎◌, Contains, length, take, Option, Some}
 use Rattle.std.specs.Prelude.{IsFalse, IsTrue, if◌then◌else◌, true}
@@ -17,7 +16,8 @@ use Rattle.sub_rules.specs.Transmission.{IsRising, Transmission, first_frame, la
 use Rattle.sub_rules.specs.Transmission.{packets_of}
 use Rattle.sub_rules.specs.Trusted.{has_no_active_faults}
 use Rattle.sub_rules.specs.declared.event.Event.TheVariants.{Trusted}
-use Rattle.sub_laws.specs.CleanStretch.{HoldsAtFrameEnds, IsUnreported, criteria_with_refusals}
+use Rattle.sub_laws.specs.CleanStretch.{HoldsAtFrameEnds, HasNoReceiverFault}
+use Rattle.sub_laws.specs.CleanStretch.{criteria_with_refusals}
 use Rattle.sub_laws.specs.OnScreen.{CompleteWithin}
 use Rattle.sub_laws.specs.Stretch.{MayBeTrusted}
 
@@ -52,7 +52,8 @@ BeginsText g frames i =
 -- ---- packets on air before and after trusted frames
 
 -- The packets on air in the frames `from` to `to` are those that were read. Frame numbers on air
--- increase. Before and after these frames, anything may be on air.
+-- increase, and the first is not after the first that was read. Before and after these frames,
+-- anything may be on air.
 pub record MatchesReadPackets (read on_air : Transmission) (from to : ℕ) : Type 0 where
   pub rising : IsRising on_air
   pub first : first_frame on_air ≤ first_frame read
@@ -60,7 +61,8 @@ pub record MatchesReadPackets (read on_air : Transmission) (from to : ℕ) : Typ
 
 -- No skipped PES packet was sent in the frames `from` to `to`. A skipped packet belongs to the
 -- frame of the PES packet before it, or comes after that frame, so that frame must not be one of
--- these frames.
+-- these frames. Skipped packets before the first frame, or after a frame number that does not
+-- increase, do not count.
 abbrev pub IsSkippedOutside : Criteria → List PesPacket → ℕ → ℕ → Type 0
 IsSkippedOutside g pes_packets from to =
     (earlier later : List PesPacket) (u : UnreadReason)
@@ -124,7 +126,7 @@ LawOfKnownPages =
     → from ≤ f + g.within
     → IsFalse (g.undecided f)
 
--- ---- all frames with the guarantees are reported
+-- ---- the frames that are reported as trusted
 
 -- The frames a to b could be reported as trusted: they have no fault that affects receivers, no
 -- fault is active at any of their ends, no skipped PES packet was sent in them, and if `within` is
@@ -132,7 +134,7 @@ LawOfKnownPages =
 -- increase or before unreadable bytes.
 pub record MayBeReportedAsTrusted (g : Criteria) (pes_packets : List PesPacket) (a b : ℕ) : Type 0
   where
-    pub unreported : IsUnreported g (rising_frames_of g pes_packets) a b
+    pub unreported : HasNoReceiverFault g (rising_frames_of g pes_packets) a b
     pub fault_free :
         HoldsAtFrameEnds (λ n f. IsTrue
         (has_no_active_faults (active_faults_at g (rising_frames_of g pes_packets) n f)))
@@ -154,9 +156,9 @@ IsAnythingReported g pes_packets = (all_events_of_pes_packets g pes_packets ≢ 
     g.any_unreliable
 
 -- If the PES file has any event, or a subtitle was rejected, each range of frames that could be
--- trusted is reported as trusted, in one event, from its first header that erases the page on. So
--- all frames with the guarantees are reported; if `within` is not 0, except those after the last
--- finished frame.
+-- trusted is reported as trusted, in one event, from its first header that erases the page on.
+-- Frames that have the guarantees without meeting the conditions of `MayBeReportedAsTrusted` need
+-- not be reported.
 abbrev pub LawOfAllTrusted : Type 0
 LawOfAllTrusted =
     (g : Criteria) (pes_packets : List PesPacket) (a b i : ℕ)

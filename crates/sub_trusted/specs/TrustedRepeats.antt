@@ -17,7 +17,7 @@ use Rattle.sub_trusted.specs.TrustedFrames.{StaysAsReadFromFile}
 -- The guarantees for the frames `from` to `to`. Frame `from` has a header that erases the page, so
 -- a receiver that is tuned in at its beginning recovers. A receiver that is tuned in later recovers
 -- if its page was blank or if it erases it at each header; any other receiver recovers from the
--- next header with C4 (erase page) set.
+-- next header with C4 (erase page) set. If `within` is not 0, at least one frame is finished.
 pub record MayStayWithRepeats
     (programme : ProgrammeValue) (transmission : Transmission) (options : OptionsValue)
     (from to : ℕ)

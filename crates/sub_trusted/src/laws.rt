@@ -1,5 +1,5 @@
-//! Laws about trusted frames: they can be broadcast unchanged, and all such frames are reported as
-//! trusted.
+//! Laws about trusted frames: they can be broadcast unchanged, and each range of frames that meets
+//! the conditions for trusted frames is reported as trusted.
 //!
 //! The functions have no body: the contract of each states a law.
 ghost use Rattle.sub_trusted.specs.EqualTrust.{LawOfEqualTrust};
@@ -16,28 +16,31 @@ pub fn law_of_trusted_repeats()
 {}
 
 /// If each header must have C4 (erase page) set and `within` is 0, a receiver that is tuned in at a
-/// trusted frame shows the expected page after the next header. If complete pages are required, the
-/// page is also on its screen.
+/// trusted frame has the expected page after the next header, apart from spaces because of errors.
+/// If complete pages are required, the page is also on its screen.
 pub fn law_of_trusted_frames()
     ensures { LawOfTrustedFrames }
 {}
 
 /// The expected page of each trusted frame is known, even if subtitles were rejected, and so are
-/// the expected pages of the `within` frames before it.
+/// the expected pages of the `within` frames before it, from the first frame that was read.
 pub fn law_of_known_pages()
     ensures { LawOfKnownPages }
 {}
 
 /// Frames that are trusted although subtitles were rejected are also trusted for any file with
-/// other subtitles in place of the rejected ones, if that file has any event. If `within` is not 0,
-/// this holds up to each frame with a correct page.
+/// other subtitles in place of the rejected ones, if these are expected only in frames whose
+/// expected page was unknown, and if the check against that file has any event. If `within` is not
+/// 0, this holds up to each frame with a finished page.
 pub fn law_of_equal_trust()
     ensures { LawOfEqualTrust }
 {}
 
-/// If a PES file has any event, or subtitles were rejected, each range of frames without faults
-/// that affect receivers is reported as trusted from its first header on. No skipped PES packet may
-/// have been sent in the range, and if `within` is not 0, its last frame must be finished.
+/// If a PES file has any event, or subtitles were rejected, each range of frames without active
+/// faults and without faults that affect receivers is reported as trusted, from its first header
+/// that erases the page on. No skipped PES packet may have been sent in the range, and if `within`
+/// is not 0, its last frame must be finished. The range must end before the last frame that
+/// precedes a frame number that does not increase, or unreadable bytes.
 #[tactic(auto, using(crate::proofs::AllTrustedLemmas::law_of_all_trusted))]
 pub fn law_of_all_trusted()
     ensures { LawOfAllTrusted }

@@ -4,10 +4,12 @@
 //! This crate contains no program: the contract of each function states a law.
 //!
 //! ```text
-//! law_of_trusted_repeats: Contains (all_events_of_pes_packets g list) (Trusted from to) →
-//! MayStayWithRepeats .. law_of_known_pages: .. → from ≤ f + g.within → .. → IsFalse (g.undecided
-//! f) law_of_all_trusted: MayBeReportedAsTrusted g list a b → .. → Contains
-//! (all_events_of_pes_packets g list) ..
+//! law_of_trusted_repeats:
+//!     Contains (all_events_of_pes_packets g list) (Trusted from to) → .. MayStayWithRepeats ..
+//! law_of_known_pages:
+//!     .. → from ≤ f + g.within → .. → IsFalse (g.undecided f)
+//! law_of_all_trusted:
+//!     MayBeReportedAsTrusted g list a b → .. → Contains (all_events_of_pes_packets g list) ..
 //! ```
 #![tactic(auto)]
 

@@ -23,7 +23,7 @@ use Rattle.clap.specs.declared.parser.matches.ArgMatches.{ArgMatches}
 use Rattle.clap.specs.declared.parser.matches.ArgMatches.TheViews.{out-SubCommand}
 use Rattle.clap.specs.declared.parser.matches.SubCommand.{SubCommand}
 use Rattle.clap.proofs.OnLiterals.{clap_on_literals}
-use Rattle.clap.proofs.WalkLemmas.{first_value-rows}
+use Rattle.clap.proofs.WalkLemmas.{first_value-rows, raw_values-rows}
 use Rattle.sub_words.specs.Commands.{are_accepted_by_clap, clap_rule, command_in, clap_refusals}
 use Rattle.sub_words.specs.Commands.{subttx_app}
 use Rattle.sub_words.specs.Commands.{texts_of}
@@ -203,4 +203,4 @@ pub request_by_command-met : {Z : Type 0} (arguments : List Text) (met : Option 
 request_by_command-met arguments None name rows is e f = cc
 request_by_command-met arguments (Some sub) name rows is e f = rw (← is) cc
 
-pub ruleset values = (first_value-rows)
+pub ruleset values = (first_value-rows, raw_values-rows)

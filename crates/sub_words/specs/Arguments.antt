@@ -1,12 +1,13 @@
 -- The values of a command's arguments, read from the matches of `clap`.
-use Rattle.std.specs.Prelude.{ℕ, ◌^◌, ◌-◌, Bool, true, false, ◌&&◌, List, [], Option, Some, None}
-use Rattle.std.specs.Prelude.{Result, Ok, codes, nat_le, ok_or, option_map, unwrap_or}
+use Rattle.std.specs.Prelude.{ℕ, ◌^◌, ◌-◌, ◌==◌, Bool, true, false, ◌&&◌, List, [], ◌∷◌, Option}
+use Rattle.std.specs.Prelude.{Some, None, Result, Ok, codes, length, nat_le, nat_lt, ok_or}
+use Rattle.std.specs.Prelude.{option_and_then, option_map, slice_get, unwrap_or}
 use Rattle.std.specs.Prelude.{if◌then◌else◌}
 use Rattle.std.specs.Option.{option_map_or}
 use Rattle.std.specs.Str.{bytes_eq}
-use Rattle.clap.specs.Words.{Row, Text, first_of}
+use Rattle.clap.specs.Words.{Row, Text, all_of, first_of}
 use Rattle.sub_io.specs.Reading.{◌>>=◌}
-use Rattle.ttx_packet.specs.PageId.{page_of_text}
+use Rattle.ttx_packet.specs.PageId.{PageIdValue, page_of_text}
 use Rattle.ttx_pes.specs.PesPacketRange.{PesPacketRangeValue}
 use Rattle.mpeg_ts.specs.declared.packet_size.PacketSize.{PacketSize}
 use Rattle.stl_file.specs.TimeCode.{day}
@@ -18,7 +19,7 @@ use Rattle.stl_rows.specs.LayoutText.{layout_of_text}
 use Rattle.stl_rows.specs.SubSets.{named_option}
 use Rattle.sub_plan.specs.Options.{OptionsValue}
 use Rattle.sub_words.specs.PesTexts.{packet_size_of_text, pid_of_text, range_of_text}
-use Rattle.sub_words.specs.Texts.{frame_of_text, list_of_text, number_of_text}
+use Rattle.sub_words.specs.Texts.{frame_of_text, list_after_texts, list_of_text, number_of_text}
 use Rattle.mpeg_ts.specs.declared.survey_options.SurveyOptions.{SurveyOptions}
 use Rattle.sub_request.specs.declared.pes_selection.TransportStream.{TransportStream}
 use Rattle.sub_request.specs.declared.request.UsageFault.{UsageFault}
@@ -121,15 +122,36 @@ stream_of rows = do
   packet_size ← packet_size_of rows
   Ok (option_map (λ pid. record { pid = pid; packet_size = packet_size }) pid)
 
--- The arguments `[--page P] [--pid P] [--packet-size S]` as the options of a survey, which detects
--- the packet size if the user gives none.
-abbrev pub survey_options_of : List Row → Result SurveyOptions UsageFault
-survey_options_of rows = do
-  page ← ok_or (page_of_text (argument (codes "page") rows)) fault.BadPage
+-- The two pages are the same.
+abbrev pub is_same_page : PageIdValue → PageIdValue → Bool
+is_same_page a b = (a.magazine == b.magazine) && (a.page == b.page)
+
+-- The pages of a survey in eight places; `None` if there are more pages than places.
+abbrev pub survey_pages : List PageIdValue → Option (List (Option PageIdValue))
+survey_pages pages =
+    if nat_lt 8 (length pages) then None
+    else Some (slice_get pages 0 ∷ slice_get pages 1 ∷ slice_get pages 2 ∷ slice_get pages 3
+    ∷ slice_get pages 4 ∷ slice_get pages 5 ∷ slice_get pages 6 ∷ slice_get pages 7 ∷ [])
+
+-- The pages of the texts of `--page`; `None` if a text is no page, if a page is given twice, or if
+-- there are more than eight pages.
+abbrev pub survey_pages_of_texts : List Text → Option (List (Option PageIdValue))
+survey_pages_of_texts texts =
+    option_and_then survey_pages (list_after_texts page_of_text is_same_page [] texts)
+
+-- The pages of the arguments `[--page P]..`, which has a default.
+abbrev pub survey_pages_of : List Row → Option (List (Option PageIdValue))
+survey_pages_of rows = option_and_then survey_pages_of_texts (all_of (codes "page") rows)
+
+-- The arguments `[--pid P] [--packet-size S]` as the options of a survey of these pages, which
+-- detects the packet size if the user gives none.
+abbrev pub survey_options_of :
+    List (Option PageIdValue) → List Row → Result SurveyOptions UsageFault
+survey_options_of pages rows = do
   pid ← ok_or (parsed_if_present pid_of_text (codes "pid") rows) fault.Pid
   packet_size ← ok_or (parsed_if_present packet_size_of_text (codes "packet-size") rows)
       fault.PacketSize
-  Ok (record { page = page; pid = pid; packet_size = packet_size })
+  Ok (record { pages = pages; pid = pid; packet_size = packet_size })
 
 -- The range of PES packets of the argument `[--pes I-J]`, if the user gives one.
 abbrev pub range_of_arguments : List Row → Result (Option PesPacketRangeValue) UsageFault

@@ -6,7 +6,7 @@ use Rattle.std.specs.Str.{bytes_eq}
 use Rattle.clap.specs.Kinds.{Kinds}
 use Rattle.clap.specs.Words.{App, Row, Rule, Text, fault_of, new_app, new_rule, subcommand_of}
 use Rattle.clap.specs.Words.{takes, with_rule, with_subcommand}
-use Rattle.clap.specs.declared.builder.action.ArgAction.TheVariants.{SetTrue}
+use Rattle.clap.specs.declared.builder.action.ArgAction.TheVariants.{Append, SetTrue}
 use Rattle.sub_words.specs.declared.command.Argument.{Argument}
 use Rattle.sub_words.specs.declared.command.Argument.TheVariants as argument
 
@@ -17,6 +17,10 @@ required_rule id = record (new_rule id) { required = true }
 -- The rule of an option `--name TEXT` with a default.
 abbrev pub option_rule : Text → Text → Rule
 option_rule id value = record (new_rule id) { long = Some id; defaults = value ∷ [] }
+
+-- The rule of an option `--name TEXT` with a default that may be given more than once.
+abbrev pub repeatable_option_rule : Text → Text → Rule
+repeatable_option_rule id value = record (option_rule id value) { action = Some Append }
 
 -- The rule of an optional option without a default.
 abbrev pub bare_option_rule : Text → Rule
@@ -35,6 +39,7 @@ abbrev pub clap_rule : Argument → Rule
 clap_rule (argument.Required id) = required_rule id.now
 clap_rule (argument.RequiredOption id) = required_option_rule id.now
 clap_rule (argument.Option id value) = option_rule id.now value.now
+clap_rule (argument.RepeatableOption id value) = repeatable_option_rule id.now value.now
 clap_rule (argument.BareOption id) = bare_option_rule id.now
 clap_rule (argument.Flag id) = flag_rule id.now
 
@@ -106,10 +111,10 @@ commands =
       required_rule (codes "recording") ∷ required_rule (codes "pes")
           ∷ required_option_rule (codes "pid") ∷ packet_size_rule ∷ [],
     )
-    -- The command `survey RECORDING [--page P] [--pid P] [--packet-size S]`.
+    -- The command `survey RECORDING [--page P].. [--pid P] [--packet-size S]`.
     ∷ (
       codes "survey",
-      required_rule (codes "recording") ∷ option_rule (codes "page") (codes "888")
+      required_rule (codes "recording") ∷ repeatable_option_rule (codes "page") (codes "888")
           ∷ bare_option_rule (codes "pid") ∷ bare_option_rule (codes "packet-size") ∷ [],
     )
     ∷ []

@@ -9,7 +9,7 @@ use Rattle.std.specs.Str.{bytes_eq}
 use Rattle.std.specs.Str.Parse.{digits_value}
 use Rattle.ttx_packet.specs.PacketAddress.{◌>>=◌}
 use Rattle.ttx_pes.specs.PesPacketRange.{PesPacketRangeValue, range_of}
-use Rattle.mpeg_ts.specs.Pid.{pid_of}
+use Rattle.mpeg_ts.specs.Pid.{pid_with_number}
 use Rattle.mpeg_ts.specs.declared.packet_size.PacketSize.{PacketSize}
 use Rattle.mpeg_ts.specs.declared.packet_size.PacketSize.TheVariants.{Plain, TimeStamped}
 use Rattle.mpeg_ts.specs.declared.packet_size.PacketSize.TheVariants.{ErrorCorrected}
@@ -33,7 +33,7 @@ number_of_hex_digits text =
 unfoldable pub pid_of_text : List ℕ → Option ℕ
 pid_of_text text = do
   number ← option_map_or number_of_hex_digits (digits_after_0x text) (number_of_text text)
-  pid_of number
+  pid_with_number number
 
 -- ---- the argument for the packet size
 
@@ -63,7 +63,7 @@ texts_around_dash text =
     else None
 
 -- The range of PES packets from the first number to the last, or to the end of the file if the text
--- of the last number is empty.
+-- of the last number is empty; `None` if the last is before the first.
 abbrev pub range_of_numbers : List ℕ → List ℕ → Option PesPacketRangeValue
 range_of_numbers first last = do
   first ← number_of_text first
@@ -71,6 +71,7 @@ range_of_numbers first last = do
       then range_of first None
       else (number_of_text last >>= (λ last. range_of first (Some last)))
 
--- The range of PES packets that a text describes: `I-J`, or `I-` to the end of the file.
+-- The range of PES packets that a text describes: `I-J` with I at most J, or `I-` to the end of the
+-- file.
 unfoldable pub range_of_text : List ℕ → Option PesPacketRangeValue
 range_of_text text = texts_around_dash text >>= (λ numbers. range_of_numbers numbers.0 numbers.1)

@@ -18,7 +18,7 @@ use Rattle.sub_words.specs.Arguments.{with_keeping_value}
 use Rattle.sub_words.specs.Arguments.{parsed_list_of}
 use Rattle.sub_words.specs.Arguments.{layout_of, national_of, options_of, options_with_pace}
 use Rattle.sub_words.specs.Arguments.{packet_size_of, pes_selection_of, required_pid_of, scope_of}
-use Rattle.sub_words.specs.Arguments.{survey_options_of}
+use Rattle.sub_words.specs.Arguments.{survey_options_of, survey_pages_of}
 use Rattle.sub_words.specs.Commands.{are_accepted_by_clap, command_in, clap_refusals}
 use Rattle.sub_words.specs.Help.{requests_help}
 use Rattle.sub_words.specs.Version.{requests_version}
@@ -74,7 +74,8 @@ value_of_request (ask.Survey recording options) = Survey recording.now options
 
 -- ---- the request of each command, or the first fault of its arguments, in this order
 
--- The request of `packet HEX`: 84 hexadecimal digits, upper or lower case.
+-- The request of `packet HEX`, or the fault `BadHex` unless HEX is 84 hexadecimal digits, upper or
+-- lower case.
 abbrev pub packet_request : List Row → Result Requested UsageFault
 packet_request rows = do
   bytes ← ok_or (result_ok (decode_sized (argument (codes "hex") rows) 42)) fault.BadHex
@@ -149,11 +150,12 @@ extract_request rows = do
   packet_size ← packet_size_of rows
   Ok (Extract names.0 names.1 (record { pid = pid; packet_size = packet_size }))
 
--- The request of `survey RECORDING [--page P] [--pid P] [--packet-size S]`, or the first fault of
+-- The request of `survey RECORDING [--page P].. [--pid P] [--packet-size S]`, or the first fault of
 -- its arguments.
 abbrev pub survey_request : List Row → Result Requested UsageFault
 survey_request rows = do
-  options ← survey_options_of rows
+  pages ← ok_or (survey_pages_of rows) fault.BadPage
+  options ← survey_options_of pages rows
   Ok (Survey (argument (codes "recording") rows) options)
 
 -- The request of a command, given its name and the values of its arguments. The last case is

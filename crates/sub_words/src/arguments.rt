@@ -18,7 +18,7 @@ use crate::numbers::parse_number;
 use crate::pes_selection::{parse_packet_size, parse_pid, parse_range};
 use crate::times::parse_time;
 use clap::ArgMatches;
-use mpeg_ts::{PacketSize, Pid, SurveyOptions};
+use mpeg_ts::{PacketSize, Pid, SurveyOptions, SurveyPages};
 use std::alloc::Global;
 use stl_file::Scope;
 use stl_rows::Layout;
@@ -211,17 +211,17 @@ fn stream_at<'a>(matches: &ArgMatches<'a>) -> Result<Option<TransportStream>, Us
     Ok(pid.map(|pid| TransportStream { pid, packet_size }))
 }
 
-/// Returns the options of a survey, from `--page`, `--pid` and `--packet-size`.
+/// Returns the options of a survey of these pages, from `--pid` and `--packet-size`.
 ///
 /// # Errors
 ///
-/// Returns the first fault of `BadPage`, `Pid` and `PacketSize`.
-pub fn survey_options_at<'a>(matches: &ArgMatches<'a>) -> Result<SurveyOptions, UsageFault>
-    ensures { result ≡ survey_options_of (rows_of (found_of matches.now)) }
+/// Returns the first fault of `Pid` and `PacketSize`.
+pub fn survey_options_at<'a>(
+    matches: &ArgMatches<'a>,
+    pages: SurveyPages,
+) -> Result<SurveyOptions, UsageFault>
+    ensures { result ≡ survey_options_of pages (rows_of (found_of matches.now)) }
 {
-    let Ok(page) = PageId::parse(text_at(matches, "page")) else {
-        return Err(UsageFault::BadPage);
-    };
     let pid = match argument_at(matches, "pid") {
         Some(text) => Some(parse_pid(text).ok_or(UsageFault::Pid)?),
         None => None,
@@ -231,7 +231,7 @@ pub fn survey_options_at<'a>(matches: &ArgMatches<'a>) -> Result<SurveyOptions, 
         None => None,
     };
     Ok(SurveyOptions {
-        page,
+        pages,
         pid,
         packet_size,
     })

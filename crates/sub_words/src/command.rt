@@ -14,12 +14,14 @@ use std::alloc::{AllocError, Global};
 /// An argument of a command, by its name.
 #[derive(Clone, Copy)]
 pub enum Argument {
-    /// A required argument without a name, such as the file of `show`.
+    /// A required argument that is no option, such as the file of `show`, with its identifier.
     Required(&'static str),
     /// A required option, `--name TEXT`.
     RequiredOption(&'static str),
     /// An option with a default, `--name TEXT`.
     Option(&'static str, &'static str),
+    /// An option with a default that may be given more than once, `--name TEXT`.
+    RepeatableOption(&'static str, &'static str),
     /// An optional option without a default, `--name TEXT`.
     BareOption(&'static str),
     /// A flag, `--name`.
@@ -113,7 +115,7 @@ const COMMANDS: [(&str, &[Argument]); 9] = [
         "survey",
         &[
             Argument::Required("recording"),
-            Argument::Option("page", "888"),
+            Argument::RepeatableOption("page", "888"),
             Argument::BareOption("pid"),
             Argument::BareOption("packet-size"),
         ],
@@ -188,6 +190,10 @@ fn clap_argument<'a>(alloc: Global, argument: Argument) -> Arg<'a>
         Argument::Required(id) => Arg::new(alloc, id).required(true),
         Argument::RequiredOption(id) => Arg::new(alloc, id).long(id).required(true),
         Argument::Option(id, value) => Arg::new(alloc, id).long(id).default_value(value),
+        Argument::RepeatableOption(id, value) => Arg::new(alloc, id)
+            .long(id)
+            .default_value(value)
+            .action(ArgAction::Append),
         Argument::BareOption(id) => Arg::new(alloc, id).long(id),
         Argument::Flag(id) => Arg::new(alloc, id).long(id).action(ArgAction::SetTrue),
     }

@@ -8,7 +8,8 @@ use crate::command::is_command;
 /// Returns whether arguments request help: the program's name is followed by a word for help, alone
 /// or together with the name of a command.
 ///
-/// No other arguments request help, so for all other arguments status 0 is the result of a command.
+/// No other arguments request help. So for all other arguments that do not request the version,
+/// status 0 is the result of a command.
 #[tactic(auto, unfolding(crate::specs::Help::requests_help))]
 pub fn requests_help(arguments: &[&str]) -> bool
     ensures { result ≡ specs.requests_help (texts_of arguments.now) }
@@ -23,6 +24,7 @@ pub fn requests_help(arguments: &[&str]) -> bool
 }
 
 // Returns whether one of the two words requests help, and the other word is the name of a command.
+// The word `help` must come first.
 fn is_help_of(first: &str, second: &str) -> bool
     ensures { result ≡ specs.is_help_of first.now second.now }
 {

@@ -15,6 +15,7 @@ mod help;
 mod laws;
 mod lists;
 mod numbers;
+mod pages;
 mod parsing;
 mod pes_selection;
 mod reading;

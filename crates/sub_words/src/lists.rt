@@ -45,7 +45,7 @@ pub fn parse_list<A: Allocator + Copy + Drop, T: Item + Drop>(
     if texts.len() > MAX_ITEMS {
         return Ok(None);
     }
-    items_of(alloc, texts.as_slice())
+    parse_items(alloc, texts.as_slice())
 }
 
 // Splits a text at its commas.
@@ -56,9 +56,13 @@ fn texts_of<A: Allocator>(alloc: A, text: &str) -> Result<Vec<&str, A>, AllocErr
     text.split(',').collect(alloc)
 }
 
-// Returns the items of the texts, or `None` if a text is no item, or an item equals an earlier
-// item.
-fn items_of<A: Allocator + Drop, T: Item + Drop>(
+/// Returns the items of the texts, or `None` if a text is no item, or an item equals an earlier
+/// item.
+///
+/// # Errors
+///
+/// Fails if memory runs out.
+pub fn parse_items<A: Allocator + Drop, T: Item + Drop>(
     alloc: A,
     texts: &[&str],
 ) -> Result<Option<Vec<T, A>>, AllocError>

@@ -29,7 +29,7 @@ pub trait ParseArguments<'a>: Sized {
     /// command's arguments, in this order: `BadHex`, `SameFile`, `BadPage`, `Every`, `Origin`,
     /// `BadOption`, `Within`, `Pid`, `PacketSize`, `Range`, `BadLayout`, `Pace`, `BadTime`,
     /// `BadSkip`, `BadFlip`, `BadLose`, `BadReceiver`. Returns `Memory` if there are arguments and
-    /// memory runs out before the fault is known.
+    /// memory runs out before the request or the fault is known.
     fn parse(alloc: Global, arguments: &'a [&'a str]) -> Result<Self, UsageFault>;
 }
 

@@ -11,6 +11,7 @@ use crate::arguments::{
     scope_at, survey_options_at, text_at, with_keeping_flag, with_within_option,
 };
 use crate::numbers::parse_number;
+use crate::pages::survey_pages_at;
 use crate::times::{parse_receiver, parse_time};
 use clap::ArgMatches;
 use std::alloc::Global;
@@ -22,7 +23,8 @@ use sub_request::{Listening, Request, TransportStream, UsageFault};
 /// # Errors
 ///
 /// Returns the first fault of the arguments by the program's own rules, or `Memory` if memory runs
-/// out before the fault is known: only the lists of `listen` need memory.
+/// out before the request or the fault is known: only the lists of `listen` and the pages of
+/// `survey` need memory.
 #[tactic(auto, using(crate::proofs::CommandLemmas::exact_reading_holds_with_memory))]
 pub fn read_command<'a>(
     alloc: Global,
@@ -42,7 +44,7 @@ pub fn read_command<'a>(
         "check" => read_check(matches),
         "listen" => read_listen(alloc, matches),
         "extract" => read_extract(matches),
-        _ => read_survey(matches),
+        _ => read_survey(alloc, matches),
     }
 }
 
@@ -191,11 +193,14 @@ fn read_extract<'a>(matches: &ArgMatches<'a>) -> Result<Request<'a>, UsageFault>
     })
 }
 
-// Reads the arguments of `survey RECORDING [--page P] [--pid P] [--packet-size S]`.
-fn read_survey<'a>(matches: &ArgMatches<'a>) -> Result<Request<'a>, UsageFault>
-    ensures { IsReadExactly (survey_request (rows_of (found_of matches.now))) result }
+// Reads the arguments of `survey RECORDING [--page P].. [--pid P] [--packet-size S]`.
+fn read_survey<'a>(alloc: Global, matches: &ArgMatches<'a>) -> Result<Request<'a>, UsageFault>
+    ensures { IsReadGivenMemory (survey_request (rows_of (found_of matches.now))) result }
 {
-    let options = survey_options_at(matches)?;
+    let Some(pages) = survey_pages_at(alloc, matches)? else {
+        return Err(UsageFault::BadPage);
+    };
+    let options = survey_options_at(matches, pages)?;
     Ok(Request::Survey {
         recording: text_at(matches, "recording"),
         options,

@@ -3,8 +3,8 @@
 use std::fmt;
 use std::fmt::{Debug, Display, Formatter};
 
-/// A text that the user gave. A text of letters, digits and signs is shown as it is. Any other text
-/// is quoted and escaped, as file names are.
+/// A text that the user gave. A text of one or more visible ASCII characters other than quotes and
+/// backslashes is shown as it is. Any other text is quoted and escaped, as file names are.
 #[derive(Clone, Copy)]
 pub struct Shown<'a>(pub &'a str);
 

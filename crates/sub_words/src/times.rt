@@ -1,4 +1,5 @@
-//! Parses the time and the receiver of the command `listen`.
+//! Parses the times of `listen` and of the options `--from` and `--to`, and the receiver of
+//! `listen`.
 ghost use Rattle.std.specs.Prelude.{◌≡◌, ◌+◌, ◌<◌, ◌≤◌, IfSome, length};
 ghost use Rattle.stl_file.specs.TimeCode.{day};
 ghost use Rattle.sub_words.specs.Texts.{frame_of_text, receiver_of_text, two_digits_at};

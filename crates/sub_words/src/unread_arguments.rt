@@ -153,7 +153,7 @@ fn read_option<'a>(
         Some((name, value)) => (name, Some(value)),
         None => (argument, None),
     };
-    let Some((place, takes_value)) = option_named(table, name) else {
+    let Some((place, takes_value, is_repeatable)) = option_named(table, name) else {
         scan.found = Some(if is_help_word(name) || is_version_word(name) {
             about(
                 "",
@@ -166,7 +166,7 @@ fn read_option<'a>(
         });
         return;
     };
-    scan.found = if scan.is_given(place) {
+    scan.found = if scan.is_given(place) && !is_repeatable {
         Some(about("", Some(name), "give it only once", ""))
     } else if takes_value {
         match value {
@@ -183,24 +183,26 @@ fn read_option<'a>(
     scan.value_follows = takes_value && value.is_none();
 }
 
-// Returns the place of an option in the table of a command, and whether the option takes a value.
-fn option_named(table: &[Argument], name: &str) -> Option<(usize, bool)> {
+// Returns the place of an option in the table of a command, whether the option takes a value, and
+// whether it may be given more than once.
+fn option_named(table: &[Argument], name: &str) -> Option<(usize, bool, bool)> {
     let name = name.strip_prefix("--")?;
     for place in 0..table.len() {
-        let (id, takes_value) = match table[place] {
+        let (id, takes_value, is_repeatable) = match table[place] {
             Argument::Required(_) => continue,
-            Argument::Flag(id) => (id, false),
-            Argument::RequiredOption(id) | Argument::BareOption(id) => (id, true),
-            Argument::Option(id, _) => (id, true),
+            Argument::Flag(id) => (id, false, false),
+            Argument::RequiredOption(id) | Argument::BareOption(id) => (id, true, false),
+            Argument::Option(id, _) => (id, true, false),
+            Argument::RepeatableOption(id, _) => (id, true, true),
         };
         if id == name {
-            return Some((place, takes_value));
+            return Some((place, takes_value, is_repeatable));
         }
     }
     None
 }
 
-// Returns the number of arguments without a name.
+// Returns the number of required arguments that are no options.
 fn required_count(table: &[Argument]) -> usize {
     let mut count: usize = 0;
     for argument in table {
@@ -211,7 +213,8 @@ fn required_count(table: &[Argument]) -> usize {
     count
 }
 
-// Returns the line about a command in which no argument is wrong: one is missing.
+// Returns the line about a command in which no argument is wrong: one is missing, or `clap`
+// rejected arguments that fit the command's table.
 fn explain_missing<'a>(
     scan: &Scan<'a>,
     command: &'a str,

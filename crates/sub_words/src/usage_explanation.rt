@@ -4,15 +4,19 @@
 
 use crate::arguments::argument_at;
 use crate::command::subttx_command;
+use crate::lists::Item;
+use crate::pages::texts_at;
 use crate::parsing::ParseArguments;
 use crate::shown::Shown;
 use crate::times::parse_time;
 use crate::unread_arguments::explain_unread;
 use clap::ArgMatches;
+use mpeg_ts::MAX_SURVEY_PAGES;
 use std::alloc::Global;
 use std::fmt;
 use std::fmt::{Display, Formatter};
 use sub_request::{Request, UsageFault};
+use ttx_packet::PageId;
 
 /// The line about wrong arguments: `subttx: ARGUMENT VALUE: ADVICE`.
 #[derive(Clone, Copy)]
@@ -77,6 +81,7 @@ pub fn explanation_of<'a>(alloc: Global, arguments: &'a [&'a str]) -> Option<Exp
 // program itself.
 fn explain_value<'a>(fault: &UsageFault, matches: &ArgMatches<'a>) -> Option<Explanation<'a>> {
     let (argument, id, advice) = match fault {
+        UsageFault::BadPage => return explain_page(matches),
         UsageFault::BadHex => ("HEX", "hex", "give 42 bytes as 84 hexadecimal digits"),
         UsageFault::SameFile => output_argument(matches),
         UsageFault::BadTime => time_argument(matches),
@@ -94,8 +99,6 @@ fn explain_value<'a>(fault: &UsageFault, matches: &ArgMatches<'a>) -> Option<Exp
 #[rattlefmt::skip]
 fn option_of(fault: &UsageFault) -> Option<(&'static str, &'static str, &'static str)> {
     Some(match fault {
-        UsageFault::BadPage => ("--page", "page",
-            "give a page: a digit from 1 to 8 and two hexadecimal digits, not FF"),
         UsageFault::Every => ("--every", "every", "give a number of frames from 1 to 2,160,000"),
         UsageFault::Origin => ("--origin", "origin", "give a PTS from 0 to 8,589,934,591"),
         UsageFault::BadOption => ("--option", "option",
@@ -117,6 +120,40 @@ fn option_of(fault: &UsageFault) -> Option<(&'static str, &'static str, &'static
         UsageFault::BadReceiver => ("--receiver", "receiver", "give blank, keep, drop or anew"),
         _ => return None,
     })
+}
+
+// Returns the line about the first `--page` that is wrong.
+fn explain_page<'a>(matches: &ArgMatches<'a>) -> Option<Explanation<'a>> {
+    let texts = texts_at(matches, "page")?;
+    for place in 0..texts.len() {
+        if let Some(advice) = advice_on_page(texts, place) {
+            return Some(Explanation {
+                argument: "--page",
+                value: Some(texts[place]),
+                advice,
+                usage: "",
+            });
+        }
+    }
+    None
+}
+
+// Returns what to give instead of a page that is wrong, or `None` if the page is right.
+fn advice_on_page(texts: &[&str], place: usize) -> Option<&'static str> {
+    let page = PageId::read(texts.get(place)?);
+    if page.is_none() {
+        return Some("give a page: a digit from 1 to 8 and two hexadecimal digits, not FF");
+    }
+    for text in texts.iter().take(place) {
+        if PageId::read(text) == page {
+            return Some("give each page only once");
+        }
+    }
+    if place < MAX_SURVEY_PAGES {
+        None
+    } else {
+        Some("give at most 8 pages")
+    }
 }
 
 // Returns the argument for the output file, which is named like the input.

@@ -9,7 +9,7 @@ ghost use Rattle.sub_headline.specs.Headline.{ImpliesDrawnHeadline, ImpliesDropp
 ghost use Rattle.sub_headline.specs.Headline.{ImpliesFileReading};
 ghost use Rattle.sub_headline.specs.Headline.{ImpliesHeadline};
 ghost use Rattle.sub_headline.specs.Headline.{ImpliesRecordingHeadline, ImpliesRecordingReading};
-ghost use Rattle.sub_headline.specs.Headline.{ImpliesRecordingReceivers, ImpliesScreenContents};
+ghost use Rattle.sub_headline.specs.Headline.{ImpliesPageCharacters, ImpliesRecordingReceivers};
 ghost use Rattle.subttx.specs.Words.{arguments_given};
 
 use crate::run;
@@ -26,11 +26,12 @@ use sub_io::Sink;
 /// For the arguments `check STL PES`, exit status 0 means that the headline is true for the
 /// subtitles and frames in the files. If `--page`, `--every`, `--origin`, `--pace`, `--complete` or
 /// `--all` follow, 0 means that it is true with these options, also for receivers that drop damaged
-/// rows and for the screens of all receivers, and that the bytes match their formats and contain
-/// nothing else. Any status other than 2 decides whether the files are accepted. With `--pid`,
-/// `--packet-size`, `--pes`, `--from`, `--to` or `--open`, all this applies to the selected parts
-/// of a recording and of a subtitle file. With `--option` or `--layout`, the headline applies to
-/// subtitles drawn with this national option or layout.
+/// rows, that the decoded pages of all receivers that are set to region 0000 or 0010 show the
+/// expected characters, and that the bytes match their formats and contain no other subtitles or
+/// frames. Any status other than 2 then decides whether the files are accepted. With `--pid`,
+/// `--packet-size`, `--pes`, `--from`, `--to` or `--open`, status 0 means the same for the selected
+/// parts of a recording and of a subtitle file. With `--option` or `--layout`, it means that the
+/// headline is true for subtitles drawn with this national option or layout.
 pub fn run_in_memory<K: Sink + Drop>(
     alloc: Global,
     given: io::Result<Args>,
@@ -41,7 +42,7 @@ pub fn run_in_memory<K: Sink + Drop>(
     ensures headline { ImpliesHeadline (arguments_given given) files.old result }
     ensures chosen { ImpliesChosenHeadline (arguments_given given) files.old result }
     ensures dropping { ImpliesDroppingHeadline (arguments_given given) files.old result }
-    ensures screens { ImpliesScreenContents (arguments_given given) files.old result }
+    ensures decoded_characters { ImpliesPageCharacters (arguments_given given) files.old result }
     ensures files { ImpliesFileReading (arguments_given given) files.old result }
     ensures complete { ImpliesCompletePages (arguments_given given) files.old result }
     ensures recording { ImpliesRecordingHeadline (arguments_given given) files.old result }

@@ -8,7 +8,7 @@ mod arguments;
 mod in_memory;
 
 ghost use Rattle.std.specs.Prelude.{◌≡◌, IfErr, IfOk};
-ghost use Rattle.sub_io.specs.Buffered.{failures_with_refused_writes};
+ghost use Rattle.sub_io.specs.Buffered.{failures_with_refused_calls};
 ghost use Rattle.sub_answer.specs.Ending.{BufferHoldsOneLineOnly, file_observations};
 ghost use Rattle.sub_answer.specs.Ending.{state_of_buffer};
 ghost use Rattle.sub_files.specs.FileCalls.{CallsInOrder};
@@ -30,7 +30,7 @@ use sub_io::{BufferedSink, IntoWrite, Sink};
 use sub_request::{Request, UsageFault};
 use sub_words::{ParseArguments, explain_usage};
 
-// The size in bytes of the buffer for the line that reports a lack of memory.
+// The size in bytes of the buffer for the line about a lack of memory or a closed stream.
 const SMALL_BUFFER_SIZE: usize = 64;
 
 fn main(rt: HostRuntime) -> ExitCode {
@@ -53,7 +53,7 @@ struct Streams {
 }
 
 impl Streams {
-    // Returns the folder in the place of a closed stream.
+    // Returns the folder in the place of a closed stream; `Nothing` if no stream is closed.
     fn found(&self) -> LookupResult {
         match (self.input.found, self.output.found) {
             (LookupResult::Nothing, LookupResult::Nothing) => self.errors.found,
@@ -133,7 +133,8 @@ fn explain_lost_arguments(rt: &HostRuntime, error: &io::Error) {
 }
 
 // Returns the number of the first argument that is not UTF-8 text. The program's name is argument
-// 0. Returns `None` if an argument before it is longer than a file's name may be.
+// 0. Returns `None` if there is none, or if an argument up to it is longer than `NAMES_CAPACITY`
+// bytes.
 fn wrong_text_at(rt: &HostRuntime) -> Option<usize> {
     let mut text = [0; NAMES_CAPACITY];
     for place in 0..usize::MAX {
@@ -201,7 +202,7 @@ fn answer_or_print_fault<D: FileSystem, K: Sink>(
     files: &mut D,
     out: &mut BufferedSink<'_, K>,
 ) -> Status
-    requires { failures_with_refused_writes (K.failure_count out.old.device) out.old.refused ≡ 0 }
+    requires { failures_with_refused_calls (K.failure_count out.old.device) out.old.refused ≡ 0 }
     ensures { RunEnds (CallsInOrder D.is_call files.old files.new)
         (file_observations D.Input.remaining D.Input.failure_count
         D.Output.contents D.Output.failure_count D.Output.is_stored)
@@ -210,7 +211,7 @@ fn answer_or_print_fault<D: FileSystem, K: Sink>(
         (state_of_buffer K.contents K.failure_count out.old)
         (state_of_buffer K.contents K.failure_count out.new) result }
 {
-    match answer_parsed_arguments(alloc, given, files, out) {
+    match parse_and_answer(alloc, given, files, out) {
         Ok(status) => status,
         Err(fault) => print_and_flush_usage_fault(&fault, out),
     }
@@ -221,13 +222,13 @@ fn answer_or_print_fault<D: FileSystem, K: Sink>(
 // # Errors
 //
 // Returns the fault that prevents an answer.
-fn answer_parsed_arguments<D: FileSystem, K: Sink>(
+fn parse_and_answer<D: FileSystem, K: Sink>(
     alloc: Global,
     given: io::Result<Args>,
     files: &mut D,
     out: &mut BufferedSink<'_, K>,
 ) -> Result<Status, UsageFault>
-    requires { failures_with_refused_writes (K.failure_count out.old.device) out.old.refused ≡ 0 }
+    requires { failures_with_refused_calls (K.failure_count out.old.device) out.old.refused ≡ 0 }
     ensures ends { IfOk result (RunAnswers (CallsInOrder D.is_call files.old files.new)
         (file_observations D.Input.remaining D.Input.failure_count
         D.Output.contents D.Output.failure_count D.Output.is_stored)

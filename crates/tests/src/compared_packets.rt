@@ -68,7 +68,7 @@ fn goes_on_after_a_pes_packet_that_is_refused(rt: HostRuntime) {
     assert!(rt;
         PesFault::DataId.is_packet_content_fault() && !PesFault::Truncated.is_packet_content_fault()
     );
-    reader.skip_packet();
+    reader.continue_after_fault();
     assert_compares(
         &rt,
         &mut reader,
@@ -76,7 +76,7 @@ fn goes_on_after_a_pes_packet_that_is_refused(rt: HostRuntime) {
         Compared::Other,
         (TEN + 90_000, 3),
     );
-    reader.skip_packet();
+    reader.continue_after_fault();
     assert_compares(
         &rt,
         &mut reader,

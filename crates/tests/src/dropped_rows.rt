@@ -18,7 +18,7 @@ const CODES: [u8; 40] = [
     0x20,
 ];
 
-// Returns the page after the packets of the schedule were received.
+// Returns the page after the first page transmission for `Hi` was received without wrong bits.
 fn shown_page() -> Page {
     let mut page = Page::blank();
     page.set_row(22, &CODES);
@@ -71,11 +71,11 @@ fn drops_the_row_at_each_wrong_bit_of_its_text(rt: HostRuntime) {
 fn keeps_what_the_row_had(rt: HostRuntime) {
     let page_id = PageId::parse("888").expect(&rt, "page 888");
     let mut receiver = DropRow::tune(page_id, old_page());
-    assert!(rt; receiver.watched() == page_id && !receiver.heard() && !receiver.open());
+    assert!(rt; receiver.watched() == page_id && !receiver.heard() && !receiver.is_page_open());
     // The row is sent again with another code of odd parity in byte 20 and even parity in byte 21,
     // so the receiver drops it.
     let mut row = ROW;
     (row[20], row[21]) = (0xE9, 0x41);
     receiver.hear_all(&[Packet::new(HEADER), Packet::new(ROW), Packet::new(row)]);
-    assert!(rt; receiver.heard() && receiver.open() && *receiver.page() == shown_page());
+    assert!(rt; receiver.heard() && receiver.is_page_open() && *receiver.page() == shown_page());
 }

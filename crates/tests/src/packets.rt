@@ -23,7 +23,7 @@ fn makes_and_reads_a_header(rt: HostRuntime) {
     assert_same(&rt, &packet.address(), &Some((0, 0)));
     assert_same(
         &rt,
-        &[packet.header(), packet.coded_header()],
+        &[packet.header(), packet.decoded_header()],
         &[Some(header); 2],
     );
 }
@@ -84,7 +84,7 @@ fn makes_and_reads_a_row(rt: HostRuntime) {
     let packet = Packet::of_row(0, 22, &[0x41; 40]);
     let sent = packet.bytes();
     assert!(rt; sent[0] == 0x15 && sent[1] == 0x9B && sent[2] == 0xC1 && sent[41] == 0xC1);
-    assert_same(&rt, &packet.first_even(), &None);
+    assert_same(&rt, &packet.first_even_parity_column(), &None);
 }
 
 // Returns the first column with a byte of even parity, computed byte by byte.
@@ -103,17 +103,21 @@ fn finds_the_only_even_byte_at_each_place(rt: HostRuntime) {
         let mut bytes = [0x20; 42];
         bytes[column as usize + 2] = 0xA0;
         let packet = Packet::new(bytes);
-        assert_same(&rt, &packet.first_even(), &Some(column));
+        assert_same(&rt, &packet.first_even_parity_column(), &Some(column));
         assert_same_for_case(
             &rt,
-            &packet.first_even(),
+            &packet.first_even_parity_column(),
             &plain_first_even(&packet),
             &column,
         );
     }
     // Bytes of even parity in the address of a packet are not part of its text.
     let packet = Packet::new([0x20; 42]);
-    assert_same(&rt, &packet.first_even(), &plain_first_even(&packet));
+    assert_same(
+        &rt,
+        &packet.first_even_parity_column(),
+        &plain_first_even(&packet),
+    );
 }
 
 #[test]

@@ -19,7 +19,7 @@ fn range(rt: &impl Abort, first: u64, last: Option<u64>) -> PesPacketRange {
 // Returns the PES packets of a source in this range.
 fn part_of<P: PesPackets>(all: &mut P, range: PesPacketRange) -> PartOfPesPackets<'_, P> {
     PartOfPesPackets {
-        inner: LimitedPesPackets::new(all, range.most()),
+        inner: LimitedPesPackets::new(all, range.pes_packet_count()),
         ahead: PesPacketsAhead::new(range.first()),
     }
 }

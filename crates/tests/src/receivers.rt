@@ -64,7 +64,7 @@ fn assert_becomes<R: Receiver + Drop>(
     hear_all(&mut receiver, &packets(starts));
     assert_same_for_case(
         rt,
-        &[receiver.heard(), receiver.open()],
+        &[receiver.heard(), receiver.is_page_open()],
         &heard_and_open,
         starts,
     );

@@ -10,7 +10,7 @@ use Rattle.ts_survey.specs.Requested.{packet_keeps_requested}
 use Rattle.ts_survey.specs.Counted.{BeginsAfterSkipping, IsAtStreamStart, CountsRecording}
 use Rattle.ts_survey.specs.Counted.{CountsStream}
 use Rattle.ts_survey.specs.Counted.{ReadsStream, HasReadUpToBuffer, ReadsNoMoreOfStream}
-use Rattle.ts_survey.specs.Counted.{AnyReceiverTakes, TakesStartedStream}
+use Rattle.ts_survey.specs.Counted.{SomeReceiverTakes, TakesStartedStream}
 use Rattle.ts_survey.specs.Following.{accepts_any_state}
 use Rattle.ts_survey.specs.InStep.{TakesAll, saturating_count, items_from, packet_count}
 use Rattle.ts_survey.specs.InStep.{skipped_byte_count}
@@ -30,7 +30,7 @@ runs-any (p ∷ ps) = (tt, tt, runs-any ps)
 taken-any :
     (old new : PacketsInStep) (before after : Multiplex) (bytes : List ℕ) (is_end : Bool) (used : ℕ)
     → TakesAll packet_keeps_requested old before bytes is_end used new after
-    → AnyReceiverTakes old bytes is_end used new
+    → SomeReceiverTakes old bytes is_end used new
 taken-any old new before after bytes is_end used takes = record {
   within = takes.within;
   found = record {
@@ -66,7 +66,7 @@ begun-read skipped_before first new start after received bytes buffered is_end u
       begins = begins;
       used = used;
       taken =
-          subst (λ l. AnyReceiverTakes first l is_end used new) is
+          subst (λ l. SomeReceiverTakes first l is_end used new) is
           (taken-any first new start after bytes is_end used takes);
       left = left ∙ ap (drop used) is;
     }
@@ -95,12 +95,12 @@ read-on mid new reported after received more buffered bytes next is_end used rea
       begins = read.begins;
       used = read.used + used;
       taken =
-          subst (λ l. AnyReceiverTakes read.first l is_end (read.used + used) new) ahead
+          subst (λ l. SomeReceiverTakes read.first l is_end (read.used + used) new) ahead
           (law_of_two_calls {T = Unit {0}} accepts_any_state read.first mid new tt tt tt one
           more
           is_end
           read.used used read.taken
-          (subst (λ l. AnyReceiverTakes mid l is_end used new) whole
+          (subst (λ l. SomeReceiverTakes mid l is_end used new) whole
           (taken-any mid new reported after bytes is_end used takes)));
       left =
           left

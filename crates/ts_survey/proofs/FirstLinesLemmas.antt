@@ -339,7 +339,7 @@ long-on true has received more long enough is =
     let e = length-append received more in omega (arith, e, long refl)
 long-on false has received more long enough is = enough refl is
 
--- Until the first line is printed, all received bytes stay in the buffer.
+-- If the buffer has all received bytes, it has all of them also after further bytes were received.
 pub received-all : (received buffered now bytes more : List ℕ)
     → buffered ≡ received
     → now ≡ buffered ++ more

@@ -175,7 +175,7 @@ trailing_skipped_count-skipped zero run small = grind (arith, nat_tests)
 trailing_skipped_count-skipped (suc k) run small =
     grind (arith, nat_tests, trailing_skipped_count-skipped k (saturating_count run 1))
 
--- A gap is reported once, at the skipped byte that completes it.
+-- A loss is reported once, at the skipped byte with which the bytes skipped in a row become a loss.
 reports_of_items-skipped : (distance k run : ℕ)
     → distance ≤ 204
     → run ≤ 0xFFFF_FFFF_FFFF_FFFF

@@ -30,7 +30,7 @@ runs-keep : (old new : Multiplex) (packets : List (List ℕ))
     → RunsBy packet_keeps_requested old packets new
     → KeepsRequested old new
 runs-keep old new [] run =
-    (ap (λ m. m.requested) run, ap (λ m. m.page) run, ap (λ m. unrequested_followed_pids m) run)
+    (ap (λ m. m.requested) run, ap (λ m. m.pages) run, ap (λ m. unrequested_followed_pids m) run)
 runs-keep old new (p ∷ ps) run =
     let rest = runs-keep run.0 new ps run.2 in
     (rest.0 ∙ run.1.0, rest.1 ∙ run.1.1, rest.2 ∙ run.1.2)

@@ -29,8 +29,8 @@ IsAtStreamStart skipped_before (Stream packets multiplex) = BeginsAfterSkipping 
 IsAtStreamStart skipped_before _ = ⊤
 
 -- The transport packets in these bytes were processed by some receiver.
-abbrev pub AnyReceiverTakes : PacketsInStep → List ℕ → Bool → ℕ → PacketsInStep → Type 0
-AnyReceiverTakes old bytes is_end used new =
+abbrev pub SomeReceiverTakes : PacketsInStep → List ℕ → Bool → ℕ → PacketsInStep → Type 0
+SomeReceiverTakes old bytes is_end used new =
     TakesAll {T = Unit {0}} accepts_any_state old (tt {0}) bytes is_end used new (tt {0})
 
 -- A stream begins after `skipped_before` bytes, and the transport packets in its first bytes were
@@ -60,7 +60,7 @@ pub record ReadsStream (received buffered : List ℕ) (is_end : Bool) (packets :
   pub first : PacketsInStep
   pub begins : BeginsAfterSkipping skipped_before first
   pub used : ℕ
-  pub taken : AnyReceiverTakes first (drop skipped_before received) is_end used packets
+  pub taken : SomeReceiverTakes first (drop skipped_before received) is_end used packets
   pub left : buffered ≡ drop used (drop skipped_before received)
 
 -- How far a recording was read: a stream, up to the buffered bytes; while the kind of the recording

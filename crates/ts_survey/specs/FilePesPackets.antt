@@ -5,9 +5,10 @@ use Rattle.std.specs.Prelude.{List, length, drop, Option, Some, None}
 use Rattle.ttx_pes.specs.Reading.{is_start, stated_size}
 use Rattle.ts_survey.specs.InStep.{saturating_count}
 
--- The bytes begin with a start code other than the start code of a PES packet with private data.
-abbrev pub has_other_start_code : List ℕ → Bool
-has_other_start_code bytes = nat_le 6 (length bytes) && not (is_start bytes)
+-- There are at least six bytes, and they do not begin with 00 00 01 BD, as a PES packet of
+-- private_stream_1 does.
+abbrev pub has_wrong_start_code : List ℕ → Bool
+has_wrong_start_code bytes = nat_le 6 (length bytes) && not (is_start bytes)
 
 -- The size in bytes of the complete PES packet at the front of the bytes, or `None` if they begin
 -- with no complete PES packet.

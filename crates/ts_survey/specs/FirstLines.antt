@@ -75,7 +75,8 @@ abbrev pub newly_reported_head : Bool → List ℕ → Bool → List (List ℕ)
 newly_reported_head before bytes after = if before then [] else head_texts_if_received after
     (take head_size bytes)
 
--- When the kind of a recording was determined, exactly the lines of that kind were printed.
+-- When the kind of a recording was determined and memory did not run out, exactly these lines were
+-- printed: `survey 1` and `head`, unless they were printed before, and the lines of that kind.
 pub record FindsKind (old : Recording) (bytes : List ℕ) (before after : Text) (new : Recording)
     : Type 0 where
   pub reported :

@@ -22,12 +22,12 @@ use Rattle.ts_survey.specs.declared.text.Text.{Text}
 -- ---- the requested options
 
 -- If the recording is a transport stream, it has the requested packet size, the requested PID and
--- page are followed, and no other PID is followed.
+-- pages are followed, and no other PID is followed.
 abbrev pub IsAsRequested : SurveyOptions → Kind → Type 0
 IsAsRequested options (Stream packets multiplex) =
     (IfSome options.packet_size (λ size. packets.size ≡ size))
     × (multiplex.requested ≡ options.pid)
-    × (multiplex.page ≡ options.page)
+    × (multiplex.pages ≡ options.pages)
     × (unrequested_followed_pids multiplex ≡ [])
 IsAsRequested options _ = ⊤
 

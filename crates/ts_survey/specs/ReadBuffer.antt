@@ -7,8 +7,8 @@ use Rattle.std.specs.Io.KnownBytes.{Consumes}
 abbrev pub read_buffer_size : ℕ
 read_buffer_size = 135168
 
--- The maximum number of bytes that stay in the buffer after they were examined. All bytes of the
--- longest PES packet of a file except its last byte may stay.
+-- A limit of the number of bytes that stay in the buffer after they were examined: the size of the
+-- longest PES packet of a file, of which all bytes except the last may stay.
 abbrev pub max_retained_bytes : ℕ
 max_retained_bytes = 65541
 

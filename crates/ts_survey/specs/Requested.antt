@@ -1,4 +1,4 @@
--- The PID and the page that the user requests of a survey.
+-- The PID and the pages that the user requests of a survey.
 use Rattle.std.specs.Prelude.{◌≡◌, ◌==◌, ℕ, Bool, true, List, [], ◌∷◌, Option, Some, None, map}
 use Rattle.std.specs.Prelude.{if◌then◌else◌}
 use Rattle.ts_survey.specs.declared.carrier.Carrier.{Carrier}
@@ -24,14 +24,14 @@ followed_pid carrier = carrier.pid
 abbrev pub unrequested_followed_pids : Multiplex → List ℕ
 unrequested_followed_pids m = unrequested_pids m.requested (map followed_pid m.carriers.items)
 
--- The requested PID and page stay the same, and no further PID that is not requested is followed.
+-- The requested PID and pages stay the same, and no further PID that is not requested is followed.
 abbrev pub KeepsRequested : Multiplex → Multiplex → Type 0
 KeepsRequested old new =
     (new.requested ≡ old.requested)
-    × (new.page ≡ old.page)
+    × (new.pages ≡ old.pages)
     × (unrequested_followed_pids new ≡ unrequested_followed_pids old)
 
 -- Processing a packet, or a loss of packets, changes neither the requested PID nor the requested
--- page.
+-- pages.
 abbrev pub packet_keeps_requested : Multiplex → List ℕ → Multiplex → Type 0
 packet_keeps_requested old packet new = KeepsRequested old new

@@ -11,9 +11,10 @@ use crate::pid_packets::PidPackets;
 use crate::pid_state::{Pids, counter_distance};
 use crate::text::{Text, forward_distance};
 use arrayvec::ArrayVec;
-use mpeg_ts::{PACKET, announces_jump, begins, counter_of, has_payload, is_unusable, payload_of};
+use mpeg_ts::{
+    PACKET, SurveyPages, announces_jump, begins, counter_of, has_payload, is_unusable, payload_of,
+};
 use std::alloc::Global;
-use ttx_packet::PageId;
 
 /// The maximum number of irregular PCRs that wait for more data.
 const MAX_PENDING_PCRS: usize = 4;
@@ -52,10 +53,10 @@ pub struct Carrier {
 
 impl Carrier {
     /// Creates the state before the first packet of a PID. Returns `None` if memory runs out.
-    pub fn new(alloc: Global, pid: u16, page: PageId) -> Option<Carrier>
+    pub fn new(alloc: Global, pid: u16, pages: &SurveyPages) -> Option<Carrier>
         ensures { IfSome result (λ carrier. carrier.pid ≡ pid) }
     {
-        let lines = PesLines::new(alloc, pid, page)?;
+        let lines = PesLines::new(alloc, pid, pages)?;
         Some(Carrier {
             pid,
             pid_packets_state: PidPackets::new(Given::new(lines)),
@@ -84,7 +85,7 @@ impl Carrier {
         self.packets = self.packets.saturating_add(1);
         self.count_if_scrambled(packet);
         let begun = self.note(packet);
-        self.pid_packets_state.to.go_on();
+        self.pid_packets_state.to.begin_packet();
         self.pid_packets_state.take(packet, text);
         begun
     }
@@ -214,7 +215,9 @@ impl Carrier {
         }
     }
 
-    /// Records the PTS of a PES packet that began after a picture of the same programme.
+    /// Processes the PTS of a PES packet that began after a picture of the same programme. Prints a
+    /// line if the PES packet is the first after that picture, and a second has passed since the
+    /// last line.
     pub fn take_lead(&mut self, pts: u64, picture: &Picture, text: &mut Text)
         ensures { self.new.pid ≡ self.old.pid }
     {

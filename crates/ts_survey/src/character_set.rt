@@ -4,7 +4,7 @@ ghost use Rattle.std.specs.Prelude.{◌≡◌, ◌<◌, ◌≤◌};
 ghost use Rattle.ts_survey.specs.CharacterSets as specs;
 
 use crate::text::Text;
-use ttx_packet::{Packet, unham};
+use ttx_packet::{Packet, PageId, unham};
 
 /// The number of possible lines, each of which is printed once: packet 28 or 29, designation 0 or
 /// 4, 128 character sets or an unreadable one.
@@ -46,15 +46,15 @@ fn corrected_data_bits(word: u32) -> Option<u32>
 fn wrong_bit_position(word: u32) -> u32
     ensures { result ≡ specs.wrong_bit_position word }
 {
-    failed(word, 0x55_5555, 1)
-        + failed(word, 0x66_6666, 2)
-        + failed(word, 0x78_7878, 4)
-        + failed(word, 0x00_7F80, 8)
-        + failed(word, 0x7F_8000, 16)
+    digit_if_failed(word, 0x55_5555, 1)
+        + digit_if_failed(word, 0x66_6666, 2)
+        + digit_if_failed(word, 0x78_7878, 4)
+        + digit_if_failed(word, 0x00_7F80, 8)
+        + digit_if_failed(word, 0x7F_8000, 16)
 }
 
 // Returns `digit` if the Hamming 24/18 test of these bits fails, and otherwise 0.
-fn failed(word: u32, bits: u32, digit: u32) -> u32
+fn digit_if_failed(word: u32, bits: u32, digit: u32) -> u32
     ensures value { result ≡ specs.digit_of_failed_test word bits digit }
     ensures range { result ≤ digit }
 {
@@ -127,10 +127,10 @@ fn set_line_index(number: u8, designation: u8, set: Option<u32>) -> usize
     ensures range { result < 1024 }
 {
     let packet = if number == 28 { 0 } else { 512 };
-    let following = if designation == 0 { 0 } else { 256 };
+    let designation_offset = if designation == 0 { 0 } else { 256 };
     match set {
-        Some(set) => packet + following + (set % 0x80) as usize,
-        None => packet + following + 0x80,
+        Some(set) => packet + designation_offset + (set % 0x80) as usize,
+        None => packet + designation_offset + 0x80,
     }
 }
 
@@ -170,20 +170,30 @@ impl CharacterSets {
         packet: &Packet,
         number: u8,
         is_requested_page: bool,
+        page: PageId,
         pid: u16,
         text: &mut Text,
     ) {
         if let Some((designation, set)) = set_of_packet(packet, number, is_requested_page) {
-            self.report(number, designation, set, pid, text);
+            self.report(number, designation, set, page, pid, text);
         }
     }
 
     // Prints the line of a character set, unless it was printed before.
-    fn report(&mut self, number: u8, designation: u8, set: Option<u32>, pid: u16, text: &mut Text) {
+    fn report(
+        &mut self,
+        number: u8,
+        designation: u8,
+        set: Option<u32>,
+        page: PageId,
+        pid: u16,
+        text: &mut Text,
+    ) {
         let place = set_line_index(number, designation, set);
         let was_reported = self.reported[place];
         self.reported[place] = true;
         if !was_reported {
+            text.begin_page(page);
             report_set(number, designation, set, pid, text);
         }
     }

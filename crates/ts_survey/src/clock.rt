@@ -44,7 +44,7 @@ impl RecentNumbers {
 
     // Returns the median of the numbers, or the upper median if their count is even; 0 if the list
     // is empty.
-    fn median_interval(&self) -> u64 {
+    fn median_number(&self) -> u64 {
         let mut sorted = self.kept;
         let (some, _) = sorted.split_at_mut(self.count.min(MEDIAN_INTERVALS));
         median_of(some)
@@ -156,15 +156,15 @@ impl Clock {
             first: at,
             second: number,
             ticks,
-            median_ticks: self.ticks.median_interval(),
-            median_packet_count: self.packets.median_interval(),
+            median_ticks: self.ticks.median_number(),
+            median_packet_count: self.packets.median_number(),
         })
     }
 
     // Returns whether the interval before a PCR is usual. The first intervals determine which
     // intervals are usual.
     fn is_usual_interval(&self, ticks: u64) -> bool {
-        is_usual_interval(ticks, self.ticks.count, self.ticks.median_interval())
+        is_usual_interval(ticks, self.ticks.count, self.ticks.median_number())
     }
 
     /// Returns the last PCR if it is recent: fewer than 256 packets ago, or fewer than four times
@@ -173,8 +173,8 @@ impl Clock {
         let Some((pcr, at)) = self.last else {
             return None;
         };
-        let buffer = self.packets.median_interval().max(64).saturating_mul(4);
-        if number.saturating_sub(at) < buffer {
+        let max_distance = self.packets.median_number().max(64).saturating_mul(4);
+        if number.saturating_sub(at) < max_distance {
             Some(pcr)
         } else {
             None

@@ -75,7 +75,7 @@ impl Given {
     }
 
     /// Begins the next transport packet.
-    pub fn go_on(&mut self) {
+    pub fn begin_packet(&mut self) {
         self.is_broken = self.is_after_gap;
     }
 

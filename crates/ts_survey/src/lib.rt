@@ -5,7 +5,7 @@
 //! packet, and `ttx_page` the page that a receiver decodes.
 //!
 //! ```text
-//! let options = SurveyOptions { page, pid: None, packet_size: None };
+//! let options = SurveyOptions { pages, pid: None, packet_size: None };
 //! survey(alloc, options, &mut recording, &mut lines)?;
 //! ```
 #![tactic(auto)]
@@ -26,6 +26,7 @@ mod packet_notes;
 mod packet_sizes;
 mod packets_in_step;
 mod page;
+mod page_lines;
 mod pes_file;
 mod pes_header;
 mod pes_lines;
@@ -38,6 +39,7 @@ mod reporting;
 mod rows;
 mod section;
 mod steps;
+mod subtitle_pages;
 mod tables;
 mod text;
 mod units;

@@ -20,9 +20,8 @@ use crate::pid_state::{NO_INDEX, NULL_PID, PacketLink, PidState, Pids, link_of};
 use crate::section::{FIRST_PMT, Stream, pmt_pid_at, programme_of, stream_at};
 use crate::tables::{SECTION_CAPACITY, Section, Tables, split_at_pointer_field};
 use crate::text::Text;
-use mpeg_ts::{PACKET, announces_jump, begins, pid_of};
+use mpeg_ts::{PACKET, SurveyPages, announces_jump, begins, pid_of};
 use std::alloc::Global;
-use ttx_packet::PageId;
 
 /// The maximum number of PIDs with Teletext, of clocks and of video PIDs that are followed.
 const CAPACITY: usize = 64;
@@ -31,7 +30,7 @@ const CAPACITY: usize = 64;
 #[derive(Drop)]
 pub struct Multiplex {
     alloc: Global,
-    page: PageId,
+    pages: SurveyPages,
     // The number of the requested PID, which is the only one followed. `None` follows every PID
     // with Teletext.
     requested: Option<u16>,
@@ -52,12 +51,12 @@ impl Multiplex {
     /// runs out.
     pub fn new(
         alloc: Global,
-        page: PageId,
+        pages: SurveyPages,
         requested: Option<u16>,
         text: &mut Text,
     ) -> Option<Multiplex>
         ensures requested { IfSome result (λ multiplex. (multiplex.requested ≡ requested)
-            × (multiplex.page ≡ page) × (unrequested_followed_pids multiplex ≡ [])) }
+            × (multiplex.pages ≡ pages) × (unrequested_followed_pids multiplex ≡ [])) }
         // If a PID is requested, the line `teletext` of that PID is printed.
         ensures reported { IfSome result (λ multiplex. AddsTexts text.old
             (requested_pid_texts multiplex.requested) text.new) }
@@ -65,7 +64,7 @@ impl Multiplex {
         let pids = Pids::new(alloc)?;
         let mut all = Multiplex {
             alloc,
-            page,
+            pages,
             requested,
             number: 0,
             next_settle_packet: u64::MAX,
@@ -129,7 +128,7 @@ impl Multiplex {
         ensures reported { IfSome result (λ _. AddsTexts text.old (teletext_line pid) text.new) }
     {
         let place = self.carriers.len();
-        let carrier = Carrier::new(self.alloc, pid, self.page)?;
+        let carrier = Carrier::new(self.alloc, pid, &self.pages)?;
         if self.carriers.push(carrier).is_err() {
             return None;
         }
@@ -187,12 +186,12 @@ impl Multiplex {
         let Some(pts) = carrier.take(packet, text) else {
             return;
         };
-        self.begin(state, pts, text);
+        self.process_begun_pts(state, pts, text);
     }
 
     // Processes a PTS that began in a packet of a PID with Teletext.
     #[tactic(auto, using(crate::proofs::RequestedLemmas::one_changed))]
-    fn begin(&mut self, state: &PidState, pts: u64, text: &mut Text)
+    fn process_begun_pts(&mut self, state: &PidState, pts: u64, text: &mut Text)
         ensures requested { KeepsRequested self.old self.new }
     {
         let number = self.number;
@@ -214,7 +213,7 @@ impl Multiplex {
 
     // Processes a packet of a PID with pictures.
     #[inline(always)]
-    fn show(&mut self, state: &PidState, packet: &[u8; PACKET], text: &mut Text)
+    fn process_video_packet(&mut self, state: &PidState, packet: &[u8; PACKET], text: &mut Text)
         ensures requested { KeepsRequested self.old self.new }
     {
         let Some(pictures) = self.videos.get(state.video as usize) else {
@@ -341,7 +340,13 @@ impl Multiplex {
     // Reads a packet in which data begins or whose PID is followed, and processes the packet if its
     // PID has pictures or Teletext.
     #[inline(always)]
-    fn read_ahead(&mut self, pid: u16, state: &PidState, packet: &[u8; PACKET], text: &mut Text)
+    fn read_and_process(
+        &mut self,
+        pid: u16,
+        state: &PidState,
+        packet: &[u8; PACKET],
+        text: &mut Text,
+    )
         ensures requested { KeepsRequested self.old self.new }
     {
         self.read(pid, state, packet, text);
@@ -355,7 +360,7 @@ impl Multiplex {
         ensures requested { KeepsRequested self.old self.new }
     {
         if state.video != NO_INDEX {
-            self.show(state, packet, text);
+            self.process_video_packet(state, packet, text);
         }
         if state.carrier != NO_INDEX {
             self.process_teletext_packet(state, packet, text);
@@ -419,7 +424,7 @@ impl Multiplex {
         if !self.tables.next(table, &mut section) {
             return false;
         }
-        if self.tables.is_new_section(section.as_slice()) {
+        if self.tables.store_if_new(section.as_slice()) {
             self.read_section(table, section.as_slice(), text);
         }
         true
@@ -534,7 +539,7 @@ impl Multiplex {
 }
 
 impl TakesPackets for Multiplex {
-    // The requested PID and page stay the same, and no further PID that is not requested is
+    // The requested PID and pages stay the same, and no further PID that is not requested is
     // followed.
     ghost is_taken = { packet_keeps_requested };
 
@@ -547,11 +552,11 @@ impl TakesPackets for Multiplex {
         if pid == NULL_PID {
             return;
         }
-        self.pids.count(pid, packet, number);
+        self.pids.update_pid_state(pid, packet, number);
         let state = self.pids.get(pid);
         // Most packets of a recording begin no payload unit and belong to no followed PID.
         if begins(packet) || is_followed(&state) {
-            self.read_ahead(pid, &state, packet, text);
+            self.read_and_process(pid, &state, packet, text);
         }
         if number >= self.next_settle_packet {
             self.report_settled_pcrs(number, text);

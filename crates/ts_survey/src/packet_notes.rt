@@ -7,14 +7,10 @@ use crate::heard::Heard;
 use crate::rows::{Rows, cells_of};
 use crate::text::Text;
 use bitflags::Flags;
-use std::alloc::Global;
 use ttx_packet::{Control, Header, Packet, PageId};
 use ttx_page::{Blank, PacketKind, Page, Receiver};
 
-/// The number of Teletext pages: eight magazines of 256 pages.
-const PAGE_COUNT: usize = 2048;
-
-/// Notes on the Teletext packets of a PID.
+/// Notes on the Teletext packets that a receiver of the page receives.
 #[derive(Drop)]
 pub struct Notes {
     // The received rows, with marks for bytes of even parity, and the rows that were printed last.
@@ -28,27 +24,22 @@ pub struct Notes {
     is_opened: bool,
     // Whether the last header of the magazine is a header of the page.
     is_requested_page: bool,
-    subtitles: Vec<u64>,
     sets: CharacterSets,
 }
 
 impl Notes {
-    /// Creates the state before the first Teletext packet. Returns `None` if memory runs out.
-    pub fn new(alloc: Global) -> Option<Notes> {
-        let Ok(subtitles) = vec![in alloc; 0u64; PAGE_COUNT] else {
-            return None;
-        };
-        Some(Notes {
-            rows: Rows::none(),
+    /// Creates the state before the first Teletext packet.
+    pub fn new() -> Notes {
+        Notes {
+            rows: Rows::blank_rows(),
             reported: None,
-            strays: Rows::none(),
-            reported_strays: Rows::none(),
+            strays: Rows::blank_rows(),
+            reported_strays: Rows::blank_rows(),
             has_stray: false,
             is_opened: false,
             is_requested_page: false,
-            subtitles,
             sets: CharacterSets::new(),
-        })
+        }
     }
 
     /// Begins the next PES packet.
@@ -56,19 +47,20 @@ impl Notes {
         self.is_opened = false;
         if self.has_stray {
             self.has_stray = false;
-            self.strays = Rows::none();
+            self.strays = Rows::blank_rows();
         }
     }
 
     /// Ends a PES packet, and adds the state of the receiver after this packet to the events.
     pub fn end(&self, receiver: &Blank, heard: &mut Heard) {
         let is_blank = is_blank(receiver.page());
-        heard.add_if(receiver.open(), b'o');
+        heard.add_if(receiver.is_page_open(), b'o');
         heard.add_if(is_blank, b'b');
         heard.add_if(self.has_stray, b's');
     }
 
-    /// Records a Teletext packet, before the receiver receives it.
+    /// Records a Teletext packet, before the receiver receives it. Returns the packet's header of
+    /// any page, if it has one.
     pub fn note(
         &mut self,
         receiver: &Blank,
@@ -76,12 +68,13 @@ impl Notes {
         pid: u16,
         heard: &mut Heard,
         text: &mut Text,
-    ) {
+    ) -> Option<Header> {
         heard.add_unit();
         let watched = receiver.watched();
         let (kind, header) = PacketKind::classify_with_header(watched, packet);
-        self.note_kind(&kind, receiver.open(), packet, heard);
-        self.note_any_packet(watched, packet, header, pid, text);
+        self.note_kind(&kind, receiver.is_page_open(), packet, heard);
+        self.note_any_packet(watched, packet, &header, pid, text);
+        header
     }
 
     // Records a Teletext packet by its kind for a receiver of the page.
@@ -101,22 +94,21 @@ impl Notes {
         &mut self,
         watched: PageId,
         packet: &Packet,
-        header: Option<Header>,
+        header: &Option<Header>,
         pid: u16,
         text: &mut Text,
     ) {
         let Some((magazine, number)) = packet.address() else {
             return;
         };
-        let is_magazine = magazine == watched.magazine();
-        if let Some(header) = header {
-            if is_magazine {
-                self.is_requested_page = header.page == watched.page();
-            }
-            self.count_header(magazine, &header, pid, text);
-        } else if is_magazine {
-            self.sets
-                .hear(packet, number, self.is_requested_page, pid, text);
+        if magazine != watched.magazine() {
+            return;
+        }
+        match header {
+            Some(header) => self.is_requested_page = header.page == watched.page(),
+            None => self
+                .sets
+                .hear(packet, number, self.is_requested_page, watched, pid, text),
         }
     }
 
@@ -139,24 +131,12 @@ impl Notes {
         heard.add(b'h');
         if header.control.contains(Control::C4) {
             heard.add(b'e');
-            self.rows = Rows::none();
+            self.rows = Rows::blank_rows();
         }
         heard.begin_header();
         let (_, coded) = packet.bytes().split_at(2);
         let (coded, _) = coded.split_at(8);
         heard.add_numbers(coded);
-    }
-
-    // Counts a header of any page if it has the subtitle bit C6 set.
-    fn count_header(&mut self, magazine: u8, header: &Header, pid: u16, text: &mut Text)
-        requires { magazine < 8 }
-    {
-        if !header.control.contains(Control::C6) {
-            return;
-        }
-        let place = magazine as usize * 256 + header.page as usize;
-        let before = count_at(&mut self.subtitles, place);
-        report_first(before, pid, magazine, header.page, text);
     }
 
     /// Returns whether the rows differ from the rows printed last, or no rows were printed yet.
@@ -175,7 +155,7 @@ impl Notes {
     /// Prints the decoded page of the receiver.
     pub fn report_rows(&mut self, receiver: &Blank, text: &mut Text) {
         self.reported = Some(self.rows);
-        self.rows.report_buffered(receiver.page(), text);
+        self.rows.report_received_page(receiver.page(), text);
     }
 
     /// Prints the rows that were received after the end of the page.
@@ -183,60 +163,9 @@ impl Notes {
         self.reported_strays = self.strays;
         self.strays.report(text);
     }
-
-    /// Prints for each page how many headers with the subtitle bit were received.
-    pub fn report_pages(&self, pid: u16, text: &mut Text) {
-        let counts = self.subtitles.as_slice();
-        for place in 0..counts.len() {
-            report_count_if_any(pid, place, counts[place], text);
-        }
-    }
 }
 
 // Returns whether a page is blank.
 fn is_blank(page: &Page) -> bool {
     page.first_difference(&Page::blank()).is_none()
-}
-
-// Adds one to the count at an index, and returns the count before. Returns `None` if the index is
-// out of range.
-fn count_at(counts: &mut Vec<u64>, place: usize) -> Option<u64> {
-    let count = counts.get_mut(place)?;
-    let before = *count;
-    *count = before.saturating_add(1);
-    Some(before)
-}
-
-// Prints the line of a page at its first header with the subtitle bit.
-fn report_first(before: Option<u64>, pid: u16, magazine: u8, page: u8, text: &mut Text)
-    requires { magazine < 8 }
-{
-    if before == Some(0) {
-        report_first_subtitle_header(pid, magazine, page, text);
-    }
-}
-
-fn report_first_subtitle_header(pid: u16, magazine: u8, page: u8, text: &mut Text)
-    requires { magazine < 8 }
-{
-    text.put(b"sub");
-    text.number(pid as u64);
-    text.page(magazine, page);
-    text.put(b"\n");
-}
-
-// Prints how many headers with the subtitle bit were received for a page, unless the number is 0.
-fn report_count_if_any(pid: u16, place: usize, count: u64, text: &mut Text) {
-    if count == 0 {
-        return;
-    }
-    report_subtitle_header_count(pid, place, count, text);
-}
-
-fn report_subtitle_header_count(pid: u16, place: usize, count: u64, text: &mut Text) {
-    text.put(b"subs");
-    text.number(pid as u64);
-    text.page((place / 256 % 8) as u8, (place % 256) as u8);
-    text.number(count);
-    text.put(b"\n");
 }

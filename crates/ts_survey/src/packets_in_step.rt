@@ -18,8 +18,8 @@ ghost use Rattle.ts_survey.specs.ReadBuffer.{max_retained_bytes};
 use crate::text::Text;
 use mpeg_ts::{PACKET, PacketSize, SYNC_BYTE};
 
-/// The number of packets that may be missing of any PID if this many packet sizes are skipped in a
-/// row.
+/// The number of packet sizes that, if skipped in a row, count as a loss: packets of any PID may be
+/// missing.
 const LOSS_SIZE_IN_PACKETS: u64 = 15;
 
 /// Processes the packets of a transport stream, one after another.
@@ -167,7 +167,7 @@ impl PacketsInStep {
         ensures all { TakesAll M.is_taken self.old to.old bytes.now is_end result self.new to.new }
         ensures kept { length bytes.now ≤ result + max_retained_bytes }
     {
-        let at = self.find(bytes, is_end, to, text);
+        let at = self.find_and_process(bytes, is_end, to, text);
         self.lead = at.saturating_sub(bytes.len());
         let used = at.min(bytes.len());
         if is_end {
@@ -179,7 +179,7 @@ impl PacketsInStep {
 
     // Processes the packets in the bytes, and returns the offset after them.
     #[inline(always)]
-    fn find<M: TakesPackets>(
+    fn find_and_process<M: TakesPackets>(
         &mut self,
         bytes: &[u8],
         is_end: bool,

@@ -1,11 +1,9 @@
-//! Passes PES packets to a receiver of the page, and prints the decoded page.
+//! Passes Teletext packets to a receiver of the page, and prints the decoded page.
 
 use crate::heard::Heard;
 use crate::packet_notes::Notes;
 use crate::text::Text;
-use crate::units::{following, unit_of, units_of};
-use std::alloc::Global;
-use ttx_packet::{PageId, SentPacket};
+use ttx_packet::{Header, Packet, PageId};
 use ttx_page::{Blank, Page, Receiver};
 
 /// A receiver of the page, and notes on the Teletext packets that it received.
@@ -16,40 +14,43 @@ pub struct Following {
 }
 
 impl Following {
-    /// Creates the state before the first packet. Returns `None` if memory runs out.
-    pub fn new(alloc: Global, page: PageId) -> Option<Following> {
-        let packet_notes = Notes::new(alloc)?;
-        Some(Following {
+    /// Creates the state before the first packet.
+    pub fn new(page: PageId) -> Following {
+        Following {
             receiver: Blank::tune(page, Page::blank()),
-            packet_notes,
-        })
+            packet_notes: Notes::new(),
+        }
     }
 
-    /// Passes a PES packet of a PID to the receiver.
-    pub fn hear(&mut self, pes: &[u8], pid: u16, heard: &mut Heard, text: &mut Text) {
+    /// Returns the page to which the receiver is tuned.
+    pub fn watched(&self) -> PageId {
+        self.receiver.watched()
+    }
+
+    /// Begins the next PES packet.
+    pub fn begin(&mut self) {
         self.packet_notes.begin();
-        let mut rest = units_of(pes);
-        'units: for _ in 0..pes.len() {
-            let Some(unit) = unit_of(rest) else {
-                break;
-            };
-            self.hear_unit(unit.packet, pid, heard, text);
-            rest = following(rest, unit.size);
-        }
-        self.packet_notes.end(&self.receiver, heard);
     }
 
-    // Passes the Teletext packet of a data unit to the receiver, if the data unit carries one.
-    fn hear_unit(&mut self, sent: Option<&[u8; 42]>, pid: u16, heard: &mut Heard, text: &mut Text) {
-        match sent {
-            None => {}
-            Some(bytes) => {
-                let packet = SentPacket::new(bytes).packet();
-                self.packet_notes
-                    .note(&self.receiver, &packet, pid, heard, text);
-                self.receiver.hear(&packet);
-            }
-        }
+    /// Passes a Teletext packet to the receiver. Returns the packet's header of any page, if it has
+    /// one.
+    pub fn hear(
+        &mut self,
+        packet: &Packet,
+        pid: u16,
+        heard: &mut Heard,
+        text: &mut Text,
+    ) -> Option<Header> {
+        let header = self
+            .packet_notes
+            .note(&self.receiver, packet, pid, heard, text);
+        self.receiver.hear(packet);
+        header
+    }
+
+    /// Ends a PES packet, and adds the state of the receiver after this packet to the events.
+    pub fn end(&self, heard: &mut Heard) {
+        self.packet_notes.end(&self.receiver, heard);
     }
 
     /// Returns whether the decoded rows have to be printed after a PES packet: at the first header

@@ -9,8 +9,8 @@ ghost use Rattle.ts_survey.specs.ReadBuffer.{max_retained_bytes};
 
 use crate::pes_lines::PesLines;
 use crate::text::Text;
+use mpeg_ts::SurveyPages;
 use std::alloc::Global;
-use ttx_packet::PageId;
 use ttx_pes::is_gap_marker;
 
 /// The state of reading a file of PES packets.
@@ -28,10 +28,10 @@ fn is_start(bytes: &[u8]) -> bool
     bytes[0] == 0 && bytes[1] == 0 && bytes[2] == 1 && bytes[3] == 0xBD
 }
 
-// Returns whether the bytes begin with a start code other than the start code of a PES packet with
-// private data.
-fn has_other_start_code(bytes: &[u8]) -> bool
-    ensures { result ≡ pes_packets.has_other_start_code bytes.now }
+// Returns whether there are at least six bytes that do not begin with 00 00 01 BD, as a PES packet
+// of private_stream_1 does.
+fn has_wrong_start_code(bytes: &[u8]) -> bool
+    ensures { result ≡ pes_packets.has_wrong_start_code bytes.now }
 {
     bytes.len() >= 6 && !is_start(bytes)
 }
@@ -42,7 +42,7 @@ fn has_other_start_code(bytes: &[u8]) -> bool
 fn complete_packet_size(bytes: &[u8]) -> Option<usize>
     ensures value { result ≡ pes_packets.complete_packet_size bytes.now }
     ensures some { IfSome result (λ size. (6 ≤ size) × (size ≤ length bytes.now)) }
-    ensures unfinished { IfNone result (pes_packets.has_other_start_code bytes.now ≡ false
+    ensures unfinished { IfNone result (pes_packets.has_wrong_start_code bytes.now ≡ false
         → length bytes.now < max_retained_bytes) }
 {
     if bytes.len() < 6 {
@@ -60,8 +60,8 @@ fn complete_packet_size(bytes: &[u8]) -> Option<usize>
 
 impl PesFile {
     /// Creates the state before the first PES packet. Returns `None` if memory runs out.
-    pub fn new(alloc: Global, page: PageId) -> Option<PesFile> {
-        let lines = PesLines::new(alloc, 0, page)?;
+    pub fn new(alloc: Global, pages: &SurveyPages) -> Option<PesFile> {
+        let lines = PesLines::new(alloc, 0, pages)?;
         Some(PesFile {
             lines,
             is_damaged: false,
@@ -77,16 +77,16 @@ impl PesFile {
             return bytes.len();
         }
         let rest = self.take_complete(bytes, text);
-        if has_other_start_code(rest) {
+        if has_wrong_start_code(rest) {
             self.report_damage(b" start\n", text);
             return bytes.len();
         }
-        self.end_at(rest, is_end, text);
+        self.report_damage_at_end(rest, is_end, text);
         bytes.len() - rest.len()
     }
 
     // Prints that the rest of the file cannot be read, if bytes are left at its end.
-    fn end_at(&mut self, rest: &[u8], is_end: bool, text: &mut Text) {
+    fn report_damage_at_end(&mut self, rest: &[u8], is_end: bool, text: &mut Text) {
         if is_end && !rest.is_empty() {
             self.report_damage(b" cut\n", text);
         }
@@ -96,7 +96,7 @@ impl PesFile {
     // bytes.
     #[tactic(auto, using(crate::proofs::FilePesPacketsLemmas::counted_one_by_one))]
     fn take_complete<'a>(&mut self, bytes: &'a [u8], text: &mut Text) -> &'a [u8]
-        ensures unfinished { pes_packets.has_other_start_code result.now ≡ false
+        ensures unfinished { pes_packets.has_wrong_start_code result.now ≡ false
             → length result.now < max_retained_bytes }
         ensures within { length result.now ≤ length bytes.now }
         // The PES packets of the file are counted in order, each once.

@@ -82,8 +82,8 @@ impl PesHeader {
 
 // Adds the first bytes of a payload, as many as fit.
 fn add_prefix(bytes: &mut ArrayVec<u8, CAPACITY>, payload: &[u8]) {
-    let buffer = CAPACITY - bytes.len();
-    let (prefix, _) = payload.split_at(payload.len().min(buffer));
+    let free_bytes = CAPACITY - bytes.len();
+    let (prefix, _) = payload.split_at(payload.len().min(free_bytes));
     let _ = bytes.try_extend_from_slice(prefix);
 }
 

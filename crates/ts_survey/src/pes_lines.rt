@@ -1,35 +1,25 @@
-//! Prints the lines of the PES packets of a PID: runs of PES packets, gap markers, and the decoded
-//! page.
+//! Prints the lines of the PES packets of a PID: gap markers, the pages with subtitles, and the
+//! lines of each requested page.
 ghost use Rattle.std.specs.Prelude.{◌≡◌, IfSome};
 ghost use Rattle.ts_survey.specs.InStep.{saturating_count};
 
 use crate::adaptation::pts_of_pes_packet;
-use crate::heard::Heard;
-use crate::page::Following;
-use crate::text::{Text, forward_distance};
+use crate::page_lines::PageLines;
+use crate::subtitle_pages::SubtitlePages;
+use crate::text::Text;
+use crate::units::{following, unit_of, units_of};
+use mpeg_ts::SurveyPages;
 use std::alloc::Global;
 use sub_io::MemSource;
-use ttx_packet::PageId;
+use ttx_packet::{Header, Packet, SentPacket};
 use ttx_pes::{PesFrame, PesReader};
-
-/// A run: consecutive PES packets with the same step of the PTS and the same events.
-#[derive(Drop)]
-struct Run {
-    first: u64,
-    count: u64,
-    pts: Option<u64>,
-    last: u64,
-    step: u64,
-    heard: Heard,
-}
 
 /// The state of printing the PES packets of a PID.
 #[derive(Drop)]
 pub struct PesLines {
     pid: u16,
-    page: Following,
-    heard: Heard,
-    run: Run,
+    pages: Vec<PageLines>,
+    subtitle_pages: SubtitlePages,
     frame: PesFrame,
     count: u64,
     gap_markers: u64,
@@ -47,24 +37,30 @@ fn refusal(pes: &[u8], frame: &mut PesFrame) -> u16 {
     }
 }
 
+// Creates the state of each requested page. Returns `None` if memory runs out.
+fn new_pages(alloc: Global, pid: u16, requested: &SurveyPages) -> Option<Vec<PageLines>> {
+    let mut pages = Vec::new(alloc);
+    for page in requested {
+        if let Some(page) = page {
+            if pages.push(PageLines::new(pid, *page)).is_err() {
+                return None;
+            }
+        }
+    }
+    Some(pages)
+}
+
 impl PesLines {
     /// Creates the state before the first PES packet. Returns `None` if memory runs out.
-    pub fn new(alloc: Global, pid: u16, page: PageId) -> Option<PesLines>
+    pub fn new(alloc: Global, pid: u16, pages: &SurveyPages) -> Option<PesLines>
         ensures { IfSome result (λ lines. lines.count ≡ 0) }
     {
-        let page = Following::new(alloc, page)?;
+        let pages = new_pages(alloc, pid, pages)?;
+        let subtitle_pages = SubtitlePages::new(alloc)?;
         Some(PesLines {
             pid,
-            page,
-            heard: Heard::new(),
-            run: Run {
-                first: 0,
-                count: 0,
-                pts: None,
-                last: 0,
-                step: 0,
-                heard: Heard::new(),
-            },
+            pages,
+            subtitle_pages,
             frame: PesFrame::new(0),
             count: 0,
             gap_markers: 0,
@@ -94,140 +90,51 @@ impl PesLines {
         ensures { self.new.count ≡ saturating_count self.old.count 1 }
     {
         let pts = pts_of_pes_packet(pes);
-        self.hear(pes, pts, text);
-        let is_changed = self.reports_rows(pts);
-        let has_strays = self.reports_strays(pts);
-        self.put(pts, is_changed, has_strays, text);
+        let fault = refusal(pes, &mut self.frame);
+        begin_packet(&mut self.pages, fault, pts.is_some());
+        if pts.is_some() {
+            self.hear(pes, text);
+        }
+        end_packet(&mut self.pages, self.count, pts, text);
+        self.count = self.count.saturating_add(1);
         self.last = pts.or(self.last);
     }
 
-    // Returns whether the decoded rows have to be printed after a PES packet with this PTS.
-    fn reports_rows(&self, pts: Option<u64>) -> bool {
-        pts.is_some() && self.page.is_changed()
-    }
-
-    // Returns whether rows that were received after the end of the page have to be printed.
-    fn reports_strays(&self, pts: Option<u64>) -> bool {
-        pts.is_some() && self.page.packet_notes().has_new_strays()
-    }
-
-    // Passes a PES packet that has a PTS to the receiver of the page.
-    fn hear(&mut self, pes: &[u8], pts: Option<u64>, text: &mut Text)
+    // Passes the Teletext packets of a PES packet to the receivers of all pages.
+    fn hear(&mut self, pes: &[u8], text: &mut Text)
         ensures { self.new.count ≡ self.old.count }
     {
-        self.heard.begin(refusal(pes, &mut self.frame));
-        if pts.is_some() {
-            self.page.hear(pes, self.pid, &mut self.heard, text);
+        let mut rest = units_of(pes);
+        'units: for _ in 0..pes.len() {
+            let Some(unit) = unit_of(rest) else {
+                break;
+            };
+            self.hear_unit(unit.packet, text);
+            rest = following(rest, unit.size);
         }
     }
 
-    // Prints a PES packet on its own line if rows are printed after it. Otherwise adds the packet
-    // to the run or, if it does not continue the run, prints the run and begins a new one.
-    fn put(&mut self, pts: Option<u64>, is_changed: bool, has_strays: bool, text: &mut Text)
-        ensures { self.new.count ≡ saturating_count self.old.count 1 }
+    // Passes the Teletext packet of a data unit to the receivers, if the data unit carries one.
+    fn hear_unit(&mut self, sent: Option<&[u8; 42]>, text: &mut Text)
+        ensures { self.new.count ≡ self.old.count }
     {
-        let number = self.count;
-        self.count = self.count.saturating_add(1);
-        let is_reported = is_changed || has_strays;
-        if is_reported {
-            self.report_on_own_line(number, pts, is_changed, has_strays, text);
-        } else if !self.join(pts) {
-            self.flush(text);
-            self.begin(number, pts);
+        match sent {
+            None => {}
+            Some(bytes) => {
+                let packet = SentPacket::new(bytes).packet();
+                let header = hear_packet(&mut self.pages, &packet, text);
+                if let Some(header) = header {
+                    self.subtitle_pages.count(&packet, &header, self.pid, text);
+                }
+            }
         }
     }
 
-    // Prints the run, then a PES packet on its own line, then the decoded page and the rows that
-    // were received after the end of the page.
-    fn report_on_own_line(
-        &mut self,
-        number: u64,
-        pts: Option<u64>,
-        is_changed: bool,
-        has_strays: bool,
-        text: &mut Text,
-    )
-        ensures { self.new.count ≡ self.old.count }
-    {
-        self.flush(text);
-        self.begin(number, pts);
-        self.flush(text);
-        self.report_page(number, is_changed, has_strays, text);
-    }
-
-    // Adds a PES packet to the run if the packet continues the run, and returns whether it does.
-    fn join(&mut self, pts: Option<u64>) -> bool
-        ensures { self.new.count ≡ self.old.count }
-    {
-        let Some(now) = pts else {
-            return false;
-        };
-        if self.run.count == 0 || self.run.pts.is_none() || !self.run.heard.is_same(&self.heard) {
-            return false;
-        }
-        let step = forward_distance(self.run.last, now);
-        if self.run.count > 1 && step != self.run.step {
-            return false;
-        }
-        self.run.step = step;
-        self.run.last = now;
-        self.run.count = self.run.count.saturating_add(1);
-        true
-    }
-
-    // Begins a run of PES packets.
-    fn begin(&mut self, number: u64, pts: Option<u64>)
-        ensures { self.new.count ≡ self.old.count }
-    {
-        self.run.first = number;
-        self.run.count = 1;
-        self.run.pts = pts;
-        self.run.last = pts.unwrap_or(0);
-        self.run.step = 0;
-        self.run.heard.copy(&self.heard);
-    }
-
-    /// Prints the run of PES packets, if any.
+    /// Prints the runs of PES packets, if any.
     pub fn flush(&mut self, text: &mut Text)
         ensures { self.new.count ≡ self.old.count }
     {
-        self.report_current_run(text);
-        self.run.count = 0;
-    }
-
-    // Prints the decoded page, and the rows that were received after the end of the page, after the
-    // line of the PES packet.
-    fn report_page(&mut self, number: u64, is_changed: bool, has_strays: bool, text: &mut Text)
-        ensures { self.new.count ≡ self.old.count }
-    {
-        self.report_rows(number, is_changed, text);
-        self.report_strays(number, has_strays, text);
-    }
-
-    // Prints the decoded page, if `is_reported` is set.
-    fn report_rows(&mut self, number: u64, is_reported: bool, text: &mut Text)
-        ensures { self.new.count ≡ self.old.count }
-    {
-        if !is_reported {
-            return;
-        }
-        text.put(b"rows");
-        text.number(self.pid as u64);
-        text.number(number);
-        self.page.report_rows(text);
-    }
-
-    // Prints the rows that were received after the end of the page, if `is_reported` is set.
-    fn report_strays(&mut self, number: u64, is_reported: bool, text: &mut Text)
-        ensures { self.new.count ≡ self.old.count }
-    {
-        if !is_reported {
-            return;
-        }
-        text.put(b"strays");
-        text.number(self.pid as u64);
-        text.number(number);
-        self.page.report_strays(text);
+        flush_pages(&mut self.pages, text);
     }
 
     /// Prints that a jump of the counter was announced before the next PES packet.
@@ -248,38 +155,57 @@ impl PesLines {
         self.gap_markers = self.gap_markers.saturating_add(1);
     }
 
-    /// Ends the PES packets: prints the run, if any, and the pages with subtitles.
+    /// Ends the PES packets: prints the runs, if any, and the pages with subtitles.
     pub fn end(&self, text: &mut Text) {
-        self.report_current_run(text);
-        self.page.packet_notes().report_pages(self.pid, text);
+        self.report_runs(text);
+        self.subtitle_pages.report(self.pid, text);
     }
 
     /// Ends the PES packets with a pending gap marker, which has the numbers of lost and of
     /// scrambled packets.
     pub fn end_at_gap_marker(&self, lost: u64, scrambled: u64, text: &mut Text) {
-        self.report_current_run(text);
+        self.report_runs(text);
         report_gap(self.pid, self.count, lost, scrambled, text);
-        self.page.packet_notes().report_pages(self.pid, text);
+        self.subtitle_pages.report(self.pid, text);
     }
 
-    // Prints the run of PES packets, if any.
-    fn report_current_run(&self, text: &mut Text) {
-        if self.run.count == 0 {
-            return;
+    // Prints the runs of PES packets, if any.
+    fn report_runs(&self, text: &mut Text) {
+        for page in self.pages.iter() {
+            page.report_run(text);
         }
-        report_run(self.pid, &self.run, text);
     }
 }
 
-// Prints the line of a run of PES packets.
-fn report_run(pid: u16, run: &Run, text: &mut Text) {
-    text.put(b"pes");
-    text.number(pid as u64);
-    text.number(run.first);
-    text.number(run.count);
-    text.time(run.pts);
-    text.ticks(run.step);
-    run.heard.report(text);
+// Begins the next PES packet for all pages.
+fn begin_packet(pages: &mut Vec<PageLines>, fault: u16, has_pts: bool) {
+    for page in pages.iter_mut() {
+        page.begin(fault, has_pts);
+    }
+}
+
+// Passes a Teletext packet to the receivers of all pages. Returns the packet's header of any page,
+// if it has one.
+fn hear_packet(pages: &mut Vec<PageLines>, packet: &Packet, text: &mut Text) -> Option<Header> {
+    let mut header = None;
+    for page in pages.iter_mut() {
+        header = page.hear(packet, text);
+    }
+    header
+}
+
+// Ends a PES packet for all pages.
+fn end_packet(pages: &mut Vec<PageLines>, number: u64, pts: Option<u64>, text: &mut Text) {
+    for page in pages.iter_mut() {
+        page.end(number, pts, text);
+    }
+}
+
+// Prints the runs of all pages, and ends them.
+fn flush_pages(pages: &mut Vec<PageLines>, text: &mut Text) {
+    for page in pages.iter_mut() {
+        page.flush(text);
+    }
 }
 
 // Prints the line of a gap marker.

@@ -125,7 +125,7 @@ impl Pictures {
         }
         self.packet = *packet;
         self.has_repeat = false;
-        self.count_lost_packets(packet, link);
+        self.count_breaks_and_scrambled(packet, link);
         self.go_on(packet, kind, link, text);
         self.needs_every_packet = !is_finished(self.group_progress) || self.header.is_open();
     }
@@ -145,7 +145,7 @@ impl Pictures {
     }
 
     // Counts breaks of the counter and scrambled packets in the first group of pictures.
-    fn count_lost_packets(&mut self, packet: &[u8; PACKET], link: PacketLink) {
+    fn count_breaks_and_scrambled(&mut self, packet: &[u8; PACKET], link: PacketLink) {
         match self.group_progress {
             GroupProgress::Within => {
                 self.lost = increment_if(is_after_loss(packet, link), self.lost);
@@ -165,7 +165,7 @@ impl Pictures {
         if is_unusable(packet) {
             self.process_unreadable_packet(packet, kind, text);
         } else {
-            self.read_header(packet, kind, link, text);
+            self.read_payload(packet, kind, link, text);
         }
     }
 
@@ -179,8 +179,9 @@ impl Pictures {
         }
     }
 
-    // Reads the header of a PES packet. A picture begins once the header is complete.
-    fn read_header(&mut self, packet: &[u8; PACKET], kind: u8, link: PacketLink, text: &mut Text) {
+    // Reads the payload of a packet: the header of its PES packet, and the bytes of the picture. A
+    // picture begins once the header of a PES packet of video is complete.
+    fn read_payload(&mut self, packet: &[u8; PACKET], kind: u8, link: PacketLink, text: &mut Text) {
         let payload = payload_if_usable(packet);
         let before = if begins(packet) { 0 } else { self.header.len() };
         if self.header.take(payload, begins(packet), follows(link)) {
@@ -190,7 +191,7 @@ impl Pictures {
             self.header_bytes_left = self.header.size().saturating_sub(before);
             self.begin_picture(kind, text);
         }
-        self.read_ahead(payload);
+        self.read_picture(payload);
     }
 
     // Records that a picture begins.
@@ -233,7 +234,7 @@ impl Pictures {
     }
 
     // Reads more bytes of the picture at the random access point, unless another picture has begun.
-    fn read_ahead(&mut self, payload: &[u8]) {
+    fn read_picture(&mut self, payload: &[u8]) {
         if !self.is_first {
             return;
         }
@@ -264,7 +265,7 @@ impl Pictures {
         let pts = self.header.pts();
         self.report_picture(pts, text);
         if let Some(now) = pts {
-            self.move_to(now, text);
+            self.note_group_pts(now, text);
         }
     }
 
@@ -276,7 +277,7 @@ impl Pictures {
     }
 
     // Stores the least PTS, and ends the group ten seconds after it.
-    fn move_to(&mut self, now: u64, text: &mut Text) {
+    fn note_group_pts(&mut self, now: u64, text: &mut Text) {
         let first = earlier_of(self.first, now);
         self.first = Some(first);
         if forward_distance(first, now) > 10 * CLOCK_TICKS_PER_SECOND {

@@ -104,7 +104,7 @@ fn give_ready<T: TakesPesPackets>(joining: &mut Joining, to: &mut T, text: &mut 
 fn give_next<T: TakesPesPackets>(joining: &mut Joining, to: &mut T, text: &mut Text)
     ensures { PassesOnNextPart T.is_taken joining.old to.old joining.new to.new }
 {
-    let next = joining.take_next_and_discard_rest();
+    let next = joining.take_next_or_rest();
     to.take(joining.taken(next), is_gap(next), text);
 }
 

@@ -217,7 +217,7 @@ impl Pids {
 
     /// Updates the state of a PID with its packet number `number`.
     #[inline(always)]
-    pub fn count(&mut self, pid: u16, packet: &[u8; PACKET], number: u64) {
+    pub fn update_pid_state(&mut self, pid: u16, packet: &[u8; PACKET], number: u64) {
         let Some(state) = self.states.get_mut(pid as usize) else {
             return;
         };

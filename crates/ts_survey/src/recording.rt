@@ -210,7 +210,7 @@ impl Recording {
             return;
         }
         first.put(b"size 0\n");
-        match PesFile::new(self.alloc, self.requested.page) {
+        match PesFile::new(self.alloc, &self.requested.pages) {
             Some(file) => self.kind = Kind::Pes(file),
             None => self.out_of_memory = true,
         }
@@ -272,8 +272,9 @@ impl Recording {
         ensures skipped { self.new.skipped ≡ self.old.skipped }
     {
         put_size_line(size, first);
-        let pid = pid_number(self.requested.pid);
-        match Multiplex::new(self.alloc, self.requested.page, pid, first) {
+        let requested = self.requested;
+        let pid = pid_number(requested.pid);
+        match Multiplex::new(self.alloc, requested.pages, pid, first) {
             Some(multiplex) => {
                 let packets = PacketsInStep::new(size, self.skipped);
                 self.kind = Kind::Stream(packets, multiplex);

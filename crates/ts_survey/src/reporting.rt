@@ -9,9 +9,10 @@ ghost use Rattle.ts_survey.specs.Survey.{is_survey_write_failure};
 use crate::buffer::ReadBuffer;
 use crate::recording::Recording;
 use crate::text::Text;
-use mpeg_ts::SurveyOptions;
+use mpeg_ts::{SurveyOptions, SurveyPages};
 use std::alloc::Global;
 use sub_io::{Flush, Source, put_all};
+use ttx_packet::PageId;
 
 /// The reason why a recording was not read to its end.
 #[derive(Clone, Copy, Debug, PartialEq, Eq)]
@@ -65,8 +66,8 @@ pub fn survey<S: Source, K: Flush>(
     let Some(mut buffer) = ReadBuffer::new(alloc) else {
         return Err(SurveyFault::Memory);
     };
-    let mut first = Text::new(alloc);
-    let mut text = Text::new(alloc);
+    let mut first = Text::new(alloc, None);
+    let mut text = Text::new(alloc, only_page(&options.pages));
     let mut recording = Recording::new(alloc, options);
     'reads: for _ in 0..u64::MAX {
         let Ok(received) = buffer.pull(source, &first, &text) else {
@@ -85,6 +86,14 @@ pub fn survey<S: Source, K: Flush>(
     }
     // No recording needs that many reads.
     Err(SurveyFault::Memory)
+}
+
+// Returns the requested page if it is the only one.
+fn only_page(pages: &SurveyPages) -> Option<PageId> {
+    match pages[1] {
+        Some(_) => None,
+        None => pages[0],
+    }
 }
 
 // Writes all lines, the first lines before the other lines, and flushes them.

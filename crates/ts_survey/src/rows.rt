@@ -43,7 +43,7 @@ fn cell_of(byte: u8) -> u8 {
 
 impl Rows {
     /// Creates 24 blank rows.
-    pub fn none() -> Rows {
+    pub fn blank_rows() -> Rows {
         Rows {
             cells: [SPACES; 24],
         }
@@ -67,7 +67,7 @@ impl Rows {
     }
 
     /// Prints the page of a receiver that received these rows.
-    pub fn report_buffered(&self, page: &Page, text: &mut Text) {
+    pub fn report_received_page(&self, page: &Page, text: &mut Text) {
         let mut separator = b' ';
         for row in 0..24usize {
             let cells = reported_cells(page.row(row as u8 + 1), &self.cells[row]);
@@ -117,7 +117,7 @@ fn is_blank(cells: &[u8; 40]) -> bool {
 fn report_cells(separator: u8, row: usize, cells: &[u8; 40], text: &mut Text)
     requires { row < 24 }
 {
-    text.signed_number(separator, row as u64 + 1);
+    text.separated_number(separator, row as u64 + 1);
     text.put(b":");
     text.hex(cells);
 }

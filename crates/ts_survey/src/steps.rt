@@ -88,7 +88,8 @@ impl Steps {
         }
     }
 
-    // Returns whether steps differ from each other, or from those that were printed last.
+    // Returns whether steps differ from each other, or from those that were printed last, or none
+    // were printed yet.
     fn is_new(&self, range: &(Step, Step)) -> bool {
         let (least, most) = *range;
         match self.reported {

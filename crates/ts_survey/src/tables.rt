@@ -161,9 +161,9 @@ impl Tables {
         }
     }
 
-    /// Returns whether a complete section is new and current (current_next_indicator), and stores
-    /// it if so.
-    pub fn is_new_section(&mut self, section: &[u8]) -> bool {
+    /// Stores a complete section if it is new, current (current_next_indicator) and correct by its
+    /// CRC_32, and if there is room for it. Returns whether it was stored.
+    pub fn store_if_new(&mut self, section: &[u8]) -> bool {
         let Some(name) = section_name_of(section) else {
             return false;
         };

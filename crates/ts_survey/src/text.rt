@@ -4,6 +4,7 @@ ghost use Rattle.ts_survey.specs.Text.{AddsBytes, hex_text};
 
 use arrayvec::ArrayVec;
 use std::alloc::Global;
+use ttx_packet::PageId;
 
 /// The number of ticks of the 33-bit clock of a PTS and of a PCR's base, which has 90,000 ticks per
 /// second (ISO/IEC 13818-1).
@@ -18,17 +19,21 @@ type Word = ArrayVec<u8, 32>;
 pub struct Text {
     bytes: Vec<u8>,
     is_lost: bool,
+    // The page of the last lines that belong to one page, or the only page.
+    page_of_lines: Option<PageId>,
 }
 
 impl Text {
-    /// Creates an empty text.
-    pub fn new(alloc: Global) -> Text
+    /// Creates an empty text. `page` is the only page to which lines may belong, or `None` if there
+    /// are several.
+    pub fn new(alloc: Global, page: Option<PageId>) -> Text
         ensures empty { length result.bytes.items ≡ 0 }
         ensures whole { result.is_lost ≡ false }
     {
         Text {
             bytes: Vec::new(alloc),
             is_lost: false,
+            page_of_lines: page,
         }
     }
 
@@ -78,11 +83,11 @@ impl Text {
     pub fn number(&mut self, number: u64)
         ensures { AddsBytes self.old (0x20 ∷ decimal number) self.new }
     {
-        self.signed_number(b' ', number);
+        self.separated_number(b' ', number);
     }
 
-    /// Adds a sign and a number in decimal.
-    pub fn signed_number(&mut self, separator: u8, number: u64)
+    /// Adds a separator, such as a space or a comma, and a number in decimal.
+    pub fn separated_number(&mut self, separator: u8, number: u64)
         ensures { AddsBytes self.old (separator ∷ decimal number) self.new }
     {
         let mut digits = itoa::Buffer::new();
@@ -132,6 +137,18 @@ impl Text {
     {
         let first = if magazine == 0 { b'8' } else { b'0' + magazine };
         self.put(&[b' ', first, upper_digit(page / 16), upper_digit(page % 16)]);
+    }
+
+    /// Begins lines that belong to one page: adds the line `page P`, unless the last such lines
+    /// belong to the same page, or there is only one page.
+    pub fn begin_page(&mut self, page: PageId) {
+        if self.page_of_lines == Some(page) {
+            return;
+        }
+        self.page_of_lines = Some(page);
+        self.put(b"page");
+        self.page(page.magazine(), page.page());
+        self.put(b"\n");
     }
 }
 

@@ -14,9 +14,10 @@ use Rattle.ttx_packet.specs.declared.header.Header.{Header}
 use Rattle.ttx_packet.specs.Hamming84.{IsCodeWord, code_word}
 use Rattle.ttx_packet.specs.Parity.{is_odd, odd_parity_byte}
 use Rattle.ttx_packet.specs.PacketAddress.{address, address_code_words}
-use Rattle.ttx_packet.specs.PageHeader.{bit, nibble, coded_header, header, header_numbers}
-use Rattle.ttx_packet.specs.PageHeader.{header_packet, IsHeader, c4, c5, c6, c7, c8, c9, c10, c11}
-use Rattle.ttx_packet.specs.PageHeader.{c12, c13, c14, encodable_header, HasOddHeaderText}
+use Rattle.ttx_packet.specs.PageHeader.{bit, nibble, decoded_header, header, header_numbers}
+use Rattle.ttx_packet.specs.PageHeader.{header_packet, IsEncodableHeader, c4, c5, c6, c7, c8, c9}
+use Rattle.ttx_packet.specs.PageHeader.{c10, c11, c12, c13, c14, encodable_header}
+use Rattle.ttx_packet.specs.PageHeader.{HasOddParityHeaderText}
 use Rattle.ttx_packet.specs.RowPacket.{row_packet}
 use Rattle.ttx_packet.specs.Laws.{IsEncodedHeader, LawOfHeaderPacket, LawOfRowPacket}
 use Rattle.ttx_packet.proofs.Hamming84Lemmas.{decoded_nibble-code_word, code_word_is_exact}
@@ -24,7 +25,8 @@ use Rattle.ttx_packet.proofs.ParityLemmas.{parity_byte_is_odd, parity_byte_keeps
 use Rattle.ttx_packet.proofs.ControlLemmas.{bit_is_below_two, nibble_is_below_16}
 use Rattle.ttx_packet.proofs.ControlLemmas.{joined_bits_restore_control}
 
-header_numbers_are_nibbles : (h : Header) → IsHeader h → All (λ n. n < 16) (header_numbers h)
+header_numbers_are_nibbles : (h : Header) → IsEncodableHeader h
+    → All (λ n. n < 16) (header_numbers h)
 header_numbers_are_nibbles h is = search (
   rules,
   nibble_is_below_16,
@@ -48,9 +50,9 @@ control_bits_are_joined n s2 s4 c4 c5 c6 l m = omega (
   bit_is_below_two c6,
 )
 
-encoded_header_decodes : (magazine : ℕ) (h : Header) → IsHeader h
-    → coded_header (header_packet magazine h) ≡ Some h
-unfolding coded_header header_packet
+encoded_header_decodes : (magazine : ℕ) (h : Header) → IsEncodableHeader h
+    → decoded_header (header_packet magazine h) ≡ Some h
+unfolding decoded_header header_packet
 encoded_header_decodes magazine h is =
     let small = λ (k : ℕ). header_numbers_are_nibbles h is k 0 in
     let e2 = decoded_nibble-code_word _ (small 0 (omega arith)) in
@@ -71,7 +73,8 @@ encoded_header_decodes magazine h is =
     let control = joined_bits_restore_control h.control.0 is.control in
     rw (e2, e3, e4, e5, e6, e7, e8, e9, page, subcode, low, control) refl
 
-encoded_header_has_code_words : (magazine : ℕ) (h : Header) → IsHeader h → (k : ℕ) → 2 ≤ k → k < 10
+encoded_header_has_code_words : (magazine : ℕ) (h : Header) → IsEncodableHeader h → (k : ℕ) → 2 ≤ k
+    → k < 10
     → IsCodeWord (slice_index (header_packet magazine h) k)
 unfolding header_packet
 encoded_header_has_code_words magazine h is zero a b = absurd (omega arith)
@@ -102,7 +105,7 @@ space_has_odd_parity : is_odd 0x20 ≡ true
 unfolding is_odd count_ones ones_in
 space_has_odd_parity = refl
 
-header_text_has_odd_parity : (magazine : ℕ) (h : Header) → HasOddHeaderText
+header_text_has_odd_parity : (magazine : ℕ) (h : Header) → HasOddParityHeaderText
     (header_packet magazine h)
 unfolding header_packet
 header_text_has_odd_parity magazine h place from below =

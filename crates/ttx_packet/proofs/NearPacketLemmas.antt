@@ -5,7 +5,7 @@ use Rattle.std.proofs.lemmas.Bool.Decides.{nat_tests}
 use Rattle.ttx_packet.specs.OneBit.{IsNear, AreNear}
 use Rattle.ttx_packet.specs.Hamming84.{IsCodeWord}
 use Rattle.ttx_packet.specs.PacketAddress.{decoded_at, address, PacketAddress, HasExactAddress}
-use Rattle.ttx_packet.specs.PageHeader.{coded_header, header, HasExactHeader, HasExactCodeWords}
+use Rattle.ttx_packet.specs.PageHeader.{decoded_header, header, HasExactHeader, HasExactCodeWords}
 use Rattle.ttx_packet.proofs.Hamming84Lemmas.{decoded_nibble-near}
 
 pub near_packets_have_near_bytes : (sent got : List ℕ) (k : ℕ) → AreNear sent got
@@ -25,10 +25,10 @@ pub address-near : (sent got : List ℕ) → HasExactAddress sent → AreNear se
 unfolding address
 address-near sent got exact near = grind (arith, nat_tests, decoded_at-near)
 
-coded_header-near : (sent got : List ℕ) → HasExactHeader sent → AreNear sent got
-    → coded_header got ≡ coded_header sent
-unfolding coded_header
-coded_header-near sent got exact near = grind (arith, nat_tests, decoded_at-near)
+decoded_header-near : (sent got : List ℕ) → HasExactHeader sent → AreNear sent got
+    → decoded_header got ≡ decoded_header sent
+unfolding decoded_header
+decoded_header-near sent got exact near = grind (arith, nat_tests, decoded_at-near)
 
 pub header-near : (sent got : List ℕ) → HasExactCodeWords sent → AreNear sent got
     → header got ≡ header sent
@@ -36,11 +36,12 @@ unfolding header
 header-near sent got exact near = rw (address-near sent got exact.0 near) (go (address sent) refl)
   where
     go : (o : Option PacketAddress) → address sent ≡ o
-        → option_and_then (λ a. cond (a.packet_number == 0) (coded_header got) None) o ≡
-        option_and_then (λ a. cond (a.packet_number == 0) (coded_header sent) None) o
+        → option_and_then (λ a. cond (a.packet_number == 0) (decoded_header got) None) o ≡
+        option_and_then (λ a. cond (a.packet_number == 0) (decoded_header sent) None) o
     go None p = refl
     go (Some a) p =
-        let coded = λ (z : a.packet_number ≡ 0). coded_header-near sent got (exact.1 a p z) near in
+        let decoded =
+        λ (z : a.packet_number ≡ 0). decoded_header-near sent got (exact.1 a p z) near in
         grind (arith, nat_tests)
 
 pub ruleset near_laws = (address-near, header-near)

@@ -10,7 +10,7 @@ use Rattle.std.proofs.lemmas.Bool.Decides.{nat_tests}
 use Rattle.ttx_packet.specs.BitOrder.{mirror}
 use Rattle.ttx_packet.specs.Hamming84.{IsCodeWord, code_word, decoded_nibble}
 use Rattle.ttx_packet.specs.PacketAddress.{HasExactAddress, address, decoded_at}
-use Rattle.ttx_packet.specs.PageHeader.{HasExactHeader, coded_header, coded_page}
+use Rattle.ttx_packet.specs.PageHeader.{HasExactHeader, decoded_header, decoded_page}
 use Rattle.ttx_packet.specs.declared.header.Header.{Header}
 use Rattle.ttx_packet.specs.declared.sent_packet.TheConstants.{SENT_WORDS}
 use Rattle.ttx_packet.proofs.BitOrderLemmas.{mirror-mirror}
@@ -107,8 +107,8 @@ pub header_from_eight_nibbles : (p : List ℕ) (units tens s1 s2_c4 s3 s4_c6 c7_
     → h.page ≡ units + 0x10 * tens
     → h.subcode ≡ s1 + 0x10 * (s2_c4 % 8) + 0x100 * s3 + 0x1000 * (s4_c6 % 4)
     → h.control.0 ≡ s2_c4 / 8 + 2 * (s4_c6 / 4) + 8 * c7_c10 + 0x80 * c11_c14
-    → coded_header p ≡ Some h
-unfolding coded_header
+    → decoded_header p ≡ Some h
+unfolding decoded_header
 header_from_eight_nibbles p units tens s1 s2_c4 s3 s4_c6 c7_c10 c11_c14 h
     a b c d e f g i page subcode control =
     rw (a, b, c, d, e, f, g, i, ← page, ← subcode, ← control) refl
@@ -116,6 +116,6 @@ header_from_eight_nibbles p units tens s1 s2_c4 s3 s4_c6 c7_c10 c11_c14 h
 pub page_from_two_nibbles : (p : List ℕ) (units tens : ℕ)
     → decoded_at p 2 ≡ Some units
     → decoded_at p 3 ≡ Some tens
-    → coded_page p ≡ Some (units + 0x10 * tens)
-unfolding coded_page
+    → decoded_page p ≡ Some (units + 0x10 * tens)
+unfolding decoded_page
 page_from_two_nibbles p units tens first second = rw (first, second) refl

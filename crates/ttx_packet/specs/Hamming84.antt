@@ -17,7 +17,7 @@ code_words =
 abbrev pub code_word : ℕ → ℕ
 code_word n = slice_index code_words n
 
--- The byte is one of the 16 Hamming 8/4 code words, so without a wrong bit.
+-- The byte is one of the 16 Hamming 8/4 code words.
 abbrev pub IsCodeWord : ℕ → Type 0
 IsCodeWord b = (n : ℕ) × (n < 16) × (b ≡ code_word n)
 

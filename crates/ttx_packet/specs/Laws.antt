@@ -8,9 +8,9 @@ use Rattle.ttx_packet.specs.Hamming84.{Decodes, decoded_nibble}
 use Rattle.ttx_packet.specs.Parity.{is_odd, character_code}
 use Rattle.ttx_packet.specs.BitOrder.{mirror}
 use Rattle.ttx_packet.specs.PacketAddress.{address, HasExactAddress}
-use Rattle.ttx_packet.specs.PageHeader.{header, HasExactCodeWords, HasOddHeaderText, header_packet}
-use Rattle.ttx_packet.specs.PageHeader.{IsHeader}
-use Rattle.ttx_packet.specs.RowPacket.{text_byte, HasOddText, row_packet}
+use Rattle.ttx_packet.specs.PageHeader.{header, HasExactCodeWords, HasOddParityHeaderText}
+use Rattle.ttx_packet.specs.PageHeader.{header_packet, IsEncodableHeader}
+use Rattle.ttx_packet.specs.RowPacket.{text_byte, HasOddParityText, row_packet}
 
 -- A byte decodes to a number exactly if it differs in at most one bit from the code word of that
 -- number. So it decodes to at most one number.
@@ -57,14 +57,16 @@ pub record IsEncodedHeader (magazine : ℕ) (h : Header) (packet : List ℕ) : T
   pub address : address packet ≡ Some (record { magazine = magazine; packet_number = 0 })
   pub header : header packet ≡ Some h
   pub exact : HasExactCodeWords packet
-  pub odd : HasOddHeaderText packet
+  pub odd : HasOddParityHeaderText packet
 
--- Decoding a created header packet returns the original header.
+-- Decoding a packet that was created from a header returns that header, if a page header can carry
+-- all its bits (`IsEncodableHeader`). The coded bytes are code words, and the text bytes have odd
+-- parity.
 abbrev pub LawOfHeaderPacket : Type 0
 LawOfHeaderPacket =
     (magazine : ℕ) (h : Header)
     → magazine < 8
-    → IsHeader h
+    → IsEncodableHeader h
     → IsEncodedHeader magazine h (header_packet magazine h)
 
 -- The packet encodes a row with these codes: its address is that of the row, its text bytes carry
@@ -77,7 +79,7 @@ pub record IsEncodedRow (magazine row : ℕ) (codes packet : List ℕ) : Type 0 
   pub text : (column : ℕ)
       → column < 40
       → character_code (text_byte packet column) ≡ slice_index codes column
-  pub odd : HasOddText packet
+  pub odd : HasOddParityText packet
 
 -- Decoding a created row packet returns the original row number and character codes.
 abbrev pub LawOfRowPacket : Type 0

@@ -45,7 +45,7 @@ address packet = do
 abbrev pub address_pair : PacketAddress → ℕ × ℕ
 address_pair a = (a.magazine, a.packet_number)
 
--- Both address bytes of the packet are Hamming 8/4 code words, so without a wrong bit.
+-- Both address bytes of the packet are Hamming 8/4 code words.
 abbrev pub HasExactAddress : List ℕ → Type 0
 HasExactAddress packet = (place : ℕ) → place < 2 → IsCodeWord (slice_index packet place)
 

@@ -76,16 +76,16 @@ c14 h = is_flag_set h.control 0x400
 
 -- The page number in bytes 2 and 3 of a page header, with the page tens in the upper four bits.
 -- `None` if one of the two bytes cannot be decoded. Ignores the packet address.
-unfoldable pub coded_page : List ℕ → Option ℕ
-coded_page packet = do
+unfoldable pub decoded_page : List ℕ → Option ℕ
+decoded_page packet = do
   units ← decoded_at packet 2
   tens ← decoded_at packet 3
   Some (units + 0x10 * tens)
 
 -- The page header decoded from bytes 2 to 9 of a packet. `None` if one of these bytes cannot be
 -- decoded. Ignores the packet address.
-unfoldable pub coded_header : List ℕ → Option Header
-coded_header packet = do
+unfoldable pub decoded_header : List ℕ → Option Header
+decoded_header packet = do
   units ← decoded_at packet 2
   tens ← decoded_at packet 3
   s1 ← decoded_at packet 4
@@ -106,16 +106,14 @@ coded_header packet = do
 unfoldable pub header : List ℕ → Option Header
 header packet = do
   a ← address packet
-  if a.packet_number == 0 then coded_header packet else None
+  if a.packet_number == 0 then decoded_header packet else None
 
--- The eight coded bytes of the page header, bytes 2 to 9, are Hamming 8/4 code words, so without a
--- wrong bit.
+-- The eight coded bytes of the page header, bytes 2 to 9, are Hamming 8/4 code words.
 abbrev pub HasExactHeader : List ℕ → Type 0
 HasExactHeader packet =
     (place : ℕ) → 2 ≤ place → place < 10 → IsCodeWord (slice_index packet place)
 
--- The two bytes of the page number, bytes 2 and 3 of a page header, are Hamming 8/4 code words, so
--- without a wrong bit.
+-- The two bytes of the page number, bytes 2 and 3 of a page header, are Hamming 8/4 code words.
 abbrev pub HasExactPage : List ℕ → Type 0
 HasExactPage packet = IsCodeWord (slice_index packet 2) × IsCodeWord (slice_index packet 3)
 
@@ -130,8 +128,8 @@ HasExactCodeWords packet =
     → HasExactHeader packet)
 
 -- The 32 text bytes of the page header, bytes 10 to 41, have odd parity.
-abbrev pub HasOddHeaderText : List ℕ → Type 0
-HasOddHeaderText packet =
+abbrev pub HasOddParityHeaderText : List ℕ → Type 0
+HasOddParityHeaderText packet =
     (place : ℕ) → 10 ≤ place → place < 42 → IsTrue (is_odd (slice_index packet place))
 
 -- ---- created header packets
@@ -174,7 +172,7 @@ encodable_header h = record {
 
 -- A packet X/0 can carry the page header: the page number has two hexadecimal digits, the sub-code
 -- has no bit outside 3F7F, and only the control bits C4 to C14 are set.
-pub record IsHeader (h : Header) : Type 0 where
+pub record IsEncodableHeader (h : Header) : Type 0 where
   pub page : h.page < 0x100
   pub subcode : h.subcode < 0x4000
   pub subcode_bit_8_is_zero : h.subcode / 0x80 % 2 ≡ 0

@@ -10,8 +10,8 @@ abbrev pub text_byte : List ℕ → ℕ → ℕ
 text_byte packet column = slice_index packet (column + 2)
 
 -- Each of the 40 data bytes has odd parity.
-abbrev pub HasOddText : List ℕ → Type 0
-HasOddText packet = (column : ℕ) → column < 40 → IsTrue (is_odd (text_byte packet column))
+abbrev pub HasOddParityText : List ℕ → Type 0
+HasOddParityText packet = (column : ℕ) → column < 40 → IsTrue (is_odd (text_byte packet column))
 
 -- The column of the first of the 40 data bytes with even parity. `None` if all have odd parity.
 unfoldable pub first_even_parity_byte : List ℕ → Option ℕ

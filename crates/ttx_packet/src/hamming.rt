@@ -61,7 +61,7 @@ pub fn ham(number: u8) -> u8
     CODE_WORDS[number as usize]
 }
 
-/// Returns whether a byte is a Hamming 8/4 code word, so without a wrong bit (EN 300 706, 8.2).
+/// Returns whether a byte is a Hamming 8/4 code word (EN 300 706, 8.2).
 pub fn is_word(byte: u8) -> bool
     ensures { IsTrue result ↔ IsCodeWord byte }
 {

@@ -35,8 +35,8 @@ pub fn law_of_mirror()
     ensures { LawOfMirror }
 {}
 
-/// Decoding a created header packet returns the original header, and all its coded bytes are code
-/// words.
+/// Decoding a packet that was created from a header returns that header, if a page header can carry
+/// all its bits. The coded bytes are code words, and the text bytes have odd parity.
 pub fn law_of_header_packet()
     ensures { LawOfHeaderPacket }
 {}

@@ -8,7 +8,7 @@ ghost use Rattle.ttx_packet.specs.Hamming84.{code_word};
 ghost use Rattle.ttx_packet.specs.Laws.{IsEncodedHeader, IsEncodedRow};
 ghost use Rattle.ttx_packet.specs.PageHeader.{bit, header_packet, is_flag_set, nibble};
 ghost use Rattle.ttx_packet.specs.PageHeader.{encodable_header};
-ghost use Rattle.ttx_packet.specs.RowPacket.{HasOddText, first_even_parity_byte, row_packet};
+ghost use Rattle.ttx_packet.specs.RowPacket.{HasOddParityText, first_even_parity_byte, row_packet};
 
 use crate::bit_order::mirrored;
 use crate::control::Control;
@@ -40,7 +40,7 @@ impl Model for Packet {
 }
 
 impl Packet {
-    ghost use Rattle.ttx_packet.specs.PageHeader.{HasExactHeader, coded_header, header};
+    ghost use Rattle.ttx_packet.specs.PageHeader.{HasExactHeader, decoded_header, header};
     ghost use Rattle.ttx_packet.specs.PageHeader.{header_packet, encodable_header};
 
     /// Creates a packet from its 42 bytes, which may have any value.
@@ -101,7 +101,7 @@ impl Packet {
         if packet_number != 0 {
             return None;
         }
-        self.coded_header()
+        self.decoded_header()
     }
 
     /// Decodes the eight coded bytes of a page header. Ignores the address, which the caller has
@@ -109,9 +109,9 @@ impl Packet {
     ///
     /// Returns `None` if one of the eight bytes cannot be decoded.
     #[inline(always)]
-    #[tactic(auto, unfolding(crate::specs::PageHeader::coded_header))]
-    pub fn coded_header(&self) -> Option<Header>
-        ensures { result ≡ coded_header self.now }
+    #[tactic(auto, unfolding(crate::specs::PageHeader::decoded_header))]
+    pub fn decoded_header(&self) -> Option<Header>
+        ensures { result ≡ decoded_header self.now }
     {
         let units = unham(self.bytes[2])?;
         let tens = unham(self.bytes[3])?;
@@ -124,8 +124,7 @@ impl Packet {
         Some(header_from_numbers(&[units, tens, s1, s2_c4, s3, s4_c6, c7_c10, c11_c14]))
     }
 
-    /// Returns whether both address bytes are Hamming 8/4 code words, so without a wrong bit (EN
-    /// 300 706, 8.2).
+    /// Returns whether both address bytes are Hamming 8/4 code words (EN 300 706, 8.2).
     pub fn is_clean_address(&self) -> bool
         ensures { IsTrue result ↔ HasExactAddress self.now }
     {
@@ -147,9 +146,9 @@ impl Packet {
 
     /// Returns the column, 0 to 39, of the first data byte with even parity, or `None` if all data
     /// bytes have odd parity.
-    pub fn first_even(&self) -> Option<u8>
+    pub fn first_even_parity_column(&self) -> Option<u8>
         ensures value { result ≡ first_even_parity_byte self.now }
-        ensures odd { IsNone result ↔ HasOddText self.now }
+        ensures odd { IsNone result ↔ HasOddParityText self.now }
     {
         let (blocks, rest) = self.data().as_chunks::<16>();
         for (i, block) in blocks.iter().enumerate() {

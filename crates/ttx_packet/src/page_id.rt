@@ -78,8 +78,8 @@ fn hexadecimal_digit(byte: u8) -> Option<u8>
     }
 }
 
-// Returns the page with this magazine digit and these two hexadecimal digits, or `None` if a digit
-// is invalid.
+// Returns the page with this magazine digit and these two hexadecimal digits. `None` if a digit is
+// invalid, or if the page number is FF, which names no page.
 #[tactic(auto, unfolding(crate::specs::PageId::page_of_text))]
 fn page_of_digits(magazine: u8, tens: u8, units: u8) -> Option<PageId>
     ensures { result ≡ page_of_text (magazine ∷ tens ∷ units ∷ []) }

@@ -11,7 +11,7 @@ use std::marker::Model;
 
 /// The table entry of a byte that is no code word. 256 is greater than any number that two code
 /// words can form.
-const UNDECODABLE: u32 = 256;
+const NO_CODE_WORD: u32 = 256;
 
 /// The number that each byte encodes as a Hamming 8/4 code word, if the bit that is sent first is
 /// the highest bit of the byte. The table was generated from the code words; the proof compares it
@@ -36,7 +36,7 @@ const SENT_WORDS: [u16; 256] = [
     256, 256, 256, 256,   7, 256, 256, 256, 256, 256, 256, 256, 256, 256, 256, 256,
 ];
 
-// Returns the number that a byte encodes, or `UNDECODABLE` if it is no code word. The bit that is
+// Returns the number that a byte encodes, or `NO_CODE_WORD` if it is no code word. The bit that is
 // sent first is the highest bit of the byte.
 #[inline(always)]
 fn look_up_sent_byte(byte: u8) -> u32
@@ -56,7 +56,7 @@ fn decode_sent_byte(byte: u8) -> Option<u8>
         (λ n. (n < 16) × IsCodeWord (mirror byte) × (decoded_nibble (mirror byte) ≡ Some n)) }
 {
     let number = look_up_sent_byte(byte);
-    if number == UNDECODABLE {
+    if number == NO_CODE_WORD {
         None
     } else {
         Some(number as u8)
@@ -86,8 +86,8 @@ impl<'a> Model for SentPacket<'a> {
 }
 
 impl<'a> SentPacket<'a> {
-    ghost use Rattle.ttx_packet.specs.PageHeader.{HasExactHeader, HasExactPage, coded_header};
-    ghost use Rattle.ttx_packet.specs.PageHeader.{coded_page};
+    ghost use Rattle.ttx_packet.specs.PageHeader.{HasExactHeader, HasExactPage, decoded_header};
+    ghost use Rattle.ttx_packet.specs.PageHeader.{decoded_page};
     ghost use Rattle.ttx_packet.specs.declared.header.Header.{Header};
 
     /// Creates the packet from the 42 bytes of a data unit.
@@ -107,8 +107,7 @@ impl<'a> SentPacket<'a> {
     }
 
     /// Returns the magazine, 0 to 7, and the packet number Y, 0 to 31, if both address bytes are
-    /// code words, so without a wrong bit (EN 300 706, magazine and packet address). Magazine 0
-    /// means magazine 8.
+    /// code words (EN 300 706, magazine and packet address). Magazine 0 means magazine 8.
     ///
     /// Returns `None` if an address byte is no code word.
     #[inline(always)]
@@ -122,7 +121,7 @@ impl<'a> SentPacket<'a> {
         let low = look_up_sent_byte(self.bytes[0]);
         let high = look_up_sent_byte(self.bytes[1]);
         let number = low + 16 * high;
-        if number >= UNDECODABLE {
+        if number >= NO_CODE_WORD {
             None
         } else {
             Some((number as u8 % 8, number as u8 / 8))
@@ -130,30 +129,29 @@ impl<'a> SentPacket<'a> {
     }
 
     /// Returns the page number of a page header, with the page tens in the upper four bits, if both
-    /// of its bytes are code words, so without a wrong bit (EN 300 706, page header). Ignores the
-    /// address and the other six coded bytes, which are not needed to recognise a header of another
-    /// page.
+    /// of its bytes are code words (EN 300 706, page header). Ignores the address and the other six
+    /// coded bytes, which are not needed to recognise a header of another page.
     ///
     /// Returns `None` if one of the two bytes is no code word.
     #[inline(always)]
     pub fn exact_page(&self) -> Option<u8>
         ensures { MatchOption result (HasExactPage self.now → ⊥)
-            (λ page. HasExactPage self.now × (coded_page self.now ≡ Some page)) }
+            (λ page. HasExactPage self.now × (decoded_page self.now ≡ Some page)) }
     {
         let units = decode_sent_byte(self.bytes[2])?;
         let tens = decode_sent_byte(self.bytes[3])?;
         Some(units + 0x10 * tens)
     }
 
-    /// Decodes the eight coded bytes of a page header if all are code words, so without a wrong bit
-    /// (EN 300 706, page header). Ignores the address.
+    /// Decodes the eight coded bytes of a page header if all are code words (EN 300 706, page
+    /// header). Ignores the address.
     ///
     /// Returns `None` if one of the eight bytes is no code word.
     #[inline(always)]
-    #[tactic(auto, unfolding(crate::specs::PageHeader::coded_header))]
+    #[tactic(auto, unfolding(crate::specs::PageHeader::decoded_header))]
     pub fn exact_header(&self) -> Option<Header>
         ensures { MatchOption result (HasExactHeader self.now → ⊥)
-            (λ h. HasExactHeader self.now × (coded_header self.now ≡ Some h)) }
+            (λ h. HasExactHeader self.now × (decoded_header self.now ≡ Some h)) }
     {
         let units = decode_sent_byte(self.bytes[2])?;
         let tens = decode_sent_byte(self.bytes[3])?;

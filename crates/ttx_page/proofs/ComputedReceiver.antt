@@ -13,7 +13,7 @@ use Rattle.ttx_packet.proofs.OneBitLemmas.{is_near_implies_near}
 use Rattle.ttx_packet.specs.PageHeader.{c4}
 use Rattle.ttx_packet.specs.RowPacket.{text_byte}
 use Rattle.ttx_page.specs.Memory.{code_after}
-use Rattle.ttx_page.specs.declared.memory.EvenByte.TheVariants.{KeepsCell}
+use Rattle.ttx_page.specs.declared.memory.EvenParityChoice.TheVariants.{KeepsCell}
 use Rattle.ttx_page.specs.declared.packet_kind.PacketKind.{PacketKind}
 use Rattle.ttx_page.specs.declared.packet_kind.PacketKind.TheVariants.{ThisPage, EndsPage, Row}
 use Rattle.ttx_page.specs.declared.packet_kind.PacketKind.TheVariants.{Other}

@@ -4,7 +4,7 @@ use Rattle.std.proofs.Common.{◌≡◌, ℕ, zero, suc, ◌+◌, ◌*◌, ◌<�
 use Rattle.std.proofs.Common.{get_or, set, refl, arith, get_or-set_same, get_or-set_other, add-one}
 use Rattle.std.proofs.lemmas.Bool.Decides.{nat_tests}
 use Rattle.ttx_page.specs.Differing.{differing_column_count, row_difference, rows_difference}
-use Rattle.ttx_page.specs.Differing.{differing}
+use Rattle.ttx_page.specs.Differing.{differing_cell_count}
 use Rattle.std.proofs.lemmas.List.{get_or-replicate}
 use Rattle.ttx_page.specs.Page.{blank, blank_row, cell, IsCell}
 
@@ -89,7 +89,7 @@ zero_difference_equal_columns (suc n) xs ys e k l = grind
     (arith, nat_tests, zero_difference_equal_columns n xs ys)
 
 pub zero_difference_equal_cells : (xs ys : List (List ℕ))
-    → differing xs ys ≡ 0
+    → differing_cell_count xs ys ≡ 0
     → (row column : ℕ)
     → IsCell row column
     → cell xs row column ≡ cell ys row column

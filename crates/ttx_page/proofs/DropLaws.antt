@@ -5,7 +5,7 @@ use Rattle.std.proofs.lemmas.Bool.{cases_Bool}
 use Rattle.std.proofs.lemmas.Bool.Decides.{nat_tests}
 use Rattle.ttx_packet.specs.PageId.{PageIdValue}
 use Rattle.ttx_page.specs.DroppedRows.{LawOfDropping}
-use Rattle.ttx_page.specs.Receiver.{RunsBy, Step, StepBy, is_dropped}
+use Rattle.ttx_page.specs.Receiver.{RunsBy, Step, StepBy, is_row_with_even_parity}
 use Rattle.ttx_page.specs.Receiver.ReceiverClass.{Dropping}
 use Rattle.ttx_page.specs.Screen.{Display, ShowsAt}
 
@@ -50,16 +50,16 @@ module _
     ]
 
 dropped_packet_changes_nothing : (w : PageIdValue) (old : Display) (packet : List ℕ) (new : Display)
-    → is_dropped w packet ≡ true
+    → is_row_with_even_parity w packet ≡ true
     → StepBy Dropping w old.receiver_state packet new.receiver_state × ShowsAt w old packet new ↔
     (new ≡ old)
 dropped_packet_changes_nothing w old packet new drop = grind (arith, nat_tests, cases_Bool)
 
 pub law_of_dropping : LawOfDropping
 law_of_dropping w packets = (
-  dropping_filters_packets (Step w) (StepBy Dropping w) (is_dropped w)
+  dropping_filters_packets (Step w) (StepBy Dropping w) (is_row_with_even_parity w)
       (λ old packet new drop. rw drop (λ same. same, λ same. same))
       (λ old packet new hear. rw hear (λ step. step, λ step. step)) packets,
-  dropping_filters_packets _ _ (is_dropped w) (dropped_packet_changes_nothing w)
+  dropping_filters_packets _ _ (is_row_with_even_parity w) (dropped_packet_changes_nothing w)
       (λ old packet new hear. rw hear (λ step. step, λ step. step)) packets,
 )

@@ -11,12 +11,12 @@ use Rattle.std.proofs.lemmas.List.Elements.{recursion_from_All}
 use Rattle.std.proofs.lemmas.List.Folds.{list_any-append}
 use Rattle.ttx_packet.specs.PageId.{PageIdValue}
 use Rattle.ttx_packet.specs.Parity.{character_code}
-use Rattle.ttx_packet.specs.RowPacket.{HasOddText, text_byte}
-use Rattle.ttx_page.specs.Noise.{ErasesPage, IsOddRow, LawWithoutNoise}
+use Rattle.ttx_packet.specs.RowPacket.{HasOddParityText, text_byte}
+use Rattle.ttx_page.specs.Noise.{ErasesPageIfHeader, HasOddParityTextIfRow, LawWithoutNoise}
 use Rattle.ttx_page.specs.Page.{IsCell, cell, space}
 use Rattle.ttx_page.specs.PacketKind.{begins_text, ends_page, is_row, is_this_page, kind}
 use Rattle.ttx_page.specs.Receiver.{Hears, State, Step}
-use Rattle.ttx_page.specs.Repeats.{HasCodes, LawOfKeptText}
+use Rattle.ttx_page.specs.Repeats.{HasCodesIfRow, LawOfKeptText}
 use Rattle.ttx_page.specs.Shown.{kept}
 use Rattle.ttx_page.specs.Span.{has_text_beginning, has_page_header, is_open_after, text_span}
 use Rattle.ttx_page.specs.declared.packet_kind.PacketKind.TheVariants.{Row}
@@ -43,13 +43,13 @@ record CellAfterPacket
       → cell new.page row column ≡ cell old.page row column
   row_stores_code : kind w packet ≡ Row row
       → old.is_open ≡ true
-      → HasOddText packet
+      → HasOddParityText packet
       → cell new.page row column ≡ character_code (text_byte packet column)
 
 packet_updates_cell : (keeps : Bool) (w : PageIdValue) (row column : ℕ) (packet : List ℕ)
     (old new : State)
     → IsCell row column
-    → (IsFalse keeps → ErasesPage w packet)
+    → (IsFalse keeps → ErasesPageIfHeader w packet)
     → Step w old packet new
     → CellAfterPacket keeps w row column packet old new
 packet_updates_cell keeps w row column packet old new named erases step =
@@ -61,7 +61,7 @@ module _ (keeps : Bool) (w : PageIdValue) (row column code : ℕ) where
       (packet : List ℕ)
       → Contains (text_span keeps (kind w) packets) packet
       → kind w packet ≡ Row row
-      → HasOddText packet × (character_code (text_byte packet column) ≡ code)
+      → HasOddParityText packet × (character_code (text_byte packet column) ≡ code)
 
   abbrev IsFreshCell : State → List (List ℕ) → Type 0
   IsFreshCell start packets =
@@ -192,7 +192,7 @@ module _ (keeps : Bool) (w : PageIdValue) (row column code : ℕ) where
 
   run : (start : State) (packets sent : List (List ℕ)) (old new : State)
       → IsCell row column
-      → AllByRecursion (λ packet. IsFalse keeps → ErasesPage w packet) sent
+      → AllByRecursion (λ packet. IsFalse keeps → ErasesPageIfHeader w packet) sent
       → Hears w old sent new
       → HasCellState start packets old
       → HasCellState start (packets ++ sent) new
@@ -239,8 +239,8 @@ law_of_kept_text keeps w sent old new sends hears fresh row column named =
 
     targets : AreTargets keeps w row column code sent
     targets packet within is = (
-      All-contains (IsOddRow w) _ packet sends.odd within row is,
-      All-contains (HasCodes w (kept keeps w sent)) _ packet sends.codes within row column is
+      All-contains (HasOddParityTextIfRow w) _ packet sends.odd within row is,
+      All-contains (HasCodesIfRow w (kept keeps w sent)) _ packet sends.codes within row column is
           named.2,
     )
 

@@ -5,10 +5,11 @@ use Rattle.std.proofs.lemmas.Bool.Decides.{nat_tests}
 use Rattle.std.proofs.lemmas.List.Elements.{All-tail}
 use Rattle.ttx_packet.specs.PageHeader.{HasExactCodeWords}
 use Rattle.ttx_packet.specs.PageId.{PageIdValue}
-use Rattle.ttx_page.specs.Noise.{ErasesPage, HasSameCodes, IsOddRow, AreEqualInRow}
+use Rattle.ttx_page.specs.Noise.{ErasesPageIfHeader, HaveSameCodesIfSameRow, HasOddParityTextIfRow}
+use Rattle.ttx_page.specs.Noise.{AreEqualIfSameRow}
 use Rattle.ttx_page.specs.PacketKind.{kind}
 use Rattle.ttx_page.specs.Shown.{shown}
-use Rattle.ttx_page.specs.Repeats.{HasCodes, SendsText}
+use Rattle.ttx_page.specs.Repeats.{HasCodesIfRow, SendsOnlyRowsOfText}
 use Rattle.ttx_page.specs.Span.{has_page_header, is_open_after, has_no_page_end, span, text_span}
 use Rattle.ttx_page.proofs.SpanListLemmas.{after-append, holds-append_right}
 use Rattle.ttx_page.proofs.TextSpan.{text_span-later}
@@ -20,15 +21,15 @@ All-later P [] ys all = all
 All-later P (x ∷ xs) ys all = All-later P xs ys (All-tail P x (xs ++ ys) all)
 
 pub same_rows_have_same_codes : (w : PageIdValue) (packets : List (List ℕ))
-    → All (λ first. All (AreEqualInRow w first) packets) packets
-    → All (λ first. All (HasSameCodes w first) packets) packets
+    → All (λ first. All (AreEqualIfSameRow w first) packets) packets
+    → All (λ first. All (HaveSameCodesIfSameRow w first) packets) packets
 same_rows_have_same_codes w packets same i d l j e m row column one two below = grind
     (arith, nat_tests)
 
 module _ (w : PageIdValue) (before heard : List (List ℕ)) where
   pub sends-later : (keeps : Bool) (text : ℕ → ℕ → ℕ)
-      → SendsText keeps w (before ++ heard) text
-      → SendsText keeps w heard text
+      → SendsOnlyRowsOfText keeps w (before ++ heard) text
+      → SendsOnlyRowsOfText keeps w heard text
   sends-later keeps text sends =
       let later = text_span-later (kind w) keeps before heard in
       let of_text : (P : List ℕ → Type 0)
@@ -37,9 +38,9 @@ module _ (w : PageIdValue) (before heard : List (List ℕ)) where
       λ P all. All-later P later.0 (text_span keeps (kind w) heard) (subst (All P) later.1 all) in
       record {
         exact = All-later HasExactCodeWords before heard sends.exact;
-        erases = λ none. All-later (ErasesPage w) before heard (sends.erases none);
-        odd = of_text (IsOddRow w) sends.odd;
-        codes = of_text (HasCodes w text) sends.codes;
+        erases = λ none. All-later (ErasesPageIfHeader w) before heard (sends.erases none);
+        odd = of_text (HasOddParityTextIfRow w) sends.odd;
+        codes = of_text (HasCodesIfRow w text) sends.codes;
       }
 
   pub span-later : has_page_header (kind w) heard ≡ true

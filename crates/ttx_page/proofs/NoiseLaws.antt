@@ -20,11 +20,11 @@ use Rattle.ttx_page.specs.Receiver.{HearsBy, ReceiverClass, State}
 use Rattle.ttx_page.specs.Receiver.ReceiverClass.{Storing}
 use Rattle.ttx_page.specs.Span.{has_page_header, span}
 use Rattle.ttx_page.specs.Shown.{shown}
-use Rattle.ttx_page.specs.Noise.{HasSameCodes, IsSound, LawOfNoise}
+use Rattle.ttx_page.specs.Noise.{HaveSameCodesIfSameRow, IsSound, LawOfNoise}
 use Rattle.ttx_page.specs.LostRows.{IsHitOrLost, LawOfLostRows, LawOfNothingLost, LosesNoHeader}
 use Rattle.ttx_page.specs.LostRows.{arrivals_from_flags}
 use Rattle.ttx_page.specs.Recovery.{LawOfRecovery}
-use Rattle.ttx_page.specs.Repeats.{EndsAfterRepeats, SendsText}
+use Rattle.ttx_page.specs.Repeats.{EndsAfterRepeats, SendsOnlyRowsOfText}
 use Rattle.ttx_page.proofs.SpanListLemmas.{Any-map, map-Any, found_item_passes_test, find_none}
 use Rattle.ttx_page.proofs.SpanListLemmas.{find_none_fails}
 use Rattle.ttx_page.proofs.SpanListLemmas.{span-map, zip-map}
@@ -34,7 +34,7 @@ use Rattle.ttx_page.proofs.TextSpan.{beginning-none_keeps, text_span-none_keeps}
 
 pub first_row_has_code : (w : PageIdValue) (text_packets : List (List ℕ)) (row column : ℕ)
     (packet : List ℕ)
-    → All (λ first. All (HasSameCodes w first) text_packets) text_packets
+    → All (λ first. All (HaveSameCodesIfSameRow w first) text_packets) text_packets
     → Contains text_packets packet
     → kind w packet ≡ Row row
     → column < 40
@@ -74,7 +74,7 @@ shown_cell_is_sent_code w sent row column packet sound within is below =
 -- Well-formed packets send the text that they show, if repeats must not keep earlier text.
 pub sound_packets_send_shown_text : (w : PageIdValue) (sent : List (List ℕ))
     → IsSound w sent
-    → SendsText false w sent (shown w sent)
+    → SendsOnlyRowsOfText false w sent (shown w sent)
 sound_packets_send_shown_text w sent sound =
     let same = text_span-none_keeps (kind w) sent in
     record {

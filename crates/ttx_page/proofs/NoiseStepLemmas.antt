@@ -13,7 +13,7 @@ use Rattle.ttx_packet.specs.OneBit.{AreNear}
 use Rattle.ttx_packet.specs.Parity.{character_code, is_odd}
 use Rattle.ttx_packet.specs.PageHeader.{HasExactCodeWords}
 use Rattle.ttx_packet.specs.PageId.{PageIdValue}
-use Rattle.ttx_packet.specs.RowPacket.{HasOddText, first_even_parity_byte, text_byte}
+use Rattle.ttx_packet.specs.RowPacket.{HasOddParityText, first_even_parity_byte, text_byte}
 use Rattle.ttx_packet.proofs.OneBitLemmas.{first_below_satisfies_test}
 use Rattle.ttx_packet.proofs.ParityLemmas.{single_error_breaks_parity}
 use Rattle.ttx_packet.proofs.NearPacketLemmas.{address-near, header-near}
@@ -23,10 +23,11 @@ use Rattle.ttx_page.specs.declared.packet_kind.PacketKind.{PacketKind}
 use Rattle.ttx_page.specs.declared.packet_kind.PacketKind.TheVariants.{Row}
 use Rattle.ttx_page.specs.PacketKind.{begins_text, kind, is_this_page, ends_page, is_row}
 use Rattle.ttx_page.specs.DroppedRows.{ExcusedBy}
-use Rattle.ttx_page.specs.Receiver.{ReceiverClass, State, is_dropped}
+use Rattle.ttx_page.specs.Receiver.{ReceiverClass, State, is_row_with_even_parity}
 use Rattle.ttx_page.specs.Receiver.ReceiverClass.{Dropping, Storing}
-use Rattle.ttx_page.specs.Noise.{ErasesPage}
-use Rattle.ttx_page.specs.LostRows.{LosesByte, MayBeLost, LosesNoHeader, arrivals_from_flags}
+use Rattle.ttx_page.specs.Noise.{ErasesPageIfHeader}
+use Rattle.ttx_page.specs.LostRows.{LosesOrCorruptsByte, MayBeLost, LosesNoHeader}
+use Rattle.ttx_page.specs.LostRows.{arrivals_from_flags}
 use Rattle.ttx_page.specs.Repeats.{RestartsAtHeader, StepAtRepeat, HearsRepeats, StepWithRepeats}
 use Rattle.ttx_page.specs.Span.{has_text_beginning, has_page_header, is_open_after, span, text_span}
 use Rattle.ttx_page.proofs.SpanPushLemmas.{holds-push, span-push, open-this, open-other}
@@ -49,8 +50,8 @@ pub lost_packet_is_no_header : (w : PageIdValue) (packet : List ℕ)
 unfolding kind
 lost_packet_is_no_header w packet may = grind (arith, nat_tests)
 
--- One wrong bit in each byte does not change the kind of a packet whose address and header are code
--- words.
+-- At most one wrong bit in each byte does not change the kind of a packet whose address and header
+-- are code words.
 pub kind-near : (w : PageIdValue) (sent got : List ℕ)
     → HasExactCodeWords sent
     → AreNear sent got
@@ -72,7 +73,7 @@ excuse_is_monotone Storing P Q row column gives excused = gives column excused
 excuse_is_monotone Dropping P Q row column gives excused = grind (arith, nat_tests)
 
 abbrev pub LosesByteAt : List ℕ → Option (List ℕ) → ℕ → ℕ → Type 0
-LosesByteAt sent arrival row column = LosesByte sent arrival column
+LosesByteAt sent arrival row column = LosesOrCorruptsByte sent arrival column
 
 even_parity_byte_exists : (packet : List ℕ)
     → is_some (first_even_parity_byte packet) ≡ true
@@ -92,8 +93,8 @@ even_parity_byte_exists packet some = go (first_even_parity_byte packet) refl so
 
 -- If a row is sent with odd parity and a receiver drops it, one of its bytes had a wrong bit.
 dropped_row_has_byte_error : (w : PageIdValue) (sent got : List ℕ) (row column : ℕ)
-    → HasOddText sent
-    → is_dropped w got ≡ true
+    → HasOddParityText sent
+    → is_row_with_even_parity w got ≡ true
     → ExcusedBy Dropping (LosesByteAt sent (Some got)) row column
 dropped_row_has_byte_error w sent got row column odd drop = grind
     (arith, nat_tests, even_parity_byte_exists)
@@ -135,7 +136,7 @@ record CellAfterItem
   -- rows: any of its bytes), the cell may also keep its code or become a space.
   row_stores_code : kind w sent ≡ Row row
       → old.is_open ≡ true
-      → HasOddText sent
+      → HasOddParityText sent
       → StoresCode class row column sent arrival old new
 
 pub cell-blank : (row column : ℕ) → IsCell row column → cell blank row column ≡ space
@@ -147,7 +148,7 @@ step_updates_cell : (keeps anew : Bool) (w : PageIdValue) (row column : ℕ) (se
     (old new : State)
     → IsCell row column
     → HasExactCodeWords sent
-    → (IsFalse keeps → ErasesPage w sent)
+    → (IsFalse keeps → ErasesPageIfHeader w sent)
     → AreNear sent got
     → StepAtRepeat (kind w got) got old new
     → RestartsAtHeader anew w got new
@@ -173,7 +174,7 @@ received_item_updates_cell : (keeps anew : Bool) (class : ReceiverClass) (w : Pa
     (sent got : List ℕ) (old new : State)
     → IsCell row column
     → HasExactCodeWords sent
-    → (IsFalse keeps → ErasesPage w sent)
+    → (IsFalse keeps → ErasesPageIfHeader w sent)
     → AreNear sent got
     → StepWithRepeats class anew w old got new
     → CellAfterItem keeps anew class w row column sent (Some got) old new
@@ -182,12 +183,12 @@ received_item_updates_cell keeps anew Storing w row column sent got old new name
     step_updates_cell keeps anew w row column sent got old new named exact erases near goes.0 goes.1
 received_item_updates_cell keeps anew Dropping w row column sent got old new named exact erases near
     goes =
-    elim (cases_Bool (is_dropped w got)) [
+    elim (cases_Bool (is_row_with_even_parity w got)) [
       | inl drop ↦
           let stays = rw drop at goes in
           let same = kind-near w sent got exact near in
           let header = text_begins_at_header keeps (kind w sent) in
-          let excused : HasOddText sent → ExcusedBy Dropping (LosesByteAt sent (Some got)) row
+          let excused : HasOddParityText sent → ExcusedBy Dropping (LosesByteAt sent (Some got)) row
           column =
           λ odd. dropped_row_has_byte_error w sent got row column odd drop in
           grind (arith, nat_tests)
@@ -223,7 +224,7 @@ module _ (keeps anew : Bool) (class : ReceiverClass) (w : PageIdValue) (row colu
       (item : Item)
       → Contains (text_span keeps (kind_of_item w) items) item
       → kind w item.0 ≡ Row row
-      → HasOddText item.0 × (character_code (text_byte item.0 column) ≡ code)
+      → HasOddParityText item.0 × (character_code (text_byte item.0 column) ≡ code)
 
   -- The cell may be a space if a packet of its row, in the last transmission of the page, is lost
   -- or has a wrong byte for the cell (in receivers that drop rows: any wrong byte).
@@ -253,13 +254,15 @@ module _ (keeps anew : Bool) (class : ReceiverClass) (w : PageIdValue) (row colu
     -- Until a header of the page arrives, a blank page that is not open stays blank and not open.
     pub waits : has_page_header (kind_of_item w) items ≡ false → StartedBlank start → StartedBlank
         now
-    -- After a header of the page, the cell has the expected code or is a space.
+    -- If a header of the page came, and the cell does not depend on its earlier code, the cell has
+    -- the expected code or is a space.
     pub code_or_space : has_page_header (kind_of_item w) items ≡ true
         → IsFreshCell start items
         → AreTargets items
         → (cell now.page row column ≡ code) ⊎ (cell now.page row column ≡ space)
-    -- After a header of the page, the cell has the expected code, or may be a space, or the last
-    -- transmission of the page has no packet of its row.
+    -- If a header of the page came, and the cell does not depend on its earlier code, the cell has
+    -- the expected code, or may be a space, or the last transmission of the page has no packet of
+    -- its row.
     pub cell_eq : has_page_header (kind_of_item w) items ≡ true
         → IsFreshCell start items
         → AreTargets items
@@ -460,7 +463,7 @@ module _ (keeps anew : Bool) (class : ReceiverClass) (w : PageIdValue) (row colu
       (got : List (List ℕ)) (old new : State)
       → IsCell row column
       → AllByRecursion HasExactCodeWords sent
-      → AllByRecursion (λ packet. IsFalse keeps → ErasesPage w packet) sent
+      → AllByRecursion (λ packet. IsFalse keeps → ErasesPageIfHeader w packet) sent
       → AllZip LosesNoHeader sent arrived
       → AllZip AreNear (items_where_true arrived sent) got
       → HearsRepeats class anew w old got new

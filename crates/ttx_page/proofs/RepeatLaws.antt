@@ -17,11 +17,12 @@ use Rattle.ttx_page.specs.PacketKind.{kind, is_row}
 use Rattle.ttx_page.specs.DroppedRows.{ExcusedBy}
 use Rattle.ttx_page.specs.Receiver.{ReceiverClass, State, StepBy}
 use Rattle.ttx_page.specs.Receiver.ReceiverClass.{Dropping, Storing}
-use Rattle.ttx_page.specs.Repeats.{EndsAfterRepeats, HasCodes, HasNoRow, HearsRepeats, IsFresh}
-use Rattle.ttx_page.specs.Repeats.{LawOfKeepingReceivers, LawOfRepeats, SendsText, StepWithRepeats}
+use Rattle.ttx_page.specs.Repeats.{EndsAfterRepeats, HasCodesIfRow, HasNoRow, HearsRepeats, IsFresh}
+use Rattle.ttx_page.specs.Repeats.{LawOfKeepingReceivers, LawOfRepeats, SendsOnlyRowsOfText}
+use Rattle.ttx_page.specs.Repeats.{StepWithRepeats}
 use Rattle.ttx_page.specs.Span.{has_text_beginning, has_page_header, has_no_page_end, span}
 use Rattle.ttx_page.specs.Span.{text_span}
-use Rattle.ttx_page.specs.Noise.{IsOddRow}
+use Rattle.ttx_page.specs.Noise.{HasOddParityTextIfRow}
 use Rattle.ttx_page.specs.LostRows.{IsHitOrLost, LosesNoHeader, arrivals_from_flags}
 use Rattle.ttx_page.proofs.RunLemmas.{RunsBy-as}
 use Rattle.ttx_page.proofs.SpanListLemmas.{list_any-map, after-map, span-map}
@@ -92,7 +93,8 @@ module _ (class : ReceiverClass) (w : PageIdValue) (sent : List (List ℕ)) (arr
   row-items row = grind (arith, nat_tests, span-items, list_any-map, kind_of_item)
 
   module _ (keeps anew : Bool) (text : ℕ → ℕ → ℕ) (old new : State)
-      (sends : SendsText keeps w sent text) (hears : HearsRepeats class anew w old got new) where
+      (sends : SendsOnlyRowsOfText keeps w sent text)
+      (hears : HearsRepeats class anew w old got new) where
     abbrev IsSpaceAllowed : ℕ → ℕ → Type 0
     IsSpaceAllowed = ExcusedBy class (IsHitOrLost w sent arrivals)
 
@@ -135,8 +137,9 @@ module _ (class : ReceiverClass) (w : PageIdValue) (sent : List (List ℕ)) (arr
         items =
         λ item within is.
         let sent_within = sent-in_text keeps item within in (
-          All-contains (IsOddRow w) _ item.0 sends.odd sent_within row is,
-          All-contains (HasCodes w text) _ item.0 sends.codes sent_within row column is named.2,
+          All-contains (HasOddParityTextIfRow w) _ item.0 sends.odd sent_within row is,
+          All-contains (HasCodesIfRow w text) _ item.0 sends.codes sent_within row column is
+              named.2,
         ) in
         let coarse = end.code_or_space some fresh_cell targets in
         let fine = end.cell_eq some fresh_cell targets

@@ -13,10 +13,10 @@ use Rattle.ttx_packet.specs.PageHeader.{HasExactCodeWords}
 use Rattle.ttx_packet.specs.PageId.{PageIdValue}
 use Rattle.ttx_packet.specs.Parity.{character_code}
 use Rattle.ttx_packet.specs.RowPacket.{text_byte}
-use Rattle.ttx_page.specs.Noise.{ErasesPage, IsOddRow, IsSound}
+use Rattle.ttx_page.specs.Noise.{ErasesPageIfHeader, HasOddParityTextIfRow, IsSound}
 use Rattle.ttx_page.specs.Page.{space}
 use Rattle.ttx_page.specs.PacketKind.{begins_text, ends_page, is_row, is_this_page, kind}
-use Rattle.ttx_page.specs.Repeats.{HasCodes, MayFollow, SendsText}
+use Rattle.ttx_page.specs.Repeats.{HasCodesIfRow, MayFollow, SendsOnlyRowsOfText}
 use Rattle.ttx_page.specs.Shown.{kept}
 use Rattle.ttx_page.specs.Span.{has_page_header, is_open_after, text_span}
 use Rattle.ttx_page.specs.declared.packet_kind.PacketKind.TheVariants.{Row}
@@ -49,8 +49,8 @@ module _ (keeps : Bool) (w : PageIdValue) (before heard : List (List ℕ)) (pack
       subst (λ (ps : List (List ℕ)). Contains ps q) (sym later.1)
       (Contains-append_right later.0 text_packets q within)
 
-  -- If a row was already sent in the current text, a further packet does not change the first
-  -- packet of that row.
+  -- If a row was already sent in the current text, a further packet that does not start a new text
+  -- does not change the first packet of that row.
   first_row_stays_first : (row : ℕ) (q : List ℕ)
       → begins_text keeps (kind w packet) ≡ false
       → Contains complete_span q
@@ -84,7 +84,7 @@ module _ (keeps : Bool) (w : PageIdValue) (before heard : List (List ℕ)) (pack
       go false true e = found (find (test row) complete_span) refl
       go false false e = refl
 
-  module _ (sends : SendsText keeps w heard (kept keeps w all))
+  module _ (sends : SendsOnlyRowsOfText keeps w heard (kept keeps w all))
       (follows : MayFollow keeps w all packet) where
     pushed_packet_cases : (P : List (List ℕ) → Type 0)
         → P []
@@ -109,7 +109,7 @@ module _ (keeps : Bool) (w : PageIdValue) (before heard : List (List ℕ)) (pack
         go false false t e p q = was p
 
     codes_survive_packet : begins_text keeps (kind w packet) ≡ false
-        → All (HasCodes w (kept keeps w (all ++ packet ∷ []))) text_packets
+        → All (HasCodesIfRow w (kept keeps w (all ++ packet ∷ []))) text_packets
     codes_survive_packet no_begin k d l row column is below =
         let q : List ℕ = slice_index_or text_packets k d in
         let within = text_is_in_complete_span q (k, l, get_or_default text_packets k _ d l) in
@@ -118,7 +118,7 @@ module _ (keeps : Bool) (w : PageIdValue) (before heard : List (List ℕ)) (pack
 
     codes_while_open : is_open_after (kind w) heard ≡ true
         → begins_text keeps (kind w packet) ≡ false
-        → HasCodes w (kept keeps w (all ++ packet ∷ [])) packet
+        → HasCodesIfRow w (kept keeps w (all ++ packet ∷ [])) packet
     codes_while_open up no_begin row column is below =
         go (find (test row) complete_span) refl
       where
@@ -166,19 +166,22 @@ module _ (keeps : Bool) (w : PageIdValue) (before heard : List (List ℕ)) (pack
             ap (code_in_row column) here in
             sym (follows.same opened row column first is e below) ∙ sym code
 
-    sends-push : SendsText keeps w (heard ++ packet ∷ []) (kept keeps w (all ++ packet ∷ []))
+    sends-push : SendsOnlyRowsOfText keeps w (heard ++ packet ∷ [])
+        (kept keeps w (all ++ packet ∷ []))
     sends-push = record {
       exact = All-push HasExactCodeWords heard packet sends.exact follows.exact;
       erases = λ none.
-          All-push (ErasesPage w) heard packet (sends.erases none) (follows.erases none);
+          All-push (ErasesPageIfHeader w) heard packet (sends.erases none) (follows.erases none);
       odd =
-          pushed_packet_cases (All (IsOddRow w)) (All-nil _) (λ no_begin. sends.odd)
-          (λ no_begin up. All-push (IsOddRow w) text_packets packet sends.odd
+          pushed_packet_cases (All (HasOddParityTextIfRow w)) (All-nil _) (λ no_begin. sends.odd)
+          (λ no_begin up. All-push (HasOddParityTextIfRow w) text_packets packet sends.odd
           (follows.odd (open-later w before heard up).0));
       codes =
-          pushed_packet_cases (All (HasCodes w (kept keeps w (all ++ packet ∷ [])))) (All-nil _)
+          pushed_packet_cases (All (HasCodesIfRow w (kept keeps w (all ++ packet ∷ []))))
+          (All-nil _)
           codes_survive_packet
-          (λ no_begin up. All-push (HasCodes w (kept keeps w (all ++ packet ∷ []))) text_packets
+          (λ no_begin up. All-push (HasCodesIfRow w (kept keeps w (all ++ packet ∷ [])))
+          text_packets
           packet
           (codes_survive_packet no_begin) (codes_while_open up no_begin));
     }
@@ -186,22 +189,23 @@ module _ (keeps : Bool) (w : PageIdValue) (before heard : List (List ℕ)) (pack
 -- If each packet of `more` may follow the packets before it, the received packets and `more`
 -- together send the same text as all packets.
 pub sends-joined : (keeps : Bool) (w : PageIdValue) (before heard more : List (List ℕ))
-    → SendsText keeps w heard (kept keeps w (before ++ heard))
+    → SendsOnlyRowsOfText keeps w heard (kept keeps w (before ++ heard))
     → ((k : ℕ)
     → k < length more
     → MayFollow keeps w ((before ++ heard) ++ take k more) (slice_index_or more k []))
-    → SendsText keeps w (heard ++ more) (kept keeps w ((before ++ heard) ++ more))
+    → SendsOnlyRowsOfText keeps w (heard ++ more) (kept keeps w ((before ++ heard) ++ more))
 sends-joined keeps w before heard [] sends each =
-    subst (λ (ps : List (List ℕ)). SendsText keeps w ps (kept keeps w ((before ++ heard) ++ [])))
+    subst (λ (ps : List (List ℕ)). SendsOnlyRowsOfText keeps w ps
+    (kept keeps w ((before ++ heard) ++ [])))
     (sym (append-nil heard))
-    (subst (λ (ps : List (List ℕ)). SendsText keeps w heard (kept keeps w ps))
+    (subst (λ (ps : List (List ℕ)). SendsOnlyRowsOfText keeps w heard (kept keeps w ps))
     (sym (append-nil (before ++ heard))) sends)
 sends-joined keeps w before heard (p ∷ more) sends each =
     let first =
     subst (λ (ps : List (List ℕ)). MayFollow keeps w ps p) (append-nil (before ++ heard))
     (each 0 (omega arith)) in
     let sends_first =
-    subst (λ (ps : List (List ℕ)). SendsText keeps w (heard ++ p ∷ []) (kept keeps w ps))
+    subst (λ (ps : List (List ℕ)). SendsOnlyRowsOfText keeps w (heard ++ p ∷ []) (kept keeps w ps))
     (append_assoc before heard (p ∷ []))
     (sends-push keeps w before heard p sends first) in
     let rest =
@@ -213,17 +217,18 @@ sends-joined keeps w before heard (p ∷ more) sends each =
     (each (suc k) (omega arith))) in
     subst
     (λ (ps : List (List ℕ)).
-    SendsText keeps w ps (kept keeps w ((before ++ heard) ++ p ∷ more)))
+    SendsOnlyRowsOfText keeps w ps (kept keeps w ((before ++ heard) ++ p ∷ more)))
     (append_assoc heard (p ∷ []) more)
     (subst
-    (λ (ps : List (List ℕ)). SendsText keeps w ((heard ++ p ∷ []) ++ more) (kept keeps w ps))
+    (λ (ps : List (List ℕ)). SendsOnlyRowsOfText keeps w ((heard ++ p ∷ []) ++ more)
+    (kept keeps w ps))
     (ap (λ (ps : List (List ℕ)). ps ++ more) (sym (append_assoc before heard (p ∷ [])))
     ∙ append_assoc (before ++ heard) (p ∷ []) more)
     rest)
 
 pub sound_packets_send_text : (w : PageIdValue) (before heard : List (List ℕ))
     → IsSound w heard
-    → SendsText false w heard (kept false w (before ++ heard))
+    → SendsOnlyRowsOfText false w heard (kept false w (before ++ heard))
 sound_packets_send_text w before heard sound =
     let sends = sound_packets_send_shown_text w heard sound in
     record {
@@ -244,15 +249,15 @@ sound_packets_send_text w before heard sound =
     }
 
 pub sending_text_is_sound : (w : PageIdValue) (sent : List (List ℕ)) (text : ℕ → ℕ → ℕ)
-    → SendsText false w sent text
+    → SendsOnlyRowsOfText false w sent text
     → IsSound w sent
 sending_text_is_sound w sent text sends =
     let same = text_span-none_keeps (kind w) sent in
-    let codes = subst (All (HasCodes w text)) same sends.codes in
+    let codes = subst (All (HasCodesIfRow w text)) same sends.codes in
     record {
       exact = sends.exact;
       erases = sends.erases refl;
-      odd = subst (All (IsOddRow w)) same sends.odd;
+      odd = subst (All (HasOddParityTextIfRow w)) same sends.odd;
       same = λ i d l j e m row column one two below.
           codes i d l row column one below ∙ sym (codes j e m row column two below);
     }

@@ -24,5 +24,5 @@ rows_difference (suc n) a b =
     rows_difference n a b + row_difference (slice_index_or a n []) (slice_index_or b n [])
 
 -- The number of cells in which two pages differ, out of 960.
-abbrev pub differing : Rows → Rows → ℕ
-differing a b = rows_difference 24 a b
+abbrev pub differing_cell_count : Rows → Rows → ℕ
+differing_cell_count a b = rows_difference 24 a b

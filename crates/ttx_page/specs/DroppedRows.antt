@@ -3,14 +3,15 @@
 use Rattle.std.specs.Prelude.{◌↔◌, ℕ, ◌<◌, not, List}
 use Rattle.std.specs.List.{filter}
 use Rattle.ttx_packet.specs.PageId.{PageIdValue}
-use Rattle.ttx_page.specs.Receiver.{HearsBy, ReceiverClass, State, Hears, is_dropped}
+use Rattle.ttx_page.specs.Receiver.{HearsBy, ReceiverClass, State, Hears, is_row_with_even_parity}
 use Rattle.ttx_page.specs.Receiver.ReceiverClass.{Dropping, Storing}
 use Rattle.ttx_page.specs.Screen.{Display, Shows, ShowsBy}
 
 -- The packets of a list, without the rows that a receiver of page w drops because of a byte of even
 -- parity.
 abbrev pub without_dropped_packets : PageIdValue → List (List ℕ) → List (List ℕ)
-without_dropped_packets w packets = filter (λ packet. not (is_dropped w packet)) packets
+without_dropped_packets w packets =
+    filter (λ packet. not (is_row_with_even_parity w packet)) packets
 
 -- A receiver that drops rows has the same page and screen as a receiver that stores rows and does
 -- not receive the dropped rows.

@@ -32,22 +32,22 @@ arrivals_from_flags (true ∷ arrived) [] = None ∷ arrivals_from_flags arrived
 arrivals_from_flags (true ∷ arrived) (first ∷ got) = Some first ∷ arrivals_from_flags arrived got
 
 -- The packet was lost, or its byte for the column was received with a wrong value.
-abbrev pub LosesByte : List ℕ → Option (List ℕ) → ℕ → Type 0
-LosesByte sent None column = ⊤
-LosesByte sent (Some got) column = text_byte got column ≢ text_byte sent column
+abbrev pub LosesOrCorruptsByte : List ℕ → Option (List ℕ) → ℕ → Type 0
+LosesOrCorruptsByte sent None column = ⊤
+LosesOrCorruptsByte sent (Some got) column = text_byte got column ≢ text_byte sent column
 
 -- The cell was hit by noise or loss: a packet of its row, in the last transmission of the page, was
 -- lost or was received with a wrong byte for the cell.
 abbrev pub IsHitOrLost :
     PageIdValue → List (List ℕ) → List (Option (List ℕ)) → ℕ → ℕ → Type 0
 IsHitOrLost w sent arrivals row column =
-    Any (λ pair. (kind w pair.0 ≡ Row row) × LosesByte pair.0 pair.1 column)
+    Any (λ pair. (kind w pair.0 ≡ Row row) × LosesOrCorruptsByte pair.0 pair.1 column)
     (span (λ (pair : List ℕ × Option (List ℕ)). kind w pair.0) (zip sent arrivals))
 
 -- The law of noise if packets other than page headers are lost, and the other packets have at most
 -- one wrong bit in each byte. A cell of a lost row counts as hit. In receivers that drop rows, one
--- hit byte counts as a hit of all cells of its row. So noise never puts a wrong character on the
--- screen, even if packets are lost.
+-- hit byte counts as a hit of all cells of its row. So noise never puts a wrong character into the
+-- decoded page, even if packets are lost.
 abbrev pub LawOfLostRows : Type 0
 LawOfLostRows =
     (class : ReceiverClass) (w : PageIdValue) (sent : List (List ℕ)) (arrived : List Bool)
@@ -63,8 +63,8 @@ LawOfLostRows =
 
 -- ---- the law of noise as a special case
 
--- If every packet arrives, the received packets and the hit cells are the same as in the law of
--- noise.
+-- The received packets and the hit cells are the same as in the law of noise, as they are if every
+-- packet arrives.
 pub record LosesNothing (w : PageIdValue) (sent : List (List ℕ)) (arrived : List Bool)
     : Type 0 where
   pub kept : items_where_true arrived sent ≡ sent

@@ -2,8 +2,8 @@
 -- defined by a standard). Only private contracts use these definitions.
 use Rattle.std.specs.Prelude.{ℕ, if◌then◌else◌}
 use Rattle.ttx_packet.specs.Parity.{character_code, is_odd}
-use Rattle.ttx_page.specs.declared.memory.EvenByte.{EvenByte}
-use Rattle.ttx_page.specs.declared.memory.EvenByte.TheVariants.{KeepsCell, BlanksCell}
+use Rattle.ttx_page.specs.declared.memory.EvenParityChoice.{EvenParityChoice}
+use Rattle.ttx_page.specs.declared.memory.EvenParityChoice.TheVariants.{KeepsCell, BlanksCell}
 use Rattle.ttx_page.specs.declared.memory.Memory.{Memory}
 use Rattle.ttx_page.specs.Page.{space}
 use Rattle.ttx_page.specs.Receiver.{State}
@@ -13,10 +13,11 @@ abbrev pub state_of : Memory → State
 state_of m = record { heard = m.heard; is_open = m.is_open; page = m.page }
 
 -- The code of a cell after a byte of even parity was received for it: the old code or a space.
-abbrev pub code_for_even_byte : EvenByte → ℕ → ℕ
-code_for_even_byte KeepsCell was = was
-code_for_even_byte BlanksCell was = space
+abbrev pub code_for_even_parity : EvenParityChoice → ℕ → ℕ
+code_for_even_parity KeepsCell was = was
+code_for_even_parity BlanksCell was = space
 
 -- The code of a cell after a byte was received for it.
-abbrev pub code_after : EvenByte → ℕ → ℕ → ℕ
-code_after even byte was = if is_odd byte then character_code byte else code_for_even_byte even was
+abbrev pub code_after : EvenParityChoice → ℕ → ℕ → ℕ
+code_after even byte was =
+    if is_odd byte then character_code byte else code_for_even_parity even was

@@ -7,7 +7,7 @@ use Rattle.ttx_packet.specs.OneBit.{AreNear}
 use Rattle.ttx_packet.specs.PageHeader.{c4, HasExactCodeWords}
 use Rattle.ttx_packet.specs.PageId.{PageIdValue}
 use Rattle.ttx_packet.specs.Parity.{character_code}
-use Rattle.ttx_packet.specs.RowPacket.{HasOddText, text_byte}
+use Rattle.ttx_packet.specs.RowPacket.{HasOddParityText, text_byte}
 use Rattle.ttx_page.specs.declared.packet_kind.PacketKind.TheVariants.{ThisPage, Row}
 use Rattle.ttx_page.specs.Page.{space, cell, IsCell}
 use Rattle.ttx_page.specs.PacketKind.{kind}
@@ -16,21 +16,21 @@ use Rattle.ttx_page.specs.Shown.{shown, IsHit}
 use Rattle.ttx_page.specs.Span.{has_page_header, is_open_after, span}
 
 -- If the packet is a header of page w, its control bit C4, erase page, is set.
-abbrev pub ErasesPage : PageIdValue → List ℕ → Type 0
-ErasesPage w packet = (h : Header) → kind w packet ≡ ThisPage h → IsTrue (c4 h)
+abbrev pub ErasesPageIfHeader : PageIdValue → List ℕ → Type 0
+ErasesPageIfHeader w packet = (h : Header) → kind w packet ≡ ThisPage h → IsTrue (c4 h)
 
 -- If the packet is a row of page w, its 40 data bytes have odd parity.
-abbrev pub IsOddRow : PageIdValue → List ℕ → Type 0
-IsOddRow w packet = (row : ℕ) → kind w packet ≡ Row row → HasOddText packet
+abbrev pub HasOddParityTextIfRow : PageIdValue → List ℕ → Type 0
+HasOddParityTextIfRow w packet = (row : ℕ) → kind w packet ≡ Row row → HasOddParityText packet
 
 -- If both packets are packets of the same row of page w, they are equal.
-abbrev pub AreEqualInRow : PageIdValue → List ℕ → List ℕ → Type 0
-AreEqualInRow w first second =
+abbrev pub AreEqualIfSameRow : PageIdValue → List ℕ → List ℕ → Type 0
+AreEqualIfSameRow w first second =
     (row : ℕ) → kind w first ≡ Row row → kind w second ≡ Row row → first ≡ second
 
 -- If both packets are packets of the same row of page w, they have the same character codes.
-abbrev pub HasSameCodes : PageIdValue → List ℕ → List ℕ → Type 0
-HasSameCodes w first second =
+abbrev pub HaveSameCodesIfSameRow : PageIdValue → List ℕ → List ℕ → Type 0
+HaveSameCodesIfSameRow w first second =
     (row column : ℕ)
     → kind w first ≡ Row row
     → kind w second ≡ Row row
@@ -39,14 +39,15 @@ HasSameCodes w first second =
 
 -- The sent packets are well-formed, as the law of noise requires.
 pub record IsSound (w : PageIdValue) (sent : List (List ℕ)) : Type 0 where
-  -- Addresses and page headers consist of code words, so without a wrong bit.
+  -- Addresses and page headers consist of code words.
   pub exact : All HasExactCodeWords sent
   -- Each header of the page has C4, erase page, set.
-  pub erases : All (ErasesPage w) sent
+  pub erases : All (ErasesPageIfHeader w) sent
   -- Each row packet in the last transmission of the page has 40 bytes of odd parity.
-  pub odd : All (IsOddRow w) (span (kind w) sent)
+  pub odd : All (HasOddParityTextIfRow w) (span (kind w) sent)
   -- Two packets of the same row in the last transmission of the page have the same character codes.
-  pub same : All (λ first. All (HasSameCodes w first) (span (kind w) sent)) (span (kind w) sent)
+  pub same : All (λ first. All (HaveSameCodesIfSameRow w first) (span (kind w) sent))
+      (span (kind w) sent)
 
 -- The final state of a receiver that had received no header of the page before, and whose page was
 -- not open.
@@ -67,9 +68,10 @@ pub record EndsWithShownText
       → (cell new.page row column ≡ shown w sent row column)
       ⊎ ((cell new.page row column ≡ space) × IsExcused row column)
 
--- If each byte has at most one wrong bit, every receiver receives the page if a header of the page
--- was sent. Each cell then has the sent code, or a space if its byte had a wrong bit. So noise
--- never puts a wrong character on the screen.
+-- The law of noise, for well-formed packets with at most one wrong bit in each byte and every
+-- receiver that had received no header of the page before. If a header of the page was sent, each
+-- cell has the sent code, or is a space if its byte had a wrong bit. So noise never puts a wrong
+-- character into the decoded page.
 abbrev pub LawOfNoise : Type 0
 LawOfNoise =
     (w : PageIdValue) (sent got : List (List ℕ)) (old new : State)
@@ -80,8 +82,10 @@ LawOfNoise =
     → Hears w old got new
     → EndsWithShownText w sent (IsHit w sent got) new
 
--- Without wrong bits, each cell of a receiver has the code that the packets show, whatever the page
--- contained before and whatever the receiver does at bytes of even parity.
+-- If well-formed packets arrive without wrong bits at a receiver that had received no header of the
+-- page before, and one of them is a header of the page, each cell has the code that the packets
+-- show. What the page contained before and what the receiver does at bytes of even parity has no
+-- effect.
 abbrev pub LawWithoutNoise : Type 0
 LawWithoutNoise =
     (w : PageIdValue) (sent : List (List ℕ)) (old new : State)

@@ -74,9 +74,9 @@ Hears w old packets new = RunsBy (Step w) old packets new
 
 -- For each byte of even parity in a stored row, this relation holds between the old and the new
 -- code of its cell.
-abbrev pub AtEvenBytes :
+abbrev pub AtEvenParityBytes :
     (ℕ → ℕ → Type 0) → PageIdValue → State → List ℕ → State → Type 0
-AtEvenBytes CodeChange w old packet new =
+AtEvenParityBytes CodeChange w old packet new =
     (row column : ℕ)
     → IsCell row column
     → IsTrue old.is_open
@@ -86,12 +86,14 @@ AtEvenBytes CodeChange w old packet new =
 
 -- For a byte of even parity, the receiver stores the code that `leaves` returns for the old code:
 -- the old code itself, if it keeps cells, or a space, if it blanks them.
-abbrev pub LeavesCells : (ℕ → ℕ) → PageIdValue → State → List ℕ → State → Type 0
-LeavesCells leaves w old packet new = AtEvenBytes (λ was is. is ≡ leaves was) w old packet new
+abbrev pub StoresForEvenParity : (ℕ → ℕ) → PageIdValue → State → List ℕ → State → Type 0
+StoresForEvenParity leaves w old packet new =
+    AtEvenParityBytes (λ was is. is ≡ leaves was) w old packet new
 
 -- How a packet changes a receiver that stores `leaves` of the old code for a byte of even parity.
 abbrev pub StepLeaving : (ℕ → ℕ) → PageIdValue → State → List ℕ → State → Type 0
-StepLeaving leaves w old packet new = Step w old packet new × LeavesCells leaves w old packet new
+StepLeaving leaves w old packet new = Step w old packet new
+    × StoresForEvenParity leaves w old packet new
 
 -- How a list of packets changes a receiver that stores `leaves` of the old code for a byte of even
 -- parity.
@@ -100,21 +102,22 @@ HearsLeaving leaves w old packets new = RunsBy (StepLeaving leaves w) old packet
 
 -- ---- two classes of receivers
 
--- The two classes of receivers in the laws: receivers that store the odd bytes of each row, and
--- receivers that drop a row with a byte of even parity.
+-- The two classes of receivers in the laws: receivers that store the bytes of odd parity of each
+-- row, and receivers that drop a row with a byte of even parity.
 pub data ReceiverClass : Type 0 where
   Storing : ReceiverClass
   Dropping : ReceiverClass
 
 -- The packet is a row packet, X/1 to X/24, of the page's magazine, and one of its 40 data bytes has
 -- even parity.
-abbrev pub is_dropped : PageIdValue → List ℕ → Bool
-is_dropped w packet = is_page_row (kind w packet) && is_some (first_even_parity_byte packet)
+abbrev pub is_row_with_even_parity : PageIdValue → List ℕ → Bool
+is_row_with_even_parity w packet = is_page_row (kind w packet)
+    && is_some (first_even_parity_byte packet)
 
 -- A receiver of this class, tuned to page w, drops the packet.
 abbrev pub drops : ReceiverClass → PageIdValue → List ℕ → Bool
 drops Storing w packet = false
-drops Dropping w packet = is_dropped w packet
+drops Dropping w packet = is_row_with_even_parity w packet
 
 -- How a packet may change a receiver of this class: the receiver ignores a packet that it drops,
 -- and follows the model (`Step`) at every other packet.

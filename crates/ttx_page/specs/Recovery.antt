@@ -1,6 +1,6 @@
 -- The law of noise for a receiver in any state. A receiver in the field has always received
--- something before: another transmission, noise, or rows without their page header. Packets before
--- the next header of its page have no effect on the page.
+-- something before: another transmission, noise, or rows without their page header. After the next
+-- header of its page, which erases the page, nothing received before has an effect on it.
 use Rattle.std.specs.Prelude.{◌≡◌, ℕ, ◌⊎◌, Bool, List, IsTrue}
 use Rattle.std.specs.List.{AllZip, items_where_true}
 use Rattle.ttx_packet.specs.OneBit.{AreNear}

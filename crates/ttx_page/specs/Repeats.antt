@@ -12,7 +12,7 @@ use Rattle.ttx_page.specs.declared.packet_kind.PacketKind.{PacketKind}
 use Rattle.ttx_page.specs.declared.packet_kind.PacketKind.TheVariants.{Row, ThisPage}
 use Rattle.ttx_page.specs.DroppedRows.{ExcusedBy}
 use Rattle.ttx_page.specs.LostRows.{IsHitOrLost, LosesNoHeader, arrivals_from_flags}
-use Rattle.ttx_page.specs.Noise.{ErasesPage, IsOddRow}
+use Rattle.ttx_page.specs.Noise.{ErasesPageIfHeader, HasOddParityTextIfRow}
 use Rattle.ttx_page.specs.Page.{IsCell, Rows, blank, cell, space}
 use Rattle.ttx_page.specs.PacketKind.{is_row, is_this_page, kind}
 use Rattle.ttx_page.specs.Receiver.{Hears, HearsBy, ReceiverClass, RunsBy, State, StepAt, drops}
@@ -91,25 +91,26 @@ LawOfRepeatScreen =
 -- ---- the law of repeats
 
 -- If the packet is a row of page w, it has the character codes of the text.
-abbrev pub HasCodes : PageIdValue → (ℕ → ℕ → ℕ) → List ℕ → Type 0
-HasCodes w text packet =
+abbrev pub HasCodesIfRow : PageIdValue → (ℕ → ℕ → ℕ) → List ℕ → Type 0
+HasCodesIfRow w text packet =
     (row column : ℕ)
     → kind w packet ≡ Row row
     → column < 40
     → character_code (text_byte packet column) ≡ text row column
 
--- The packets send this text, in the form that the law of repeats requires.
-pub record SendsText
+-- The packets have the form that the law of repeats requires, and each row of the page sent in the
+-- transmissions of the current text has the codes of the text. Rows may be missing.
+pub record SendsOnlyRowsOfText
     (keeps : Bool) (w : PageIdValue) (sent : List (List ℕ)) (text : ℕ → ℕ → ℕ)
     : Type 0 where
-  -- Addresses and page headers consist of code words, so without a wrong bit.
+  -- Addresses and page headers consist of code words.
   pub exact : All HasExactCodeWords sent
   -- If repeats must not keep earlier text, each header of the page has C4, erase page, set.
-  pub erases : IsFalse keeps → All (ErasesPage w) sent
+  pub erases : IsFalse keeps → All (ErasesPageIfHeader w) sent
   -- Each row packet in the transmissions of the current text has 40 bytes of odd parity, and the
   -- codes of the text.
-  pub odd : All (IsOddRow w) (text_span keeps (kind w) sent)
-  pub codes : All (HasCodes w text) (text_span keeps (kind w) sent)
+  pub odd : All (HasOddParityTextIfRow w) (text_span keeps (kind w) sent)
+  pub codes : All (HasCodesIfRow w text) (text_span keeps (kind w) sent)
 
 -- The packet may follow the earlier packets `before` (not defined by a standard). Its address and
 -- page header are code words. If repeats must not keep earlier text, a header of the page has C4
@@ -119,8 +120,8 @@ pub record MayFollow
     (keeps : Bool) (w : PageIdValue) (before : List (List ℕ)) (packet : List ℕ)
     : Type 0 where
   pub exact : HasExactCodeWords packet
-  pub erases : IsFalse keeps → ErasesPage w packet
-  pub odd : IsTrue (is_open_after (kind w) before) → IsOddRow w packet
+  pub erases : IsFalse keeps → ErasesPageIfHeader w packet
+  pub odd : IsTrue (is_open_after (kind w) before) → HasOddParityTextIfRow w packet
   pub same : IsTrue (is_open_after (kind w) before)
       → (row column : ℕ) (first : List ℕ)
       → kind w packet ≡ Row row
@@ -154,9 +155,9 @@ pub record EndsAfterRepeats
   pub is_open :
       IsTrue (has_page_header (kind w) sent || not old.is_open)
       → new.is_open ≡ is_open_after (kind w) sent
-  -- If the page does not depend on its earlier contents, each cell has the code of the text, or is
-  -- a space if `IsExcused` is true for it or the last transmission of the page has no packet of its
-  -- row.
+  -- If a header of the page was sent and the page does not depend on its earlier contents, each
+  -- cell has the code of the text, or is a space if `IsExcused` is true for it or the last
+  -- transmission of the page has no packet of its row.
   pub cells :
       IsTrue (has_page_header (kind w) sent)
       → IsFresh keeps anew w sent old
@@ -168,24 +169,25 @@ pub record EndsAfterRepeats
 -- The law of repeats: the final state of every receiver that may blank cells at a repeat, if
 -- packets other than page headers are lost, and the other packets have at most one wrong bit in
 -- each byte. So a repeat without C4, erase page, repairs cells that noise has hit, and puts no
--- wrong character on the screen.
+-- wrong character into the decoded page.
 abbrev pub LawOfRepeats : Type 0
 LawOfRepeats =
     (keeps anew : Bool) (class : ReceiverClass) (w : PageIdValue) (sent : List (List ℕ))
     → (arrived : List Bool) (got : List (List ℕ)) (text : ℕ → ℕ → ℕ) (old new : State)
-    → SendsText keeps w sent text
+    → SendsOnlyRowsOfText keeps w sent text
     → AllZip LosesNoHeader sent arrived
     → AllZip AreNear (items_where_true arrived sent) got
     → HearsRepeats class anew w old got new
     → EndsAfterRepeats keeps anew w sent text
     (ExcusedBy class (IsHitOrLost w sent (arrivals_from_flags arrived got))) old new
 
--- Without wrong bits, a receiver that keeps its page at repeats has the codes of `kept`, if the
--- page does not depend on its earlier contents.
+-- If packets of the form that the law of repeats requires arrive without wrong bits, a receiver
+-- that keeps its page at repeats has the codes of `kept`, if the page does not depend on its
+-- earlier contents.
 abbrev pub LawOfKeptText : Type 0
 LawOfKeptText =
     (keeps : Bool) (w : PageIdValue) (sent : List (List ℕ)) (old new : State)
-    → SendsText keeps w sent (kept keeps w sent)
+    → SendsOnlyRowsOfText keeps w sent (kept keeps w sent)
     → Hears w old sent new
     → IsFresh keeps false w sent old
     → (row column : ℕ)

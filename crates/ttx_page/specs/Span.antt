@@ -55,8 +55,9 @@ from_text_beginning keeps kind_of [] = []
 from_text_beginning keeps kind_of (x ∷ xs) =
     if has_text_beginning keeps kind_of xs then from_text_beginning keeps kind_of xs else x ∷ xs
 
--- The items received while the page is open, without headers of the page. `is_open` is true if the
--- page is open before the list. These items are the spans of all headers of the page.
+-- The items received while the page is open, without headers of the page: the spans of all headers
+-- of the page. `is_open` is true if the page is open before the list; then the items before the
+-- first header that begins or ends the page are included too.
 abbrev pub while_open : {A : Type 0} → (A → PacketKind) → Bool → List A → List A
 while_open kind_of is_open [] = []
 while_open kind_of is_open (x ∷ xs) =

@@ -1,7 +1,7 @@
 //! A receiver that stores a space for a byte of even parity.
 ghost use Rattle.ttx_page.specs.Page.{space};
 
-use crate::memory::{EvenByte, Memory};
+use crate::memory::{EvenParityChoice, Memory};
 use crate::page::Page;
 use crate::receiver::Receiver;
 use std::marker::Model;
@@ -44,7 +44,7 @@ impl Receiver for Blank {
         self.memory.heard
     }
 
-    fn open(&self) -> bool {
+    fn is_page_open(&self) -> bool {
         self.memory.is_open
     }
 
@@ -54,6 +54,6 @@ impl Receiver for Blank {
 
     /// Receives a packet. Each cell for which a byte of even parity is received becomes a space.
     fn hear(&mut self, packet: &Packet) {
-        self.memory.hear(packet, EvenByte::BlanksCell);
+        self.memory.hear(packet, EvenParityChoice::BlanksCell);
     }
 }

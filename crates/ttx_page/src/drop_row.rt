@@ -1,9 +1,9 @@
 //! A receiver that drops a row if one of its bytes has even parity.
 ghost use Rattle.std.specs.Prelude.{◌≡◌, false};
-ghost use Rattle.ttx_page.specs.Receiver.{HearsBy, StepBy, is_dropped};
+ghost use Rattle.ttx_page.specs.Receiver.{HearsBy, StepBy, is_row_with_even_parity};
 ghost use Rattle.ttx_page.specs.Receiver.ReceiverClass.{Dropping};
 
-use crate::memory::{EvenByte, Memory};
+use crate::memory::{EvenParityChoice, Memory};
 use crate::packet_kind::PacketKind;
 use crate::page::Page;
 use std::marker::Model;
@@ -58,7 +58,7 @@ impl DropRow {
 
     /// Returns whether the page is open, so that rows of its magazine are stored: a header of the
     /// page was received, and no later header has ended it.
-    pub fn open(&self) -> bool
+    pub fn is_page_open(&self) -> bool
         ensures { result ≡ self.now.state.is_open }
     {
         self.memory.is_open
@@ -77,7 +77,7 @@ impl DropRow {
         ensures tuned { self.new.watched ≡ self.old.watched }
     {
         if !is_dropped(self.memory.watched, packet) {
-            self.memory.hear(packet, EvenByte::KeepsCell);
+            self.memory.hear(packet, EvenParityChoice::KeepsCell);
         }
     }
 
@@ -96,10 +96,10 @@ impl DropRow {
 /// Returns whether `DropRow` ignores the packet: it is a row of the page's magazine with a byte of
 /// even parity.
 pub fn is_dropped(page_id: PageId, packet: &Packet) -> bool
-    ensures { result ≡ is_dropped page_id packet.now }
+    ensures { result ≡ is_row_with_even_parity page_id packet.now }
 {
     match PacketKind::of(page_id, packet) {
-        PacketKind::Row(_) => packet.first_even().is_some(),
+        PacketKind::Row(_) => packet.first_even_parity_column().is_some(),
         _ => false,
     }
 }

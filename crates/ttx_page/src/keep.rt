@@ -1,5 +1,5 @@
 //! A receiver that keeps the old code at a byte of even parity.
-use crate::memory::{EvenByte, Memory};
+use crate::memory::{EvenParityChoice, Memory};
 use crate::page::Page;
 use crate::receiver::Receiver;
 use std::marker::Model;
@@ -42,7 +42,7 @@ impl Receiver for Keep {
         self.memory.heard
     }
 
-    fn open(&self) -> bool {
+    fn is_page_open(&self) -> bool {
         self.memory.is_open
     }
 
@@ -52,6 +52,6 @@ impl Receiver for Keep {
 
     /// Receives a packet. Each cell for which a byte of even parity is received keeps its code.
     fn hear(&mut self, packet: &Packet) {
-        self.memory.hear(packet, EvenByte::KeepsCell);
+        self.memory.hear(packet, EvenParityChoice::KeepsCell);
     }
 }

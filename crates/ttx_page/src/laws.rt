@@ -20,15 +20,17 @@ pub fn law_of_span<T>()
     ensures { LawOfSpan T }
 {}
 
-/// The law of noise. If each byte has at most one wrong bit, a receiver that has received a header
-/// of the page has the sent code in each cell, or a space if the byte of the cell had a wrong bit.
+/// The law of noise, for well-formed packets with at most one wrong bit in each byte and a receiver
+/// that had received no header of the page before. Once it has received one, each cell has the sent
+/// code, or is a space if the byte of the cell had a wrong bit.
 #[tactic(auto, using(crate::proofs::NoiseLaws::law_of_noise))]
 pub fn law_of_noise()
     ensures { LawOfNoise }
 {}
 
-/// Without wrong bits, a receiver that has received a header of the page has exactly the sent
-/// codes, whatever the page contained before.
+/// If well-formed packets arrive without wrong bits at a receiver that had received no header of
+/// the page before, then after a header of the page it has exactly the sent codes, whatever the
+/// page contained before.
 #[tactic(auto, using(crate::proofs::FaultFreeLaws::law_of_fault_free))]
 pub fn law_without_noise()
     ensures { LawWithoutNoise }
@@ -68,9 +70,10 @@ pub fn law_of_screen()
     ensures { LawOfScreen }
 {}
 
-/// The law of repeats, for pages repeated without C4, erase page. Whatever a receiver does at such
-/// a header, each cell has the sent code, or a space that the next repeat fills, as soon as no cell
-/// depends on the earlier contents of the page.
+/// The law of repeats, for well-formed packets of a page that is repeated without C4, erase page.
+/// At such a header a receiver may keep or blank each cell. As soon as no cell depends on the
+/// earlier contents of the page, each cell has the sent code, or is a space if noise or loss hit it
+/// or the last transmission has no packet of its row.
 pub fn law_of_repeats()
     ensures { LawOfRepeats }
 {}
@@ -82,8 +85,8 @@ pub fn law_of_keeping_receivers()
     ensures { LawOfKeepingReceivers }
 {}
 
-/// Without wrong bits, a receiver that keeps its page at headers without C4 has all sent codes, as
-/// soon as no cell depends on the earlier contents of the page.
+/// If well-formed packets arrive without wrong bits, a receiver that keeps its page at headers
+/// without C4 has all sent codes, as soon as no cell depends on the earlier contents of the page.
 #[tactic(auto, using(crate::proofs::FaultFreeLaws::law_of_kept_text))]
 pub fn law_of_kept_text()
     ensures { LawOfKeptText }

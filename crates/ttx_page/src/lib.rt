@@ -33,4 +33,4 @@ pub use laws::{
 pub use packet_kind::PacketKind;
 pub use page::Page;
 pub use receiver::{Receiver, hear_all};
-pub use screen::{show, show_all};
+pub use screen::{hear_and_show, show_all};

@@ -2,9 +2,9 @@
 //! receiver does at a byte of even parity.
 ghost use Rattle.std.specs.Prelude.{◌≡◌, ◌+◌, ◌<◌, ℕ, false, slice_index};
 ghost use Rattle.ttx_packet.specs.PageHeader.{c4};
-ghost use Rattle.ttx_page.specs.Memory.{code_for_even_byte, code_after, state_of};
+ghost use Rattle.ttx_page.specs.Memory.{code_for_even_parity, code_after, state_of};
 ghost use Rattle.ttx_page.specs.Page.{AreCodes};
-ghost use Rattle.ttx_page.specs.Receiver.{AtEvenBytes, Step};
+ghost use Rattle.ttx_page.specs.Receiver.{AtEvenParityBytes, Step};
 
 use crate::packet_kind::PacketKind;
 use crate::page::Page;
@@ -13,7 +13,7 @@ use ttx_packet::{Control, Header, Packet, PageId, is_odd};
 
 /// The receiver's choice for a cell if the received byte has even parity.
 #[derive(Clone, Copy, Debug, PartialEq, Eq)]
-pub enum EvenByte {
+pub enum EvenParityChoice {
     /// The cell keeps its code.
     KeepsCell,
     /// The cell becomes a space.
@@ -44,9 +44,10 @@ impl Memory {
     }
 
     /// Receives a packet. `even` chooses what is stored for each byte of even parity.
-    pub fn hear(&mut self, packet: &Packet, even: EvenByte)
+    pub fn hear(&mut self, packet: &Packet, even: EvenParityChoice)
         ensures step { Step self.old.watched (state_of self.old) packet.now (state_of self.new) }
-        ensures code_for_even_byte { AtEvenBytes (λ was is. is ≡ code_for_even_byte even was)
+        ensures code_for_even_parity { AtEvenParityBytes
+            (λ was is. is ≡ code_for_even_parity even was)
             self.old.watched
             (state_of self.old) packet.now (state_of self.new) }
         ensures tuned { self.new.watched ≡ self.old.watched }
@@ -62,7 +63,7 @@ impl Memory {
             PacketKind::EndsPage => self.is_open = false,
             PacketKind::Row(row) => {
                 if self.is_open {
-                    let codes = stored(self.page.row(row), packet.bytes(), even);
+                    let codes = stored_codes(self.page.row(row), packet.bytes(), even);
                     self.page.set_row(row, &codes);
                 }
             }
@@ -79,7 +80,7 @@ fn erases_page(header: &Header) -> bool
 }
 
 // Returns the 40 codes of a row after `packet` of that row was received. `was` has the old codes.
-fn stored(was: &[u8; 40], packet: &[u8; 42], even: EvenByte) -> [u8; 40]
+fn stored_codes(was: &[u8; 40], packet: &[u8; 42], even: EvenParityChoice) -> [u8; 40]
     requires { AreCodes was.now }
     ensures value { (column : ℕ) → column < 40 → slice_index result column
         ≡ code_after even (slice_index packet.now (column + 2)) (slice_index was.now column) }
@@ -93,7 +94,7 @@ fn stored(was: &[u8; 40], packet: &[u8; 42], even: EvenByte) -> [u8; 40]
 }
 
 // Returns the code of a cell after a byte for it was received. `was` is the old code.
-fn code_after(even: EvenByte, byte: u8, was: u8) -> u8
+fn code_after(even: EvenParityChoice, byte: u8, was: u8) -> u8
     requires { was < 128 }
     ensures value { result ≡ code_after even byte was }
     ensures code { result < 128 }
@@ -102,8 +103,8 @@ fn code_after(even: EvenByte, byte: u8, was: u8) -> u8
         byte % 128
     } else {
         match even {
-            EvenByte::KeepsCell => was,
-            EvenByte::BlanksCell => 0x20,
+            EvenParityChoice::KeepsCell => was,
+            EvenParityChoice::BlanksCell => 0x20,
         }
     }
 }

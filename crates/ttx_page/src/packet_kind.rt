@@ -52,7 +52,7 @@ impl PacketKind {
         };
         let is_same_magazine = magazine == watched.magazine();
         if packet_number == 0 {
-            let Some(header) = packet.coded_header() else {
+            let Some(header) = packet.decoded_header() else {
                 return (PacketKind::Other, None);
             };
             if is_same_magazine {

@@ -1,14 +1,14 @@
 //! Teletext pages: 24 rows of 40 codes, without the page header.
 ghost use Rattle.std.specs.Prelude.{◌≡◌, ◌≢◌, ℕ, ◌-◌, ◌<◌, ◌≤◌, slice_index, slice_set};
 ghost use Rattle.std.specs.Prelude.{IsTrue, MatchOption};
-ghost use Rattle.ttx_page.specs.Differing.{differing};
+ghost use Rattle.ttx_page.specs.Differing.{differing_cell_count};
 ghost use Rattle.ttx_page.specs.Page.{blank, blank_row, cell, row_at, AreCodes, DiffersFirst};
 ghost use Rattle.ttx_page.specs.Page.{IsCell, IsCode};
 ghost use Rattle.ttx_page.specs.Page.{IsPage, IsRow};
 
 mod lanes;
 
-use self::lanes::differing;
+use self::lanes::mask_differing_cells;
 use crate::differing::count_differing_columns;
 use std::marker::Model;
 
@@ -36,7 +36,7 @@ impl Model for Page {
 }
 
 impl Page {
-    /// Returns the blank page, to which C4, erase page, sets a page: each cell has code 20, a
+    /// Returns the blank page, to which C4, erase page, sets a page: each cell has code 0x20, a
     /// space.
     #[tactic(auto, unfolding(crate::specs::Page::blank, crate::specs::Page::blank_row))]
     pub fn blank() -> Page
@@ -85,7 +85,7 @@ impl Page {
             (λ at. DiffersFirst self.now other.now at.0 at.1) }
     {
         for i in 0..24 {
-            if let Some(column) = first_column(&self.rows[i], &other.rows[i]) {
+            if let Some(column) = first_differing_column(&self.rows[i], &other.rows[i]) {
                 return Some((i as u8 + 1, column));
             }
         }
@@ -95,7 +95,7 @@ impl Page {
     /// Returns the number of cells, of 960, that are not spaces.
     #[tactic(auto, unfolding(crate::specs::Differing::rows_difference))]
     pub fn count_nonblank_cells(&self) -> u16
-        ensures value { result ≡ differing blank self.now }
+        ensures value { result ≡ differing_cell_count blank self.now }
         ensures range { result ≤ 960 }
     {
         let mut count = 0;
@@ -126,15 +126,15 @@ fn are_rows_equal(a: &[u8; 40], b: &[u8; 40]) -> bool
 {
     let (a_blocks, _) = a.as_chunks::<16>();
     let (b_blocks, _) = b.as_chunks::<16>();
-    let prefix = differing(&a_blocks[0], &b_blocks[0]);
-    let middle = differing(&a_blocks[1], &b_blocks[1]);
+    let prefix = mask_differing_cells(&a_blocks[0], &b_blocks[0]);
+    let middle = mask_differing_cells(&a_blocks[1], &b_blocks[1]);
     // The last block overlaps the block before it, so that no column is left over.
-    let last = differing(a.last_chunk().unwrap(), b.last_chunk().unwrap());
+    let last = mask_differing_cells(a.last_chunk().unwrap(), b.last_chunk().unwrap());
     (prefix == 0) & (middle == 0) & (last == 0)
 }
 
 // Returns the first column in which two rows differ, or `None` if the rows are equal.
-fn first_column(a: &[u8; 40], b: &[u8; 40]) -> Option<u8>
+fn first_differing_column(a: &[u8; 40], b: &[u8; 40]) -> Option<u8>
     ensures { MatchOption result (a.now ≡ b.now) (λ c. (c < 40)
         × (slice_index a.now c ≢ slice_index b.now c)
         × ((k : ℕ) → k < c → slice_index a.now k ≡ slice_index b.now k)) }
@@ -142,13 +142,13 @@ fn first_column(a: &[u8; 40], b: &[u8; 40]) -> Option<u8>
     let (a_blocks, _) = a.as_chunks::<16>();
     let (b_blocks, _) = b.as_chunks::<16>();
     for i in 0..2usize {
-        let mask = differing(&a_blocks[i], &b_blocks[i]);
+        let mask = mask_differing_cells(&a_blocks[i], &b_blocks[i]);
         if mask != 0 {
             return Some((16 * i + mask.trailing_zeros() as usize) as u8);
         }
     }
     // The last block overlaps the block before it, so that no column is left over.
-    let last = differing(a.last_chunk().unwrap(), b.last_chunk().unwrap());
+    let last = mask_differing_cells(a.last_chunk().unwrap(), b.last_chunk().unwrap());
     if last != 0 {
         return Some((24 + last.trailing_zeros() as usize) as u8);
     }

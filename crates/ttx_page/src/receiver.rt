@@ -1,7 +1,7 @@
 //! The trait of receivers of one page.
 ghost use Rattle.std.specs.Prelude.{◌≡◌, ℕ, true, false};
 ghost use Rattle.ttx_packet.specs.PageId.{PageIdValue};
-ghost use Rattle.ttx_page.specs.Receiver.{Hears, HearsLeaving, LeavesCells, State, Step};
+ghost use Rattle.ttx_page.specs.Receiver.{Hears, HearsLeaving, StoresForEvenParity, State, Step};
 
 use crate::page::Page;
 use ttx_packet::{Packet, PageId};
@@ -39,7 +39,7 @@ pub trait Receiver: Sized {
 
     /// Returns whether the page is open, so that rows of its magazine are stored: a header of the
     /// page was received, and no later header has ended it.
-    fn open(&self) -> bool
+    fn is_page_open(&self) -> bool
         ensures { result ≡ (state self.now).is_open };
 
     /// Returns the contents of the receiver's page.
@@ -49,7 +49,7 @@ pub trait Receiver: Sized {
     /// Receives a packet. The receiver chooses what to store for each byte of even parity.
     fn hear(&mut self, packet: &Packet)
         ensures step { Step (tuned_to self.old) (state self.old) packet.now (state self.new) }
-        ensures cells { LeavesCells leaves (tuned_to self.old) (state self.old) packet.now
+        ensures cells { StoresForEvenParity leaves (tuned_to self.old) (state self.old) packet.now
             (state self.new) }
         ensures tuned { tuned_to self.new ≡ tuned_to self.old };
 }

@@ -1,6 +1,6 @@
 //! The screen of a receiver, which displays a page when it is complete.
 ghost use Rattle.std.specs.Prelude.{◌≡◌, Some};
-ghost use Rattle.ttx_page.specs.Receiver.{LeavesCells, Step};
+ghost use Rattle.ttx_page.specs.Receiver.{StoresForEvenParity, Step};
 ghost use Rattle.ttx_page.specs.Screen.{Shows, ShowsAt, ShowsWaiting, display, screen_after};
 
 use crate::page::Page;
@@ -11,10 +11,10 @@ use ttx_packet::Packet;
 ///
 /// `screen` is `None` as long as nothing is displayed. A header of the page itself does not change
 /// the screen: as in libzvbi, a page is displayed when a header of another page ends it.
-pub fn show<R: Receiver>(receiver: &mut R, screen: &mut Option<Page>, packet: &Packet)
+pub fn hear_and_show<R: Receiver>(receiver: &mut R, screen: &mut Option<Page>, packet: &Packet)
     ensures step { Step (R.tuned_to receiver.old) (R.state receiver.old) packet.now
         (R.state receiver.new) }
-    ensures cells { LeavesCells R.leaves (R.tuned_to receiver.old) (R.state receiver.old)
+    ensures cells { StoresForEvenParity R.leaves (R.tuned_to receiver.old) (R.state receiver.old)
         packet.now (R.state receiver.new) }
     ensures waits { screen.new ≡ screen_after (display (R.state receiver.old) screen.old)
         (R.state receiver.new) }
@@ -23,9 +23,9 @@ pub fn show<R: Receiver>(receiver: &mut R, screen: &mut Option<Page>, packet: &P
         (display (R.state receiver.new) screen.new) }
     ensures tuned { R.tuned_to receiver.new ≡ R.tuned_to receiver.old }
 {
-    let was_open = receiver.open();
+    let was_open = receiver.is_page_open();
     receiver.hear(packet);
-    if was_open && !receiver.open() {
+    if was_open && !receiver.is_page_open() {
         copy_to_screen(screen, receiver.page());
     }
 }
@@ -40,7 +40,7 @@ fn copy_to_screen(screen: &mut Option<Page>, page: &Page)
     }
 }
 
-/// Receives all packets of a list, in order, and updates the screen as `show` does.
+/// Receives all packets of a list, in order, and updates the screen as `hear_and_show` does.
 #[tactic(auto, using(crate::proofs::RunLemmas::run_extends_by_packet))]
 pub fn show_all<R: Receiver>(receiver: &mut R, screen: &mut Option<Page>, packets: &[Packet])
     ensures run { Shows (R.tuned_to receiver.old)
@@ -52,6 +52,6 @@ pub fn show_all<R: Receiver>(receiver: &mut R, screen: &mut Option<Page>, packet
     ensures tuned { R.tuned_to receiver.new ≡ R.tuned_to receiver.old }
 {
     for packet in packets {
-        show(receiver, screen, packet);
+        hear_and_show(receiver, screen, packet);
     }
 }

@@ -6,7 +6,7 @@ use Rattle.std.proofs.lemmas.Bool.Decides.{nat_tests}
 use Rattle.std.proofs.lemmas.List.{take-take}
 use borrow.Rule.Slice.PartMut.{put_mid}
 use Rattle.sub_io.proofs.DeviceLemmas.{Consumes-more}
-use Rattle.ttx_pes.specs.BorrowedPacket.{NothingIsPending, is_enough_for_size}
+use Rattle.ttx_pes.specs.BorrowedPacket.{NothingIsPendingUnlessReady, is_enough_for_size}
 use Rattle.ttx_pes.specs.BorrowedPacket.{has_enough_for_packet}
 use Rattle.ttx_pes.specs.declared.fault.PesFault.{PesFault}
 use Rattle.ttx_pes.specs.Reading.{size_at}
@@ -94,7 +94,7 @@ size_decides_whether_enough bytes r many is = grind (arith, nat_tests)
 -- If reading a PES packet failed, no report was pending, because reports are flushed before the
 -- device is used.
 pub failing_read_has_nothing_pending : (has_pending_reports fails ready : Bool)
-    → NothingIsPending has_pending_reports ready
+    → NothingIsPendingUnlessReady has_pending_reports ready
     → (ready ≡ true → fails ≡ false)
     → fails ≡ true
     → has_pending_reports ≡ false

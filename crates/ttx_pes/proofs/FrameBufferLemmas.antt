@@ -12,7 +12,7 @@ use Rattle.ttx_pes.specs.Reading.{pts_at, units_at, value_at}
 use Rattle.ttx_pes.specs.SentUnits.{EndWithinField, sent_units}
 use Rattle.ttx_pes.specs.Accepting.{AreAllUnitPlaces, BuffersPesPacket, FrameBufferValue}
 use Rattle.ttx_pes.specs.Accepting.{BufferedPacketValue}
-use Rattle.ttx_pes.specs.Accepting.{IsInBuffer}
+use Rattle.ttx_pes.specs.Accepting.{ArePacketFields}
 use Rattle.ttx_pes.specs.Accepting.{data_field_in_buffer, buffered_frame, no_buffered_packet}
 use Rattle.ttx_pes.proofs.DataUnitHeaderLemmas.{empty_field_has_no_places}
 use Rattle.ttx_pes.proofs.PesHeaderLemmas.{decoded_body_is_valid, pts_and_units_give_value}
@@ -54,7 +54,7 @@ pub record IsPesBody (body : List ℕ) : Type 0 where
 -- The parsed fields are those of the PES packet whose bytes from byte 6 on are `body`.
 pub record DescribesPacket (body : List ℕ) (h : BufferedPacketValue) : Type 0 where
   pub value : value_at body ≡ Ok (buffered_frame (drop 39 body) h)
-  pub known : IsInBuffer (drop 39 body) h
+  pub known : ArePacketFields (drop 39 body) h
 
 pub new_units_describe_packet : (body field : List ℕ) (h : BufferedPacketValue)
     → IsPesBody body
@@ -89,12 +89,12 @@ pub repeated_units_describe_packet : (body field before : List ℕ) (old h : Buf
     → pts_at body ≡ Ok h.pts
     → field ≡ drop 39 body
     → field ≡ before
-    → IsInBuffer before old
+    → ArePacketFields before old
     → h.count ≡ old.count
     → h.places ≡ old.places
     → DescribesPacket body h
 repeated_units_describe_packet body field before old h is time same kept known count places =
-    let there : IsInBuffer field old = subst (λ f. IsInBuffer f old) (sym kept) known in
+    let there : ArePacketFields field old = subst (λ f. ArePacketFields f old) (sym kept) known in
     let some : 0 < length field =
     omega (arith, is.long, ap length same, length-drop 39 body) in
     new_units_describe_packet body field h is time same (there.count ∙ sym count)
@@ -114,7 +114,7 @@ buffer_holds_data_field size count room body is all long fits =
     sym (ap (drop 39) is ∙ drop-drop 39 6 (take size room)
     ∙ ap (λ n. drop 45 (take n room)) (sym sum) ∙ drop-take 45 count room)
 
-pub empty_buffer_holds_no_packet : IsInBuffer [] no_buffered_packet
+pub empty_buffer_holds_no_packet : ArePacketFields [] no_buffered_packet
 unfolding units_at
 empty_buffer_holds_no_packet = grind (arith, nat_tests, empty_field_has_no_places)
 

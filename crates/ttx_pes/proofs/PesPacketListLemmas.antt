@@ -60,7 +60,8 @@ units_fault_is_content_fault (suc n) units b f e = elim
           (bad ∙ sym (ap (λ r. r >>= λ us. units_at n us (drop 46 b)) bad) ∙ e)
     ]
 
--- A fault that is found after the length field of a PES packet is a fault in its contents.
+-- A fault that is found in the bytes of a complete PES packet after its length field is a fault in
+-- its contents.
 value_fault_is_content_fault : (b : List ℕ) (f : PesFault) → value_at b ≡ Err f →
     is_packet_content_fault f ≡ true
 unfolding value_at
@@ -188,7 +189,8 @@ starts_with_packet_or_fault b fit = elim (cases_lt (length b) 6) [
   ]
 ]
 
--- The bytes after `given` PES packets split into the packets of `value` and a rest without packets.
+-- The bytes after `given` PES packets split into the packets of `value` and a rest, which begins
+-- with no further packet unless the limit of 2,160,000 packets is reached.
 record Splits (given : ℕ) (bytes : List ℕ) (value : PesPacketsValue) : Type 0 where
   pub packets : List (List ℕ)
   pub rest : List ℕ

@@ -139,8 +139,9 @@ agreeing_packets_share_test (suc (suc (suc (suc (suc (suc (suc (suc (suc j))))))
     long all =
     grind (arith, nat_tests, agreeing_packets_share_unit_tests, agree_below)
 
--- `blank` is the PES packet of n payloads without Teletext packets. Its bytes complete the bytes
--- that pass the first checks to a packet of the grammar.
+-- `blank_header` is the header of a PES packet of n payloads without Teletext packets, and `blank n
+-- i` is byte i of that packet. Its bytes complete the bytes that pass the first checks to a packet
+-- of the grammar.
 abbrev blank_header : ℕ → List ℕ
 blank_header n =
     packet_start ++ (bytes_high_first 2 (packet_length n) ++ (0x80 ∷ 0x80 ∷ 0x24 ∷ pts_bytes 0))

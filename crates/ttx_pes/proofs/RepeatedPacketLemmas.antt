@@ -4,7 +4,7 @@ use Rattle.std.proofs.Common.{◌∙◌, arith, length-drop}
 use Rattle.std.proofs.lemmas.List.{drop-drop}
 use Rattle.sub_io.specs.Reading.{AreBytes}
 use Rattle.ttx_pes.specs.Reading.{pts_at, value_at}
-use Rattle.ttx_pes.specs.Accepting.{BufferedPacketValue, IsDataFieldSize, IsInBuffer}
+use Rattle.ttx_pes.specs.Accepting.{BufferedPacketValue, IsDataFieldSize, ArePacketFields}
 use Rattle.ttx_pes.specs.Accepting.{IsRepeatedPacket}
 use Rattle.ttx_pes.specs.Accepting.{buffered_frame}
 use Rattle.ttx_pes.proofs.DataUnitLemmas.{AreBytes-drop}
@@ -13,7 +13,7 @@ use Rattle.ttx_pes.proofs.FrameBufferLemmas.{IsPesBody, repeated_units_describe_
 pub repeated_packet_keeps_units : (pes_packet before body field : List ℕ) (h : BufferedPacketValue)
     (t : ℕ)
     → AreBytes pes_packet
-    → IsInBuffer before h
+    → ArePacketFields before h
     → length pes_packet ≡ h.count + 45
     → IsDataFieldSize h.count
     → body ≡ drop 6 pes_packet
@@ -41,5 +41,5 @@ repeated_packet_keeps_units pes_packet before body field h t fit known e field_s
     record {
       value = ap value_at (sym is) ∙ again.value ∙ ap (λ f. Ok (buffered_frame f new)) prefix;
       field_is_after_header = sym (drop-drop 39 6 pes_packet) ∙ ap (drop 39) (sym is) ∙ prefix;
-      known = subst (λ f. IsInBuffer f new) prefix again.known;
+      known = subst (λ f. ArePacketFields f new) prefix again.known;
     }

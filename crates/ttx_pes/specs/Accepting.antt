@@ -56,7 +56,8 @@ HaveSameUnitHeaders a b =
     (k : ℕ) → data_unit_size * k + 1 + data_unit_size ≤ length a
     → HasSameUnitHeader a b (data_unit_size * k + 1)
 
--- The number is a possible size of a data field, bytes 45 to the end of a PES packet.
+-- The number is the size of the data field, bytes 45 to the end, of a PES packet of n times 184
+-- bytes, for any n from 1 on.
 pub record IsDataFieldSize (count : ℕ) : Type 0 where
   pub long : 139 ≤ count
   pub whole : (count + 45) % payload_size ≡ 0
@@ -81,7 +82,7 @@ abbrev pub buffered_frame : List ℕ → BufferedPacketValue → PesValue
 buffered_frame field h = record { pts = h.pts; units = sent_units field h.places }
 
 -- The parsed fields are those of the PES packet with this data field.
-pub record IsInBuffer (field : List ℕ) (h : BufferedPacketValue) : Type 0 where
+pub record ArePacketFields (field : List ℕ) (h : BufferedPacketValue) : Type 0 where
   pub count : length field ≡ h.count
   pub short : h.count + 45 ≤ max_pes_packet_size
   pub within : EndWithinField (length field) h.places
@@ -95,7 +96,7 @@ pub record IsRepeatedPacket (field : List ℕ) (h : BufferedPacketValue) (pes_pa
     Type 0 where
   pub value : value_at (drop 6 pes_packet) ≡ Ok (buffered_frame field (record h { pts = pts }))
   pub field_is_after_header : drop 45 pes_packet ≡ field
-  pub known : IsInBuffer field (record h { pts = pts })
+  pub known : ArePacketFields field (record h { pts = pts })
 
 -- The stored PES packet of a comparing reader: its contents and its data field, which is empty if
 -- no packet is stored.

@@ -97,8 +97,8 @@ abbrev pub has_borrowed_pes_packet : List ℕ → List ℕ → Bool
 has_borrowed_pes_packet [] borrowed = has_enough_for_packet borrowed
 has_borrowed_pes_packet (x ∷ buffered) borrowed = false
 
--- The bytes read for one PES packet agree with the result: they are a complete packet, or have a
--- fault, or the read failed.
+-- The bytes read for one PES packet agree with the result: no byte was read and the source has
+-- ended, the bytes are a complete packet or have a fault, or the read failed.
 abbrev pub AreReadForPacket : {E : Type 0} → Option (List ℕ) → List ℕ → Result (Received (Unit {0}))
     E → Type
     0
@@ -158,11 +158,11 @@ abbrev pub limited_known_bytes : Option ℕ → Option (List ℕ) → Option (Li
 limited_known_bytes None known_bytes = known_bytes
 limited_known_bytes (Some n) known_bytes = option_map (limited_bytes (Some n)) known_bytes
 
--- The remaining bytes do not begin with a PES packet. Then there is no limit, since the limit does
--- not apply to bytes after the last packet.
-abbrev pub is_limited_rest : Option ℕ → Bool → Bool
-is_limited_rest None rest = rest
-is_limited_rest (Some n) rest = false
+-- The remaining bytes do not begin with a PES packet (`rest`), and there is no limit. It is false
+-- if there is a limit, since the limit ends when the reader returns such a rest.
+abbrev pub is_unlimited_rest : Option ℕ → Bool → Bool
+is_unlimited_rest None rest = rest
+is_unlimited_rest (Some n) rest = false
 
 -- The remaining bytes of the device, as far as the limit allows reading them.
 abbrev pub limited_remaining : Option ℕ → Option (List ℕ) → Option (List ℕ) → Option (List ℕ)

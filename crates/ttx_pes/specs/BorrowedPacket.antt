@@ -17,5 +17,6 @@ has_enough_for_packet bytes = nat_le 6 (length bytes) && is_enough_for_size (len
     (size_at (take 6 bytes))
 
 -- No report is pending while the next PES packet is read, unless reading it uses no device.
-abbrev pub NothingIsPending : Bool → Bool → Type 0
-NothingIsPending has_pending_reports ready = (has_pending_reports ≡ false) ⊎ (ready ≡ true)
+abbrev pub NothingIsPendingUnlessReady : Bool → Bool → Type 0
+NothingIsPendingUnlessReady has_pending_reports ready = (has_pending_reports ≡ false)
+    ⊎ (ready ≡ true)

@@ -35,8 +35,8 @@ after_skipped_fault c None = c
 after_skipped_fault c (Some given) =
     record c { progress = Reading given; count_through_fault = None }
 
--- The state of a comparing reader after `skip_packet`: it continues if its last result was the
--- fault of a complete packet; otherwise its state does not change.
+-- The state of a comparing reader after `continue_after_fault`: it continues if its last result was
+-- the fault of a complete packet; otherwise its state does not change.
 abbrev pub with_packet_skipped : ComparingValue → ComparingValue
 with_packet_skipped c = after_skipped_fault c c.count_through_fault
 

@@ -107,9 +107,9 @@ LawOfNumberedFrame =
     → IsPesValue (numbered_frame pts packets)
     × (map (λ (u : UnitValue). u.packet) (numbered_units 0 packets) ≡ packets)
 
--- Bytes split into the PES packets that are read from them: the longest list of packets with
--- correct length fields at the front of the bytes. Each packet has the value or the fault that the
--- grammar gives. So no skipped packet is left out of the reports.
+-- Bytes split into the PES packets that are read from them: the longest list of at most 2,160,000
+-- packets with correct length fields at the front of the bytes. Each packet has the value or the
+-- fault that the grammar gives. So no skipped packet is left out of the reports.
 abbrev pub LawOfPesPackets : Type 0
 LawOfPesPackets = (bytes : List ℕ) → AreBytes bytes → SplitInto bytes (pes_packets_after 0 bytes)
 

@@ -23,8 +23,7 @@ outcome_until_refusal [] (Some f) = fails f
 outcome_until_refusal (Ok v ∷ pes_packets) left = gives v (outcome_until_refusal pes_packets left)
 outcome_until_refusal (Err f ∷ pes_packets) left = fails f
 
--- The result of reading the bytes after `given` PES packets. A reader that stops at the first fault
--- has the same result, up to that fault, as a reader that continues.
+-- The result of reading the bytes after `given` PES packets, up to the first fault.
 unfoldable pub outcome_after : ℕ → List ℕ → PesOutcome
 outcome_after given bytes =
     let value = pes_packets_after given bytes in outcome_until_refusal value.pes_packets value.left

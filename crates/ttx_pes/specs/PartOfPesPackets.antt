@@ -1,7 +1,7 @@
 -- The model of a reader of a range of PES packets: it skips the PES packets before the range, and
 -- ends at a limit.
 use Rattle.std.specs.Prelude.{ℕ, zero, suc, ◌+◌, Bool, false, List, Option, option_map}
-use Rattle.ttx_pes.specs.Advancing.{limited_remaining, limited_known_bytes, is_limited_rest}
+use Rattle.ttx_pes.specs.Advancing.{limited_remaining, limited_known_bytes, is_unlimited_rest}
 use Rattle.ttx_pes.specs.PesPacketRange.{AheadValue, rest_after_pes_packets, count_pes_packets}
 
 -- The remaining bytes of the range, if n PES packets are still to be skipped and then at most
@@ -19,7 +19,7 @@ left_after_part (suc n) left known following = known_part (suc n) left known
 -- The remaining bytes of the range do not begin with a PES packet, and no packet is still to be
 -- skipped.
 abbrev pub is_part_rest : ℕ → Option ℕ → Bool → Bool
-is_part_rest zero left rest = is_limited_rest left rest
+is_part_rest zero left rest = is_unlimited_rest left rest
 is_part_rest (suc n) left rest = false
 
 -- The next call uses no device: no PES packet is still to be skipped, and the inner reader uses no

@@ -41,15 +41,15 @@ pub record TakesValidPesPacket (old new : Option (List ℕ)) (v : PesValue) : Ty
   pub is_packet : IsValidPesPacket v bytes
   pub consumed : Consumes old new bytes
 
--- The bytes are an incomplete PES packet: they are fewer than six bytes, or fewer than its length
--- field states.
+-- The bytes are too few for a PES packet: they are fewer than six bytes, whatever these are, or
+-- fewer bytes than their length field states.
 abbrev pub IsIncompletePesPacket : List ℕ → Type 0
 IsIncompletePesPacket bytes =
     (length bytes < 6)
     ⊎ ((size : ℕ) × (size_at (take 6 bytes) ≡ Ok size) × (length bytes < size))
 
--- The source failed within a PES packet: the consumed bytes are an incomplete packet without a
--- fault.
+-- The source failed before a PES packet was complete: fewer than six bytes were consumed, or a
+-- correct header and fewer bytes than its length field states.
 pub record FailsWithinPacket (old new : Option (List ℕ)) : Type 0 where
   pub bytes : List ℕ
   pub consumed : Consumes old new bytes
@@ -80,8 +80,7 @@ pub record ReportsPacket
       (given : ℕ)
       → before ≡ Reading given
       → IfKnown old (λ bytes. OnOk answer (new ≡ Some (rest_after bytes)))
-  -- After a format fault, the consumed bytes have that fault, even if the bytes of the source are
-  -- unknown.
+  -- After a format fault, the consumed bytes have that fault, if the bytes of the source are known.
   pub refused : IfErr answer (λ fault. is_format_fault fault ≡ true → ConsumesRefusedPacket old new
       fault)
   pub packet_limit_refuses_packet : IfErr answer (λ fault. fault ≡ TooMany → before ≡ Reading
@@ -100,7 +99,8 @@ pub record TakesValidPesPackets (n : ℕ) (old new : Option (List ℕ)) : Type 0
   pub each : AllByRecursion (λ b. (v : PesValue) × IsValidPesPacket v b) packets
   pub consumed : Consumes old new (concat packets)
 
--- The source failed within PES packet n, counted from 0. The PES packets before it were consumed.
+-- The source failed within PES packet n, counted from 0, and the n packets before it were consumed
+-- and are valid.
 pub record FailsAfterValidPackets (n : ℕ) (old new : Option (List ℕ)) : Type 0 where
   pub following : Option (List ℕ)
   pub before : TakesValidPesPackets n old following

@@ -85,8 +85,8 @@ abbrev pub is_gap_marker : List ℕ → Bool
 is_gap_marker pes_packet = (length pes_packet == payload_size) && is_all_stuffing
     (drop 6 pes_packet)
 
--- The fault of a PES packet whose byte 6 does not begin with 1000: `Lost` for a gap marker,
--- otherwise `Flags`.
+-- The fault of a PES packet whose byte 6 does not begin with 1000: `Lost` if all bytes from byte 6
+-- on are FF, as in a gap marker, otherwise `Flags`.
 abbrev pub flags_fault : List ℕ → PesFault
 flags_fault b = if is_all_stuffing b then fault.Lost else fault.Flags
 

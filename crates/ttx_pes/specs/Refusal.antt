@@ -47,14 +47,14 @@ fault_of_check b i =
     slice_index_or (packet_faults b) i (slice_index_or unit_faults (i % 3) fault.Truncated)
 
 -- The check number of bytes that may have any value: greater than the number of any check.
-abbrev pub unchecked_byte : ℕ
-unchecked_byte = 9 + 3 * max_units
+abbrev pub check_of_unchecked_bytes : ℕ
+check_of_unchecked_bytes = 9 + 3 * max_units
 
 -- The check numbers of the 46 bytes before the data units.
 abbrev pub header_byte_checks : List ℕ
 header_byte_checks =
     (1 ∷ 1 ∷ 1 ∷ 1 ∷ 2 ∷ 2 ∷ 4 ∷ 5 ∷ 6 ∷ 7 ∷ 7 ∷ 7 ∷ 7 ∷ 7 ∷ [])
-    ++ (replicate 31 unchecked_byte ++ (8 ∷ []))
+    ++ (replicate 31 check_of_unchecked_bytes ++ (8 ∷ []))
 
 -- The check numbers of the first four bytes of data unit 0.
 abbrev pub unit_byte_checks : List ℕ
@@ -65,7 +65,7 @@ abbrev pub check_of_byte : ℕ → ℕ
 check_of_byte place =
     let within = place - header_size in
     slice_index_or header_byte_checks place
-    (slice_index_or unit_byte_checks (within % data_unit_size) unchecked_byte
+    (slice_index_or unit_byte_checks (within % data_unit_size) check_of_unchecked_bytes
     + 3 * (within / data_unit_size))
 
 -- The bytes agree with a valid packet in all checks before check number `check_number`: enough

@@ -1,8 +1,8 @@
 //! Flushes pending reports before a read that may block: a read of a PES packet that is not
 //! completely buffered in the source.
 ghost use Rattle.std.specs.Prelude.{◌≡◌, OnOk, is_ok};
-ghost use Rattle.sub_io.specs.Flushing.{FlushesIfPending, BuffersOnlyWhilePending};
-ghost use Rattle.ttx_pes.specs.BorrowedPacket.{NothingIsPending, has_enough_for_packet};
+ghost use Rattle.sub_io.specs.Flushing.{FlushesOnlyIfPending, BuffersOnlyWhilePending};
+ghost use Rattle.ttx_pes.specs.BorrowedPacket.{NothingIsPendingUnlessReady, has_enough_for_packet};
 
 use crate::pes_header::decode_packet_size;
 use crate::pes_packets::PesPackets;
@@ -30,10 +30,10 @@ pub fn has_enough_for_packet(borrowed: &[u8]) -> bool
 /// Returns `Stopped` if flushing fails.
 #[inline(always)]
 pub fn flush_first<P: PesPackets, A: Live>(pes_packets: &P, device: &mut A) -> Result<(), Stopped>
-    ensures call { FlushesIfPending A.has_pending_reports A.is_flushed device.old (is_ok result)
+    ensures call { FlushesOnlyIfPending A.has_pending_reports A.is_flushed device.old (is_ok result)
         device.new }
     ensures ready { OnOk result
-        (NothingIsPending (A.has_pending_reports device.new) (P.ready pes_packets.now)) }
+        (NothingIsPendingUnlessReady (A.has_pending_reports device.new) (P.ready pes_packets.now)) }
     ensures holds { BuffersOnlyWhilePending A.has_pending_reports A.buffered device.old
         → OnOk result (BuffersOnlyWhilePending A.has_pending_reports A.buffered device.new) }
 {

@@ -6,7 +6,7 @@ ghost use Rattle.ttx_pes.specs.PesGrammar.{max_pes_packet_size, payload_size};
 ghost use Rattle.ttx_pes.specs.Reading.{units_at, value_at, is_format_fault};
 ghost use Rattle.ttx_pes.specs.SentUnits.{EndWithinField, sent_units};
 ghost use Rattle.ttx_pes.specs.Accepting.{AreAllUnitPlaces, DecodesToUnits, IsDataFieldSize};
-ghost use Rattle.ttx_pes.specs.Accepting.{IsInBuffer};
+ghost use Rattle.ttx_pes.specs.Accepting.{ArePacketFields};
 ghost use Rattle.ttx_pes.specs.Accepting.{IsRepeatedPacket};
 ghost use Rattle.ttx_pes.specs.Accepting.{data_field_in_buffer, buffered_frame, no_buffered_packet};
 
@@ -138,7 +138,7 @@ impl BufferedPacket {
     // same data field. Returns `None` for any other packet.
     #[inline(always)]
     pub(crate) fn read_repeated_pts(&self, before: &PacketBuffer, pes_packet: &[u8]) -> Option<u64>
-        requires known { IsInBuffer (data_field_in_buffer self.now.count before.now) self.now }
+        requires known { ArePacketFields (data_field_in_buffer self.now.count before.now) self.now }
         requires size { IsDataFieldSize self.now.count }
         ensures again { IfSome result (λ pts.
             IsRepeatedPacket (data_field_in_buffer self.now.count before.now) self.now
@@ -170,7 +170,7 @@ impl BufferedPacket {
 
     // Returns the Teletext units of the packet in the buffer.
     pub(crate) fn units<'a>(&'a self, room: &'a PacketBuffer) -> SentUnits<'a>
-        requires { IsInBuffer (data_field_in_buffer self.now.count room.now) self.now }
+        requires { ArePacketFields (data_field_in_buffer self.now.count room.now) self.now }
         ensures value { result
             ≡ (buffered_frame (data_field_in_buffer self.now.count room.now) self.now).units }
     {
@@ -182,13 +182,13 @@ impl BufferedPacket {
     #[inline(always)]
     #[tactic(auto, unfolding(crate::specs::Reading::value_at))]
     pub(crate) fn take(&mut self, before: &PacketBuffer, body: &[u8]) -> Result<bool, PesFault>
-        requires known { IsInBuffer (data_field_in_buffer self.old.count before.now) self.old }
+        requires known { ArePacketFields (data_field_in_buffer self.old.count before.now) self.old }
         requires long { payload_size ≤ length body.now + 6 }
         requires short { length body.now + 6 ≤ max_pes_packet_size }
         requires whole { (length body.now + 6) % payload_size ≡ 0 }
         ensures value { OnOk result
             (value_at body.now ≡ Ok (buffered_frame (drop 39 body.now) self.new)) }
-        ensures known { OnOk result (IsInBuffer (drop 39 body.now) self.new) }
+        ensures known { OnOk result (ArePacketFields (drop 39 body.now) self.new) }
         ensures count { OnOk result (self.new.count + 39 ≡ length body.now) }
         ensures same { IfOk result (λ same.
             (same ≡ true) ↔ (drop 39 body.now ≡ data_field_in_buffer self.old.count before.now)) }

@@ -31,8 +31,8 @@ pub enum Compared {
     /// A valid PES packet with the same data field (bytes 45 to the end) as the packet before. It
     /// has the same units; its PTS may differ.
     Same,
-    /// A valid PES packet with a different data field from the packet before, or the first packet
-    /// of the file.
+    /// A valid PES packet whose data field differs from that of the packet before, or which follows
+    /// no valid packet: the first packet of the file, or the packet after a fault.
     Other,
 }
 
@@ -46,7 +46,7 @@ pub enum Compared {
 pub struct ComparingReader {
     progress: Progress,
     // The number of packets consumed, including the last one, if the last result was the fault of a
-    // complete packet; after such a fault `skip_packet` allows reading to continue.
+    // complete packet; after such a fault `continue_after_fault` allows reading to continue.
     count_through_fault: Option<u32>,
     kept: FrameBuffer,
 }
@@ -159,8 +159,9 @@ impl ComparingReader {
     ///
     /// # Errors
     ///
-    /// Returns the same errors as `PesReader::next`. After the faults `Flags` to `LineOrder`,
-    /// exactly the packet's bytes were consumed, and `skip_packet` allows reading to continue.
+    /// Returns the same errors as `PesReader::next`. After the faults `Flags` to `LineOrder` and
+    /// `Lost`, exactly the packet's bytes were consumed, and `continue_after_fault` allows reading
+    /// to continue.
     #[inline(always)]
     pub fn next<P: PesPackets>(&mut self, pes_packets: &mut P) -> Result<Compared, PesFault>
         requires { CanFail (P.failure_count pes_packets.old) }
@@ -246,7 +247,7 @@ impl ComparingReader {
 
     /// Allows reading to continue after the fault of a complete packet, whose length field shows
     /// where it ends. Does nothing after any other result.
-    pub fn skip_packet(&mut self)
+    pub fn continue_after_fault(&mut self)
         ensures over { self.new ≡ with_packet_skipped self.old }
         ensures few { (given : ℕ) → self.new.progress ≡ Reading given → given ≤ max_pes_packets }
     {

@@ -38,11 +38,10 @@ pub enum PesFault {
     Write,
     /// The reader or writer has already reported a fault.
     Ended,
-    /// The file has more than 2,160,000 packets, one for each frame of a day (not defined by a
-    /// standard).
+    /// Bytes follow 2,160,000 packets, one for each frame of a day (not defined by a standard).
     TooMany,
-    /// The packet is a gap marker, which stands for lost PES packets: all bytes from byte 6 on are
-    /// FF (not defined by a standard).
+    /// All bytes of the packet from byte 6 on are FF, as in a gap marker. A gap marker has 184
+    /// bytes and stands for lost PES packets (not defined by a standard).
     Lost,
 }
 

@@ -19,7 +19,8 @@ use sub_io::{Failed, Source};
 #[derive(Drop)]
 pub struct FilePesPackets<'a, S> {
     source: &'a mut S,
-    // The first bytes of a PES packet that was not completely buffered in the source.
+    // The bytes read from the source after the last PES packet: the first bytes of a packet that
+    // was not completely buffered in the source, or bytes that do not begin with a packet.
     begun: PesPacketBuffer,
 }
 

@@ -22,7 +22,8 @@ pub(crate) struct FrameBuffer {
 }
 
 impl Model for FrameBuffer {
-    ghost use Rattle.ttx_pes.specs.Accepting.{IsInBuffer, FrameBufferValue, data_field_in_buffer};
+    ghost use Rattle.ttx_pes.specs.Accepting.{ArePacketFields, FrameBufferValue};
+    ghost use Rattle.ttx_pes.specs.Accepting.{data_field_in_buffer};
     ghost use Rattle.ttx_pes.specs.Accepting.{buffered_frame};
 
     ghost Value = { FrameBufferValue };
@@ -32,7 +33,7 @@ impl Model for FrameBuffer {
       data_field = data_field_in_buffer k.known.count k.room;
     } };
 
-    ghost invariant = { λ k. IsInBuffer (data_field_in_buffer k.known.count k.room) k.known };
+    ghost invariant = { λ k. ArePacketFields (data_field_in_buffer k.known.count k.room) k.known };
 }
 
 // Returns the bytes of a PES packet from byte 6 on.
@@ -96,7 +97,7 @@ impl FrameBuffer {
     // Stores a packet that may differ from the stored one. Not inlined, for speed: such packets are
     // rare.
     #[inline(never)]
-    fn buffer_changed_packet(&mut self, pes_packet: &[u8]) -> Result<bool, PesFault>
+    fn compare_and_buffer(&mut self, pes_packet: &[u8]) -> Result<bool, PesFault>
         requires { IsPesPacket pes_packet.now }
         ensures { BuffersPesPacket self.old pes_packet.now result self.new }
     {
@@ -131,6 +132,6 @@ impl TakePesPacket for FrameBuffer {
                 return Ok(true);
             }
         }
-        self.buffer_changed_packet(pes_packet)
+        self.compare_and_buffer(pes_packet)
     }
 }

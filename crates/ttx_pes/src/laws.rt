@@ -66,8 +66,8 @@ pub fn law_of_numbered_frame()
     ensures { LawOfNumberedFrame }
 {}
 
-/// The PES packets that are read from bytes, valid or skipped, are the longest list of packets with
-/// correct length fields at the front of the bytes.
+/// The PES packets that are read from bytes, valid or skipped, are the longest list of at most
+/// 2,160,000 packets with correct length fields at the front of the bytes.
 pub fn law_of_pes_packets()
     ensures { LawOfPesPackets }
 {}

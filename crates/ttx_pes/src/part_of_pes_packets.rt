@@ -62,10 +62,10 @@ impl<P: PesPackets> PartOfPesPackets<'_, P> {
             return Ok(self.ahead.skipped());
         }
         let (skipped, ended) = self.inner.skip_first(self.ahead.to_skip());
-        self.ahead.count(skipped);
+        self.ahead.add_skipped(skipped);
         match ended {
             Ok(()) => {
-                self.ahead.end();
+                self.ahead.stop_skipping();
                 Ok(self.ahead.skipped())
             }
             Err(_) => Err(FailedAt {

@@ -102,7 +102,7 @@ impl PesFrame {
             return Err(unit);
         };
         self.last = place;
-        insert_unit_at(&mut self.units, self.count, unit);
+        store_unit_at(&mut self.units, self.count, unit);
         self.count += 1;
         Ok(())
     }
@@ -116,7 +116,7 @@ impl PesFrame {
     {
         let place = unit.line_place_after(self.last).unwrap();
         self.last = place;
-        insert_unit_at(&mut self.units, self.count, unit);
+        store_unit_at(&mut self.units, self.count, unit);
         self.count += 1;
     }
 
@@ -140,7 +140,7 @@ impl PesFrame {
 }
 
 // Stores a unit at the index `place`, over a unit of an earlier frame or at the end.
-fn insert_unit_at(units: &mut ArrayVec<Unit, MAX_UNITS>, place: usize, unit: Unit)
+fn store_unit_at(units: &mut ArrayVec<Unit, MAX_UNITS>, place: usize, unit: Unit)
     requires place { place ≤ length units.old.items }
     requires room { place < max_units }
     ensures items { take (place + 1) units.new.items ≡ take place units.old.items ++ unit ∷ [] }

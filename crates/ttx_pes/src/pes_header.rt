@@ -91,8 +91,8 @@ pub(crate) fn pts_of(body: &[u8]) -> Result<u64, PesFault>
     Ok(high * (1 << 30) + decode_pts_bits(body, 4) * (1 << 15) + decode_pts_bits(body, 6))
 }
 
-// Returns the fault of a PES packet whose byte 6 does not begin with 1000: `Lost` for a gap marker,
-// otherwise `Flags`.
+// Returns the fault of a PES packet whose byte 6 does not begin with 1000: `Lost` if all bytes from
+// byte 6 on are FF, as in a gap marker, otherwise `Flags`.
 fn flags_fault(body: &[u8]) -> PesFault
     ensures { result ≡ flags_fault body.now }
 {

@@ -19,7 +19,7 @@ use sub_io::{Failed, Source};
 pub(crate) type PacketBuffer = [u8; MAX_PES_PACKET_SIZE];
 
 // The number of bytes at the front of a PES packet that determine its size.
-const HEADER_SIZE: usize = 6;
+const SIZE_BYTES: usize = 6;
 
 /// The first bytes of an incomplete PES packet, or bytes that do not begin with a PES packet.
 ///
@@ -83,8 +83,9 @@ fn fill_buffer<S: Source>(
     (at, false)
 }
 
-// Reads the rest of the PES packet whose first bytes are in the buffer. Checks the bytes for faults
-// before each pull. Returns the number of bytes in the buffer, and the result.
+// Reads the rest of the PES packet whose first bytes are in the buffer: up to byte 5, then, if
+// these six bytes have no fault, up to the size that its length field states. Returns the number of
+// bytes in the buffer, and the result.
 fn read_pes_packet<S: Source>(
     source: &mut S,
     room: &mut PacketBuffer,
@@ -103,14 +104,14 @@ fn read_pes_packet<S: Source>(
     ensures count { CountsFailure (S.failure_count source.old) result.1
         (S.failure_count source.new) }
 {
-    let (got, is_failed) = fill_buffer(source, room, buffered, HEADER_SIZE, PAYLOAD);
+    let (got, is_failed) = fill_buffer(source, room, buffered, SIZE_BYTES, PAYLOAD);
     if is_failed {
         return (got, Err(Failed));
     }
     if got == 0 {
         return (got, Ok(Received::End));
     }
-    if got < HEADER_SIZE {
+    if got < SIZE_BYTES {
         return (got, Ok(Received::Rest(PesFault::Truncated)));
     }
     let size = match decode_packet_size(room.first_chunk().unwrap()) {

@@ -51,7 +51,7 @@ impl PesPacketRange {
 
     /// Returns the number of PES packets in the range, or `None` if it extends to the end of the
     /// file.
-    pub fn most(self) -> Option<u64>
+    pub fn pes_packet_count(self) -> Option<u64>
         ensures { result ≡ range_length self }
     {
         match self.last {

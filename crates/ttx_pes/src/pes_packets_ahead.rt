@@ -48,7 +48,7 @@ impl PesPacketsAhead {
     }
 
     // Counts skipped PES packets.
-    pub(crate) fn count(&mut self, skipped: u64)
+    pub(crate) fn add_skipped(&mut self, skipped: u64)
         requires { skipped ≤ self.old.to_skip }
         ensures { self.new ≡ record {
           skipped = self.old.skipped + skipped;
@@ -60,7 +60,7 @@ impl PesPacketsAhead {
     }
 
     // Sets the number of PES packets still to be skipped to 0.
-    pub(crate) fn end(&mut self)
+    pub(crate) fn stop_skipping(&mut self)
         ensures { self.new ≡ record self.old { to_skip = 0 } }
     {
         self.to_skip = 0;

@@ -125,9 +125,9 @@ impl PesReader {
     ///
     /// Checks in this order: `TooMany` if bytes follow 2,160,000 packets, one for each frame of a
     /// day; `Truncated` if fewer than six bytes remain; `Start`; `Length`; `Truncated` if the bytes
-    /// end within the packet; `Flags` to `DataId`; for each data unit `UnitLength`, `Framing`,
-    /// `LineOrder`. Returns `Read` if the source fails before a fault is read. After any error each
-    /// call returns `Ended` and consumes nothing.
+    /// end within the packet; `Lost` if all bytes from byte 6 on are FF; `Flags` to `DataId`; for
+    /// each data unit `UnitLength`, `Framing`, `LineOrder`. Returns `Read` if the source fails
+    /// before a fault is read. After any error each call returns `Ended` and consumes nothing.
     pub fn next<S: Source>(&mut self, source: &mut S) -> Result<Option<PesFrame>, PesFault>
         requires { CanFail (S.failure_count source.old) }
         ensures reports { ReportsPacket self.old (S.remaining source.old) (S.remaining source.new)

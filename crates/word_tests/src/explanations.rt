@@ -58,12 +58,19 @@ const UNKNOWN_OPTIONS: [&[&str]; 13] = [
 
 // Arguments that are given twice, without a value, or with one
 #[rattlefmt::skip]
-const REPEATED_OPTIONS: [&[&str]; 5] = [
+const REPEATED_OPTIONS: [&[&str]; 8] = [
     &["subttx", "check", "a", "b", "--page", "subttx: --page: give its value after it"],
     &["subttx", "check", "a", "b", "--page", "--every", "3",
         "subttx: --page: give its value after it"],
     &["subttx", "check", "a", "b", "--pid", "1", "--pid", "1", "subttx: --pid: give it only once"],
     &["subttx", "check", "a", "b", "--all", "--all", "subttx: --all: give it only once"],
+    &["subttx", "survey", "a", "--page", "888", "--page", "8FF",
+        "subttx: --page 8FF: give a page: a digit from 1 to 8 and two hexadecimal digits, not FF"],
+    &["subttx", "survey", "a", "--page", "88a", "--page", "88A",
+        "subttx: --page 88A: give each page only once"],
+    &["subttx", "survey", "a", "--page=101", "--page=102", "--page=103", "--page=104", "--page=105",
+        "--page=106", "--page=107", "--page=108", "--page=109",
+        "subttx: --page 109: give at most 8 pages"],
     &["subttx", "check", "a", "b", "--all=yes", "subttx: --all=yes: give it without a value"],
 ];
 

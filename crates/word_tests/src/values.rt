@@ -241,7 +241,7 @@ fn reads_packet_sizes(rt: HostRuntime) {
 // the range.
 fn range_in(text: &str) -> Option<(u64, Option<u64>)> {
     match parse_range(text) {
-        Some(range) => Some((range.first(), range.most())),
+        Some(range) => Some((range.first(), range.pes_packet_count())),
         None => None,
     }
 }

@@ -264,7 +264,7 @@ HELD = [
     "impl<W: Write + Release + Store> Close for IntoFile<W>",
     "impl<T: OpenFile> Store for T",
     "impl<T: Drop> Release for T",
-    "impl ConsumedBytes",
+    "impl WrittenBytes",
 ]
 # An implementation of Drop, possibly over several lines, or an import of Drop under another name.
 DROP = re.compile(r"\bimpl\b[^{};]*\bDrop\s+for\b|\bDrop\s+as\b")

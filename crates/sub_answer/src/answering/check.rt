@@ -31,9 +31,9 @@ use ttx_pes::{NumberedPesPackets, PesFault};
 /// Checks a PES file against a subtitle file, and prints the line of the verdict.
 ///
 /// `stl` is read to its end before any byte of `pes`, and `pes` is not read if `stl` is rejected.
-/// Returns `Done` if the files are accepted, and prints the number of frames in the PES file and
-/// the number of headers of the page. Returns `Refused` and prints the first fault if the files are
-/// rejected, and `Fault` if a device failed or memory ran out.
+/// Returns `Done` if the files are accepted, and prints the number of frames from the first to the
+/// last frame of the PES file and the number of headers of the page. Returns `Refused` and prints
+/// the first fault if the files are rejected, and `Fault` if a device failed or memory ran out.
 pub fn print_verdict<S: Source, P: NumberedPesPackets, K: Sink>(
     alloc: Global,
     stl: &mut S,

@@ -27,13 +27,15 @@ use sub_plan::Options;
 use ttx_pes::{NumberedPesPackets, PesFault};
 
 /// Checks a PES file against a subtitle file. Prints a line for each fault as soon as it is found,
-/// and a line for the last frame at whose end a reported rule is broken. The faults of the subtitle
-/// file are first. The last line is the number of faults, or the line of an accepted transmission.
+/// and a line for the last frame at whose end a reported rule is broken, for the last of
+/// consecutive skipped PES packets with the same fault, and for each run of trusted frames. The
+/// faults of the subtitle file are first. The last line is the number of faults, the line of an
+/// accepted transmission, or the line about a failed device or a lack of memory.
 ///
 /// If subtitles are rejected, the PES file is compared with the reliable subtitles; `pes` is not
 /// read if this is impossible. Returns `Done` if the files are accepted, `Refused` if there is a
-/// fault, and `Fault` if a device failed or memory ran out, which the last line reports. Nothing
-/// more is read or printed after `out` failed.
+/// fault, and `Fault` if a device failed or memory ran out. Nothing more is read or printed after
+/// `out` failed.
 pub fn print_every_fault<S: Source, P: NumberedPesPackets, K: Flush>(
     alloc: Global,
     stl: &mut S,

@@ -13,7 +13,8 @@ use sub_request::UsageFault;
 use ts_survey::{SurveyFault, survey};
 use ttx_pes::FailedAt;
 
-/// Prints a line for each property of a recording, which is read to its end.
+/// Prints a line for each property of a recording, which is read to its end unless a device fails
+/// or memory runs out.
 ///
 /// Returns `Fault` if a device failed or memory ran out; everything printed before remains.
 #[tactic(auto, using(crate::proofs::SurveyListingLemmas::surveys))]

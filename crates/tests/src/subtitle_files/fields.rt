@@ -109,7 +109,7 @@ fn reads_each_tti_field_at_its_place(rt: HostRuntime) {
     for i in 0..128 {
         bytes[i] = i as u8;
     }
-    let tti = Tti::read(&bytes);
+    let tti = Tti::of_bytes(&bytes);
     // The values of SGN, SN (low byte first), EBN, CS, VP, JC and CF.
     assert_same(
         &rt,
@@ -119,7 +119,7 @@ fn reads_each_tti_field_at_its_place(rt: HostRuntime) {
     assert_same(&rt, &(tti.vp(), tti.jc(), tti.cf()), &(13, 14, 15));
     assert!(rt; tti.tci() == [5, 6, 7, 8] && tti.tco() == [9, 10, 11, 12]);
     assert!(rt; tti.tf().len() == 112 && tti.tf()[0] == 16);
-    assert!(rt; tti.write().as_slice() == bytes.as_slice());
+    assert!(rt; tti.block_bytes().as_slice() == bytes.as_slice());
 }
 
 #[test]

@@ -7,7 +7,7 @@ use std::simd::prelude::*;
 // Returns a mask with one bit per cell, the lowest bit for the first cell. A bit is set if the
 // cells of the two blocks differ.
 #[inline(always)]
-pub(super) fn differing(a: &[u8; 16], b: &[u8; 16]) -> u64
+pub(super) fn mask_differing_cells(a: &[u8; 16], b: &[u8; 16]) -> u64
     ensures { result ≡ differing_mask a.now b.now }
 {
     u8x16::from_array(*a)

@@ -59,7 +59,7 @@ returns-in-Ok-true-clause-leads g c = λ _.
     c.take_block.new.subtitle
     (let e = c.if-block-eq99999.false in let f = c.loop-read_count.invariant.few in omega arith)
     c.if-read_count-lt128.false refl
-    (rw (c.read-tti.ensures, c.in-Ok-true.field-0-test) at c.in-Ok-true.ensures.exact)
+    (rw (c.of_bytes-tti.ensures, c.in-Ok-true.field-0-test) at c.in-Ok-true.ensures.exact)
 
 pub returns-then-ebn-clause-leads : goal.returns-then-ebn-clause-leads
 returns-then-ebn-clause-leads g c = λ _.
@@ -67,7 +67,7 @@ returns-then-ebn-clause-leads g c = λ _.
     c.in_ok-read_count.ensures.fills (search rules) _ _
     (let e = c.if-block-eq99999.false in let f = c.loop-read_count.invariant.few in omega arith)
     c.if-read_count-lt128.false c.in-Err.fault c.in-Err.ensures.own (grind (arith, nat_tests))
-    (rw c.read-tti.ensures at c.in-Err.ensures.exact)
+    (rw c.of_bytes-tti.ensures at c.in-Err.ensures.exact)
 
 pub returns-else-ebn-clause-leads : goal.returns-else-ebn-clause-leads
 returns-else-ebn-clause-leads g c = λ _.
@@ -76,7 +76,7 @@ returns-else-ebn-clause-leads g c = λ _.
     (let e = c.if-block-eq99999.false in let f = c.loop-read_count.invariant.few in omega arith)
     c.if-read_count-lt128.false c.in-Err.fault c.in-Err.ensures.own
     (grind (arith, nat_tests, ne_eqb))
-    (rw c.read-tti.ensures at c.in-Err.ensures.exact)
+    (rw c.of_bytes-tti.ensures at c.in-Err.ensures.exact)
 
 pub loop-read_count-preserved : goal.loop-read_count-preserved
 loop-read_count-preserved g c = record {
@@ -86,7 +86,7 @@ loop-read_count-preserved g c = record {
       c.take_block.new.subtitle
       (let e = c.if-block-eq99999.false in let f = c.loop-read_count.invariant.few in omega arith)
       c.if-read_count-lt128.false
-      (rw (c.read-tti.ensures, c.in-Ok-false.field-0-test) at c.in-Ok-false.ensures.exact);
+      (rw (c.of_bytes-tti.ensures, c.in-Ok-false.field-0-test) at c.in-Ok-false.ensures.exact);
   few = let f = c.loop-read_count.invariant.few in let n = c.if-block-eq99999.false in omega arith;
   count = search rules;
 }

@@ -25,7 +25,7 @@ returns-in-Some-clause-ends g c =
       c.new.ensures.now,
       c.new.ensures.left,
       c.new-in-Some.ensures,
-      c.most.ensures,
+      c.pes_packet_count.ensures,
       c.first.ensures,
     )
     (part_bytes_are_in_range c.in-Some.range _))

@@ -4,7 +4,7 @@ use Rattle.sub_rules.specs.PesPacketEvents.{run_ending_events}
 use Rattle.sub_rules.specs.declared.event.Event.{Event}
 use Rattle.sub_checker.specs.CheckedFrames.{steps_at_end_of_file}
 use Rattle.sub_checker.specs.Relay.{relayed_events}
-use Rattle.sub_checker.specs.SkippedPesPackets.{skipped_run_of}
+use Rattle.sub_checker.specs.StoredSkippedRun.{skipped_run_of}
 use Rattle.sub_checker.specs.declared.reporter.Relay.{Relay}
 use Rattle.sub_checker.proofs.FusedAudienceLemmas.{reported_events_are_received}
 use Rattle.sub_checker.proofs.FusedAudienceLemmas.{some_reported_events_are_received}

@@ -19,7 +19,7 @@ loop-frame-preserved g c =
           (part-one i.part
           (steps-more c.args.options.now.every c.loop-frame.frame c.args.end
           (omega (arith, every.value)) c.loop-frame-test.true)
-          (c.in_ok-repeat_at.ensures.bytes c.args.packets.now i.units));
+          (c.in_ok-put_packet_at.ensures.bytes c.args.packets.now i.units));
     }
 
 pub returns-clause-number : goal.returns-clause-number
@@ -28,12 +28,12 @@ returns-clause-number g c = search (rules, part-end, steps-none)
 pub returns-clause-bytes : goal.returns-clause-bytes
 returns-clause-bytes g c = search (rules, part-end, steps-none)
 
-pub returns-in_err-repeat_at-clause-bytes : goal.returns-in_err-repeat_at-clause-bytes
-returns-in_err-repeat_at-clause-bytes g c =
+pub returns-in_err-put_packet_at-clause-bytes : goal.returns-in_err-put_packet_at-clause-bytes
+returns-in_err-put_packet_at-clause-bytes g c =
     let i = c.loop-frame.invariant in
     let p = err_from_is_err_and c.from_residual.result c.from_residual.ensures.1 in
     rw (p.1)
     (prefix-one i.part _
     (steps-more c.args.options.now.every c.loop-frame.frame c.args.end
     (omega (arith, c.repeat_interval-every.ensures.value)) c.loop-frame-test.true)
-    (c.in_err-repeat_at.ensures.bytes c.args.packets.now i.units))
+    (c.in_err-put_packet_at.ensures.bytes c.args.packets.now i.units))

@@ -2,7 +2,7 @@
 -- Teletext packets are written.
 use Rattle.std.proofs.Common.{◌≡◌, ◌-◌, ◌<◌, ◌≤◌}
 use Rattle.ttx_pes.specs.LineOrder.{numbered_units}
-use Rattle.sub_plan.specs.Steps.{packets_at, steps}
+use Rattle.sub_plan.specs.Steps.{pes_packet_bytes_at, steps}
 use Rattle.sub_plan.proofs.PartLemmas.{IsPartWritten}
 use Rattle.sub_plan.proofs.scheduling.send_steps.Given as goal
 
@@ -15,7 +15,7 @@ invariant-loop-frame g l = record {
   failures : g.K.Sink.failure_count l.sink ≡ g.K.Sink.failure_count l.initial.sink;
   part :
       IsPartWritten (g.K.Sink.contents l.initial.sink) (g.K.Sink.contents l.sink)
-      (packets_at l.options.origin l.packets) l.count
+      (pes_packet_bytes_at l.options.origin l.packets) l.count
       (steps l.options.every l.frame l.end)
       (steps l.options.every l.from l.end);
 }

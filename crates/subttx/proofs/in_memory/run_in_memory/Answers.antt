@@ -11,8 +11,8 @@ returns-clause-chosen g c = (c.law_of_headline.ensures _ _ _ _ _ _ c.run.ensures
 pub returns-clause-dropping : goal.returns-clause-dropping
 returns-clause-dropping g c = (c.law_of_headline.ensures _ _ _ _ _ _ c.run.ensures).2
 
-pub returns-clause-screens : goal.returns-clause-screens
-returns-clause-screens g c = (c.law_of_headline.ensures _ _ _ _ _ _ c.run.ensures).3
+pub returns-clause-decoded_characters : goal.returns-clause-decoded_characters
+returns-clause-decoded_characters g c = (c.law_of_headline.ensures _ _ _ _ _ _ c.run.ensures).3
 
 pub returns-clause-files : goal.returns-clause-files
 returns-clause-files g c = (c.law_of_headline.ensures _ _ _ _ _ _ c.run.ensures).4

@@ -3,7 +3,7 @@ use Rattle.ts_survey.proofs.pid_packets.give_next.Goals as goal
 
 pub returns : goal.returns
 returns g c =
-    let first = c.take_next_and_discard_rest-next.ensures.first in
+    let first = c.take_next_or_rest-next.ensures.first in
     record {
       next_part = c.taken.result.now;
       joined = rw c.taken.ensures first.0;

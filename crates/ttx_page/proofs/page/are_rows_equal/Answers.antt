@@ -17,17 +17,17 @@ returns c is_equal =
     let back-2 : c.unwrap-2.result.now ≡ drop 24 ys = search rules in
     let long = length-zip2 differ xs ys (omega arith) in
     let prefix =
-    c.differing-prefix.ensures
+    c.mask_differing_cells-prefix.ensures
     ∙ ap₂ differing_mask (block_is_chunk _ 16 xs 0 c.as_chunks.ensures.front (omega arith))
     (block_is_chunk _ 16 ys 0 c.as_chunks-2.ensures.front (omega arith))
     ∙ block_mask_is_correct xs ys 0 (omega arith) (omega arith) in
     let middle =
-    c.differing-middle.ensures
+    c.mask_differing_cells-middle.ensures
     ∙ ap₂ differing_mask (block_is_chunk _ 16 xs 1 c.as_chunks.ensures.front (omega arith))
     (block_is_chunk _ 16 ys 1 c.as_chunks-2.ensures.front (omega arith))
     ∙ block_mask_is_correct xs ys 16 (omega arith) (omega arith) in
     let last =
-    c.differing-last.ensures
+    c.mask_differing_cells-last.ensures
     ∙ ap₂ differing_mask (suffix_is_last_chunk 24 16 xs _ c.told-a back)
     (suffix_is_last_chunk 24 16 ys _ c.told-b back-2)
     ∙ block_mask_is_correct xs ys 24 (omega arith) (omega arith) in

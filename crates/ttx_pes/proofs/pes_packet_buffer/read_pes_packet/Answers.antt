@@ -27,8 +27,8 @@ returns-then-is_failed-clause-borrowed g c = λ none holds.
     (omega (arith, borrowed_packet_has_header _ holds)) in
     absurd (true≢false (sym c.if-is_failed.true ∙ fine.0))
 
-pub returns-then-got-lt-HEADER_SIZE-clause-reads : goal.returns-then-got-lt-HEADER_SIZE-clause-reads
-returns-then-got-lt-HEADER_SIZE-clause-reads g c =
+pub returns-then-got-lt-SIZE_BYTES-clause-reads : goal.returns-then-got-lt-SIZE_BYTES-clause-reads
+returns-then-got-lt-SIZE_BYTES-clause-reads g c =
     let got = c.fill_buffer-got.result.0 in
     let len = length-take-le got c.fill_buffer-got.new.room c.fill_buffer-got.ensures.room in
     record {

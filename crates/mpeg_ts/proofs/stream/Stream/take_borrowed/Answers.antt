@@ -17,7 +17,7 @@ returns-then-not-is_unit_of_pid-clause-kept g c =
     let i = c.self.inside in
     let v : StreamValue = the_view i in
     let w : StreamValue = record v {
-      window = c.skip_bytes-then-not-is_unit_of_pid.new.self;
+      window = c.count_skipped_bytes.new.self;
       lead = 0;
     }
     in
@@ -42,7 +42,7 @@ returns-then-not-is_unit_of_pid-clause-kept g c =
     (omega (arith, fits, within)) step (c.self.invariant.no_run_in_step step)
     (λ rest. c.place_after_other_pids-place.ensures.gives rest i.joining part_is_open idle)
     (ap (λ (u : WindowValue). record v { window = u; lead = 0 })
-    c.skip_bytes-then-not-is_unit_of_pid.ensures)))
+    c.count_skipped_bytes.ensures)))
 
 pub returns-clause-kept : goal.returns-clause-kept
 returns-clause-kept g c =
@@ -66,7 +66,7 @@ returns-clause-kept g c =
     let idle : i.joining.pending ≡ [] =
     ap (λ (s : StreamValue). s.joining.pending) c.self.view_is ∙ c.requires.idle in
     let w : StreamValue = record v {
-      window = c.skip_bytes-3.new.self;
+      window = c.count_skipped_bytes-2.new.self;
       lead = 0;
       joining = c.take_packet.new.self;
     } in
@@ -75,7 +75,7 @@ returns-clause-kept g c =
       window = u;
       lead = 0;
       joining = c.take_packet.new.self;
-    }) c.skip_bytes-3.ensures
+    }) c.count_skipped_bytes-2.ensures
     ∙ ap (λ (j : JoiningValue). record v {
       window = record v.window { left = v.window.left - count };
       lead = 0;

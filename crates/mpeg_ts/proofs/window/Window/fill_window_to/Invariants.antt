@@ -5,9 +5,9 @@ use Rattle.mpeg_ts.specs.ConsumedStreamBytes.{TakesPrefix}
 use Rattle.mpeg_ts.specs.Window.{RequestsUpTo, buffered_and_left}
 use Rattle.mpeg_ts.proofs.window.Window.fill_window_to.Given as goal
 
-abbrev pub invariant-loop-buffered_count_is_current : goal.invariant-loop-buffered_count_is_current
-invariant-loop-buffered_count_is_current g l = record {
-  buffered_count_is_current : l.buffered_count_is_current ≡ length l.self.buffered;
+abbrev pub invariant-loop-buffered_count : goal.invariant-loop-buffered_count
+invariant-loop-buffered_count g l = record {
+  buffered_count : l.buffered_count ≡ length l.self.buffered;
   takes :
       TakesPrefix (buffered_and_left l.initial.self) (buffered_and_left l.self)
       (g.S.Source.remaining l.initial.source) (g.S.Source.remaining l.source);
@@ -21,5 +21,5 @@ invariant-loop-buffered_count_is_current g l = record {
   count : g.S.Source.failure_count l.source ≡ g.S.Source.failure_count l.initial.source;
 }
 
-abbrev pub decreases-loop-buffered_count_is_current : goal.decreases-loop-buffered_count_is_current
-decreases-loop-buffered_count_is_current g l = l.count - l.buffered_count_is_current
+abbrev pub decreases-loop-buffered_count : goal.decreases-loop-buffered_count
+decreases-loop-buffered_count g l = l.count - l.buffered_count

@@ -27,8 +27,8 @@ returns-then-continues-clause-reported g c = λ criteria sent last keeps again.
           (sym (sent_after-same criteria.within sent s same)) more.1,
     )
 
-pub begin_next_frame-requires-clause-room : goal.begin_next_frame-requires-clause-room
-begin_next_frame-requires-clause-room g c =
+pub check_first_of_frame-requires-clause-room : goal.check_first_of_frame-requires-clause-room
+check_first_of_frame-requires-clause-room g c =
     c.end_pending_frame.ensures.few c.args.pes c.requires.room
 
 pub returns-clause-reported : goal.returns-clause-reported
@@ -40,7 +40,7 @@ returns-clause-reported g c = λ criteria sent last keeps again.
     ∙ c.if-continues.false in
     let end = c.end_pending_frame.ensures.reported criteria sent last keeps in
     let next =
-    c.begin_next_frame.ensures.reported criteria (sent ++ s ∷ []) (length sent) last
+    c.check_first_of_frame.ensures.reported criteria (sent ++ s ∷ []) (length sent) last
     (AfterEnd-prefix criteria sent (s ∷ []) last c.end_pending_frame.new.self end.1)
     (appending_frame_adds_one sent s)
     (appended_frame_is_sent sent s) again in (
@@ -48,6 +48,6 @@ returns-clause-reported g c = λ criteria sent last keeps again.
           (appended_steps_are_relayed refl (silent_step_is_relayed refl c.go_to-2.ensures refl)
           next.0),
       subst (λ (l : Transmission). BetweenPesPackets criteria l
-          (packets_of_units c.args.units.now) c.begin_next_frame.new.self)
+          (packets_of_units c.args.units.now) c.check_first_of_frame.new.self)
           (sym (sent_after-other criteria.within sent s other)) next.1,
     )

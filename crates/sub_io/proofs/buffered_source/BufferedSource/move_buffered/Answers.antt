@@ -8,7 +8,7 @@ pub returns-clause-bytes : goal.returns-clause-bytes
 returns-clause-bytes g c =
     let here = c.self.inside in
     let n = c.min-n.result in
-    let copy = c.copy_prefix in
+    let copy = c.copy_range in
     let long : length (take n c.args.to.now) ≡ n = omega (arith, length-take n c.args.to.now) in
     rw (← c.self.view_is)
     (buffered-split here.room.now copy.new.room copy.new.to _ here.start here.end n

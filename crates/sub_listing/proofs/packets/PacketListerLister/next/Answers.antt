@@ -27,24 +27,24 @@ returns-in-Ok-Same-clause-gives g c =
     let reports = rw (c.in-Ok-Same.field-0-is, c.requires.ready.0) at c.in-Ok-Same.ensures.reports
     in
     rw (
-      c.list_next_result.ensures.index,
-      c.list_next_result.ensures.first,
-      c.list_next_result.ensures.more,
+      c.list_read_packet.ensures.index,
+      c.list_read_packet.ensures.first,
+      c.list_read_packet.ensures.more,
     ) (λ _.
     gives-packet c.args.self.now.first c.args.self.now.index _ _ _ _ c.requires.ready.1 reports
-    c.list_next_result.ensures.lines)
+    c.list_read_packet.ensures.lines)
 
 pub returns-in-Ok-Other-clause-gives : goal.returns-in-Ok-Other-clause-gives
 returns-in-Ok-Other-clause-gives g c =
     let reports = rw (c.in-Ok-Other.field-0-is, c.requires.ready.0) at c.in-Ok-Other.ensures.reports
     in
     rw (
-      c.list_next_result-in-Ok-Other.ensures.index,
-      c.list_next_result-in-Ok-Other.ensures.first,
-      c.list_next_result-in-Ok-Other.ensures.more,
+      c.list_read_packet-in-Ok-Other.ensures.index,
+      c.list_read_packet-in-Ok-Other.ensures.first,
+      c.list_read_packet-in-Ok-Other.ensures.more,
     ) (λ _.
     gives-packet c.args.self.now.first c.args.self.now.index _ _ _ _ c.requires.ready.1 reports
-    c.list_next_result-in-Ok-Other.ensures.lines)
+    c.list_read_packet-in-Ok-Other.ensures.lines)
 
 pub returns-in-Err-clause-gives : goal.returns-in-Err-clause-gives
 returns-in-Err-clause-gives g c =

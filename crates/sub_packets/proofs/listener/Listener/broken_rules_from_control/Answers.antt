@@ -8,7 +8,7 @@ use Rattle.sub_packets.proofs.listener.Listener.broken_rules_from_control.Goals 
 
 pub returns-in-ThisPage-clause-rules : goal.returns-in-ThisPage-clause-rules
 returns-in-ThisPage-clause-rules c heard known =
-    let is = c.is_subtitle.ensures heard known in
+    let is = c.is_allowed_page_header.ensures heard known in
     rw (page_header_breaks_control_rule_only c.args.self.now.watched heard c.args.packet.now
     c.in-ThisPage.header (sym c.requires.kind ∙ c.in-ThisPage.is)) (grind (arith, nat_tests))
 

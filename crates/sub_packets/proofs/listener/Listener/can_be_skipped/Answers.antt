@@ -22,14 +22,14 @@ returns-then-packet_number-ne0-clause-skipped c heard known is =
 
 pub returns-clause-no_header : goal.returns-clause-no_header
 returns-clause-no_header c is =
-    let header = (c.skips_header.ensures is).1 in
+    let header = (c.is_skippable_header.ensures is).1 in
     skipped_header_is_of_another_page c.args.packet.now c.args.self.now _ c.in-Some.ensures.1
     header.0
     c.if-packet_number-ne0.false header.1 header.2
 
 pub returns-clause-skipped : goal.returns-clause-skipped
 returns-clause-skipped c heard known is =
-    let says = c.skips_header.ensures is in
+    let says = c.is_skippable_header.ensures is in
     let header = says.1 in
     header_of_other_page_is_skipped heard c.args.packet.now c.args.self.now known
     c.in-Some.ensures.0 _

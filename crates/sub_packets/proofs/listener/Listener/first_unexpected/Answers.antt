@@ -1,5 +1,5 @@
 use Rattle.std.proofs.Common.{MatchOption, ◌≡◌, sym, ◌∙◌, ap, arith, subst}
-use Rattle.ttx_page.specs.Differing.{differing}
+use Rattle.ttx_page.specs.Differing.{differing_cell_count}
 use Rattle.ttx_page.specs.Page.{DiffersFirst, Rows, blank}
 use Rattle.sub_packets.specs.UnexpectedCodes.{LacksDueCodes}
 use Rattle.sub_plan.specs.Schedule.{due_page_in}
@@ -27,6 +27,6 @@ returns-then-count_nonblank_cells-eq0 c =
     (no_unexpected_cell_shows_expected_codes c.args.self.now (due_page_in c.args.programme.now)
     c.args.first c.args.frame
     c.args.within
-    (ap (differing blank) (sym c.shown-shown.ensures)
+    (ap (differing_cell_count blank) (sym c.shown-shown.ensures)
     ∙ sym c.count_nonblank_cells.ensures.value
     ∙ omega arith))

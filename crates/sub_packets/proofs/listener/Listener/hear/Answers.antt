@@ -23,7 +23,7 @@ pub returns-else-begins_text-clause-knows : goal.returns-else-begins_text-clause
 returns-else-begins_text-clause-knows c heard known =
     let begins = c.begins_text.ensures in
     let k = c.in-ThisPage.is in
-    subst (Knows (heard ++ c.args.packet.now ∷ [])) (sym c.repeat_header.ensures)
+    subst (Knows (heard ++ c.args.packet.now ∷ [])) (sym c.note_repeated_header.ensures)
     (repeating_header_keeps_knowledge heard c.args.packet.now c.args.self.now _ _ known
     c.requires.page_header
     c.first_serial-self.ensures c.in-ThisPage.header (sym c.requires.kind ∙ c.in-ThisPage.is)

@@ -11,7 +11,7 @@ use Rattle.ttx_page.specs.Span.{has_text_beginning}
 use Rattle.sub_io.specs.Reporting.{Reports}
 use Rattle.sub_io.proofs.ReportingLemmas.{Reports-none}
 use Rattle.sub_rules.specs.Events.{numbered_packet_events}
-use Rattle.sub_packets.specs.Listener.{BreakNoRule, Knows, KnowsLast, begins_frame_with_header}
+use Rattle.sub_packets.specs.Listener.{BreakNoRule, Knows, KnowsLast, frame_has_text_beginning}
 use Rattle.sub_packets.specs.Listener.{rule_set}
 use Rattle.sub_packets.proofs.KeptLemmas.{or_assoc}
 use Rattle.sub_rules.specs.PacketRules.{header_count, packets_of_units}
@@ -109,7 +109,7 @@ loop-k-preserved g c =
     let begins_here : c.judge-heard.result.begins ≡ begins_text w.keeps (kind w.page p) =
     heard_one.begins ∙ ap (λ v. begins_text v.keeps (kind v.page p)) i.same in
     let begun_more : c.has_started-begun.result
-    ≡ begins_frame_with_header w c.args.from c.args.self.now.begun (take (k + 1) ps) =
+    ≡ frame_has_text_beginning w c.args.from c.args.self.now.begun (take (k + 1) ps) =
     c.has_started-begun.ensures
     ∙ ap₂ (λ a b. a || b) i.begun begins_here
     ∙ or_assoc (nat_lt 0 c.args.from && c.args.self.now.begun)
@@ -167,8 +167,8 @@ returns-clause-knows g c heard known =
     subst (λ xs. Knows (heard ++ xs) c.loop-k.self) all r.0 in
     let count : c.loop-k.headers ≡ header_count w.page ps =
     i.header ∙ ap (header_count w.page) all in
-    let begun : c.loop-k.begun ≡ begins_frame_with_header w c.args.from c.args.self.now.begun ps =
-    i.begun ∙ ap (begins_frame_with_header w c.args.from c.args.self.now.begun) all in (
+    let begun : c.loop-k.begun ≡ frame_has_text_beginning w c.args.from c.args.self.now.begun ps =
+    i.begun ∙ ap (frame_has_text_beginning w c.args.from c.args.self.now.begun) all in (
       subst (λ m. KnowsLast (heard ++ ps) ps (record c.loop-k.self {
         begun = c.loop-k.begun;
         last = m;

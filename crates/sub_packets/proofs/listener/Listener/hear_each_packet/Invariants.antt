@@ -5,7 +5,7 @@ use Rattle.std.proofs.Common.{◌-◌, true}
 use Rattle.ttx_page.specs.PacketKind.{begins_text, kind}
 use Rattle.sub_io.specs.Reporting.{Reports}
 use Rattle.sub_rules.specs.Events.{numbered_packet_events}
-use Rattle.sub_packets.specs.Listener.{BreakNoRule, Knows, begins_frame_with_header}
+use Rattle.sub_packets.specs.Listener.{BreakNoRule, Knows, frame_has_text_beginning}
 use Rattle.sub_rules.specs.PacketRules.{header_count, packets_of_units}
 use Rattle.sub_packets.proofs.listener.Listener.hear_each_packet.Given as goal
 
@@ -28,7 +28,7 @@ invariant-loop-k g l = record {
       ≡ true);
   begun :
       l.begun
-      ≡ begins_frame_with_header l.initial.self.watched l.from l.initial.self.begun
+      ≡ frame_has_text_beginning l.initial.self.watched l.from l.initial.self.begun
       (take l.k (packets_of_units l.units));
   known :
       (heard : List (List ℕ))

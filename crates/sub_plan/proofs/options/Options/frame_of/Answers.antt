@@ -15,4 +15,5 @@ returns-then-self-eq0-clause-exact c = λ none frame.
 
 pub returns-else-self-eq0-clause-value : goal.returns-else-self-eq0-clause-value
 returns-else-self-eq0-clause-value c =
-    c.nearest_frame.ensures ∙ rw (← c.self.view_is) (clock_reads_with_tolerance _ _ _ (omega arith))
+    c.frame_including_pts.ensures
+    ∙ rw (← c.self.view_is) (clock_reads_with_tolerance _ _ _ (omega arith))

@@ -4,18 +4,18 @@ use Rattle.ttx_packet.proofs.SentWordLemmas.{address_from_two_nibbles, two_code_
 use Rattle.ttx_packet.proofs.SentWordLemmas.{sent_byte_is_mirrored, byte_is_code_word}
 use Rattle.ttx_packet.proofs.sent_packet.SentPacket.exact_address.Goals as goal
 
-pub returns-then-number-ge-UNDECODABLE : goal.returns-then-number-ge-UNDECODABLE
-returns-then-number-ge-UNDECODABLE c exact =
+pub returns-then-number-ge-NO_CODE_WORD : goal.returns-then-number-ge-NO_CODE_WORD
+returns-then-number-ge-NO_CODE_WORD c exact =
     let at = sent_byte_is_mirrored _ _ c.self.view_is c.self.invariant in
     let low = c.look_up_sent_byte-low.ensures in
     let high = c.look_up_sent_byte-high.ensures in
     let first = low.word (λ e. low.none e (rw (at 0 (omega arith)) (exact 0 (omega arith)))) in
     let second = high.word (λ e. high.none e (rw (at 1 (omega arith)) (exact 1 (omega arith)))) in
-    omega (arith, first.0, second.0, c.if-number-ge-UNDECODABLE.true)
+    omega (arith, first.0, second.0, c.if-number-ge-NO_CODE_WORD.true)
 
-pub returns-else-number-ge-UNDECODABLE : goal.returns-else-number-ge-UNDECODABLE
-returns-else-number-ge-UNDECODABLE c =
-    let small = c.if-number-ge-UNDECODABLE.false in
+pub returns-else-number-ge-NO_CODE_WORD : goal.returns-else-number-ge-NO_CODE_WORD
+returns-else-number-ge-NO_CODE_WORD c =
+    let small = c.if-number-ge-NO_CODE_WORD.false in
     let first = c.look_up_sent_byte-low.ensures.word (λ e. omega (arith, e, small)) in
     let second = c.look_up_sent_byte-high.ensures.word (λ e. omega (arith, e, small)) in
     let at = byte_is_code_word _ _ c.self.view_is c.self.invariant in

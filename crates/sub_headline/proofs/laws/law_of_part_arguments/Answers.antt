@@ -1,5 +1,0 @@
-use Rattle.sub_headline.proofs.ChosenWordLemmas as lemmas
-use Rattle.sub_headline.proofs.laws.law_of_part_arguments.Goals as goal
-
-pub returns : goal.returns
-returns c = lemmas.law_of_part_arguments
