@@ -21,6 +21,7 @@ PAYLOAD_START, RANDOM_ACCESS, PCR_FLAG = 0x40, 0x40, 0x10
 MPEG_1, MPEG_2, H264, HEVC = 0x01, 0x02, 0x1B, 0x24  # stream_type
 NO_PCR, FIRST_PCR = 0x1FFF, 0x11F  # PCR_PIDs: of programmes without PCR, of the first programme
 NULL = bytes([SYNC, 0x1F, 0xFF, 0x10]).ljust(PACKET, b"\xff")
+MAX_SURVEYED_PAGES = 8
 PAGES: list[Page] = [(0, 0x88), (0, 0x88), (0, 0x88), (0, 0x77), (1, 0x88), (0, 0xFF), (7, 0x99)]
 
 
@@ -398,14 +399,15 @@ class Recording(NamedTuple):
     """A recording, and the options of `survey` for it."""
 
     data: bytes
-    page: Page = (0, 0x88)
+    pages: list[Page]
     pid: int | None = None
     size: int | None = None
 
     @property
     def words(self) -> list[str]:
-        given = {"--page": page_name(*self.page), "--pid": self.pid, "--packet-size": self.size}
-        return [str(word) for option in given.items() if option[1] is not None for word in option]
+        given = [*(("--page", page_name(*page)) for page in self.pages), ("--pid", self.pid),
+                 ("--packet-size", self.size)]
+        return [str(word) for option in given if option[1] is not None for word in option]
 
 
 def make_random_pes_file(chance: Random) -> bytes:
@@ -423,9 +425,13 @@ def make_random_pes_file(chance: Random) -> bytes:
 
 def make_random_recording(seed: int) -> Recording:
     chance = Random(f"survey {seed}")
-    page = chance.choice(PAGES[2:5]) if chance.random() < 0.2 else PAGES[0]
+    pages = [chance.choice(PAGES[2:5]) if chance.random() < 0.2 else PAGES[0]]
+    if chance.random() < 0.3:
+        more = [page for page in [*PAGES[2:5], *((3, number) for number in range(5))]
+                if page not in pages]
+        pages += chance.sample(more, chance.choice([1, 1, 2, MAX_SURVEYED_PAGES - 1]))
     if chance.random() < 0.15:
-        return Recording(make_random_pes_file(chance), page)
+        return Recording(make_random_pes_file(chance), pages)
     units, size = make_random_units(chance), chance.choice(SIZES)
     pid = read_unit_pid(chance.choice(units)) if units and chance.random() < 0.1 else None
     for _ in range(chance.choice([0, 1, 3, 10, 20, 40, 60])):
@@ -447,5 +453,5 @@ def make_random_recording(seed: int) -> Recording:
     data = data[:len(data) - (chance.randrange(1000) if chance.random() < 0.2 else 0)]
     if chance.random() < 0.01:
         data = data[:chance.randrange(1000)]
-    return Recording(data, page, pid if pid != NO_PCR else None,
+    return Recording(data, pages, pid if pid != NO_PCR else None,
                      chance.choice([size, size, *SIZES]) if chance.random() < 0.1 else None)

@@ -421,6 +421,22 @@ class WholeCalls(Case):
             ("0x101", "0x102"), call.told[-2:])), call)
         self.check("one", self.read("two.ts", "--pid", "0x102").status, 0)
 
+    def test_reads_all_pages_by_one_survey(self) -> None:
+        sent = []
+        for seed, name in enumerate(["777", "888"]):
+            stl = self.write("one.stl", make_random_stl(seed)[0])
+            data = super().read(self.schedule(stl, "a.pes", "--every", "25", "--page", name))
+            first = decode_pts(data)
+            sent.append(replace_pts(data, lambda _, pts: pts - first + 90_000))
+        recording = self.write("two.ts", make_stream_of_pids(*zip((0x101, 0x102), sent)))
+        program = self.make_program_with_exception("survey*two.ts", "echo $* >>calls")
+        self.check("status", self.read(recording, "-p", program).status, 0)
+        self.check("pages of each survey", [line.count(b"--page") for line in
+                                            super().read("calls").splitlines()], [1, 2])
+        for name in ("777", "888"):
+            self.tool("read", recording, "--page", name, "-o", "one")
+            self.check(name, super().read(f"out/{name}.stl"), super().read(f"one/{name}.stl"))
+
     def test_replaces_only_its_own_files(self) -> None:
         sent = self.send((0, [HEADER, CLOSING]), (25, [HEADER, ROW, CLOSING]),
                          (50, [HEADER, CLOSING]))

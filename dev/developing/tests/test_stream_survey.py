@@ -15,7 +15,7 @@ from subtitles.formats.teletext import Page
 from subtitles.stream.packets import GapMarker, PCRStep, PacketRun, Packets, PageChange, Texts
 from subtitles.stream.pictures import VideoLead
 from subtitles.stream.survey import (
-    Announced, ProgramMap, Survey, VERSION, Video, find_any_page, survey, survey_runs)
+    Announced, ProgramMap, Survey, VERSION, Video, find_first_pages, survey, survey_runs)
 from .bench import Case
 from .streams import (
     AUDIO_PID, SLICES, TELETEXT_PID, VIDEO_PID, StreamMaker, make_components, filler,
@@ -420,16 +420,18 @@ class SurveyAnswers(Case):
         with self.assertRaises(ProgramInterrupted):
             survey(self.fake_survey([], 3), "one.ts", PAGE)
 
-    def test_ends_the_program_when_a_page_is_known(self) -> None:
-        rows: dict[str, tuple[list[str], Page]] = {
-            "sent": (["sub 257 1A0"], (1, 0xA0)), "none": ([], (0, 0x88)),
+    def test_ends_the_program_soon_after_a_page_is_known(self) -> None:
+        rows: dict[str, tuple[list[str], list[Page]]] = {
+            "sent": (["sub 257 1A0", *["pcr 5 1"] * 998, "sub 257 199"], [(1, 0x99), (1, 0xA0)]),
+            "late": (["sub 257 1A0", *["pcr 5 1"] * 999, "sub 257 199"], [(1, 0xA0)]),
+            "none": ([], [(0, 0x88)]),
             "announced": (["programme 1 5", "announce 257 8FF 656e67 2",
-                           "announce 257 777 656e67 5"], (7, 0x77))}
-        for name, (lines, page) in rows.items():
+                           "announce 257 777 656e67 5"], [(7, 0x77)])}
+        for name, (lines, pages) in rows.items():
             program = self.fake_survey(lines)
             if lines:  # a program that does not end by itself
                 self.write("program", self.read("program").replace(b"echo over", b"yes pcr 5 1 #"))
-            self.check(name, find_any_page(program, "one.ts", None), page)
+            self.check(name, find_first_pages(program, "one.ts", None), pages)
 
     def test_returns_each_run_before_the_program_ends(self) -> None:
         runs = [f"pes 0 {number} 1 {number} 0 -/ 1 0" for number in range(4)]

@@ -18,7 +18,8 @@ from ..recording.recording import Recording
 from ..request.commands import CommandPaths, Listener, OutputNames
 from ..request.request import OPTIONS, Option, Unclear, add_options, make_file_request
 from ..results.files import describe_inputs
-from ..stream.survey import DEFAULT_PAGE
+from ..stream.survey import (
+    DEFAULT_PAGE, MAX_SURVEYED_PAGES, Survey, find_first_pages, read_stored_survey, store_survey)
 from .main import CALL_OPTIONS, report_failures
 from .single import (
     OutputFiles, judge_pair, lock_pair, make_verdict, read_pair_options, refuse_file,
@@ -73,6 +74,7 @@ class PageReader:
         self.command_paths = CommandPaths(program_name, args.program)
         self.stamps = {args.recording: read_stamp(args.recording)}
         self.recording = self.make_recording(args.page or DEFAULT_PAGE)
+        self.survey_paths: dict[Page, str] = {}  # the stored output of `survey` about each page
         refuse_outputs(self.call, self.recording.request, None, "")
 
     def make_recording(self, page: Page) -> Recording:
@@ -94,7 +96,7 @@ class PageReader:
         args = self.args
         try:
             self.recording.read_contents(any([args.out, args.json, args.csv]),
-                                         is_any_page=args.page is None)
+                                         self.store_surveys)
         except Unclear as reason:
             raise Stop(reason.reason) from None
         found = self.recording.survey
@@ -103,6 +105,28 @@ class PageReader:
             raise Stop("\n".join(["not read: no subtitle page is announced or sent",
                                   *found.lines()]))
         return pages
+
+    def store_surveys(self) -> Survey:
+        """Run `survey` for the pages to read, if possible once for all, and store its output.
+        Return the output without the lines of single pages."""
+        page, pid = self.args.page, self.args.pid
+        program, recording = self.command_paths.program_path, self.recording
+        pages = [page] if page else find_first_pages(program, recording.path, pid)
+        while True:
+            path = os.path.join(self.folder, f"{len(self.survey_paths)}.survey")
+            del pages[MAX_SURVEYED_PAGES:]
+            survey = store_survey(program, recording.path, pages, pid, path,
+                                  recording.show_progress)
+            self.survey_paths |= dict.fromkeys(pages, path)
+            pages = [item for item in survey.list_pages(pid) if item not in self.survey_paths]
+            if page or not pages:
+                return survey
+
+    def read_contents(self, recording: Recording) -> None:
+        """Read the stored output of `survey` about the page of `recording`."""
+        page = recording.request.page
+        recording.path, recording.file = self.recording.path, self.recording.file
+        recording.survey = read_stored_survey(self.survey_paths[page], page)
 
     def clear_folder(self, pages: Sequence[Page]) -> None:
         """Remove earlier results. Raise `Stop` if a result would replace the recording, or a file
@@ -121,8 +145,8 @@ class PageReader:
         recording = self.make_recording(page)
         verdict = make_verdict(recording.request, recording.listener, ReadingVerdict)
         files = OutputFiles(self.call, verdict, self.command_paths, recording.names, self.stamps)
-        judge_range(ReadingJudge(verdict, recording, self.recording, files.needs_sums(),
-                                 OPTION_BY_WORD.get(self.args.option)), files)
+        judge_range(ReadingJudge(verdict, recording, lambda: self.read_contents(recording),
+                                 files.needs_sums(), OPTION_BY_WORD.get(self.args.option)), files)
         return verdict
 
 

@@ -86,4 +86,4 @@ def make_reader(args: argparse.Namespace, reference: str, judged: Recording) -> 
         "reference", folder, None), Listener(judged.listener.printer))
     recording.request.is_reading, recording.request.start = True, args.reference_start
     verdict = make_verdict(recording.request, recording.listener, ReadingVerdict)
-    return ReadingJudge(verdict, recording, None, False)
+    return ReadingJudge(verdict, recording, lambda: recording.read_contents(False), False)

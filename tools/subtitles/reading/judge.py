@@ -4,7 +4,7 @@ from __future__ import annotations
 import dataclasses
 import functools
 import os
-from typing import Iterator, Sequence
+from typing import Callable, Iterator, Sequence
 
 from ..clock.start import TimedPart
 from ..common.times import FRAMES_OF_A_DAY, Spans
@@ -74,15 +74,16 @@ class RangeJudge(PairJudge):
 
 class ReadingJudge(RangeJudge):
     """Reads a page, writes the subtitles to the file of the request, and judges all PES packets by
-    them, not only those around the subtitles. `other` is the same recording, if it was read before.
-    """
+    them, not only those around the subtitles. `read_contents` reads the recording with `survey`."""
 
     range_text = "from the first header of the page on"
 
-    def __init__(self, verdict: ReadingVerdict, recording: Recording, other: Recording | None,
-                 is_result_written: bool, option: NationalOption | None = None) -> None:
+    def __init__(self, verdict: ReadingVerdict, recording: Recording,
+                 read_contents: Callable[[], None], is_result_written: bool,
+                 option: NationalOption | None = None) -> None:
         super().__init__(verdict, recording, is_result_written)
-        self.reading_verdict, self.other, self.option = verdict, other, option
+        self.reading_verdict, self.option = verdict, option
+        self.read_contents = read_contents
 
     @property
     def reading(self) -> Reading:
@@ -91,7 +92,7 @@ class ReadingJudge(RangeJudge):
 
     def judge(self) -> None:
         """Read the page, and judge the recording by it."""
-        self.source.read_contents(False, self.other)
+        self.read_contents()
         self.verdict.recording = self.source.file
         self.reading_verdict.languages = self.source.survey.list_pages(self.request.pid).get(
             self.request.page, [])

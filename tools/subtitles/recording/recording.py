@@ -7,7 +7,7 @@ import hashlib
 import os
 import stat
 import subprocess
-from typing import Collection, Iterable, Iterator, Sequence
+from typing import Callable, Collection, Iterable, Iterator, Sequence
 
 from ..clock.start import NoFirstPicture, has_first_picture
 from ..common.command_line import (
@@ -24,7 +24,7 @@ from ..stream.gaps import (
     LossPlace, describe_gap_markers, explain_refusal, find_loss_places, find_recorded_range)
 from ..stream.packets import HEADER, PES, PTSPair, Packets
 from ..stream.proved import PacketsCommand, has_proved_numbers
-from ..stream.survey import Survey, find_any_page, survey
+from ..stream.survey import Survey, survey
 from .notices import Notice, find_announcements, refuse_unsent_page, find_silent_pids
 
 
@@ -149,25 +149,19 @@ class Recording:
         self.read_contents(is_summed)
         self.choose_packets()
 
-    def read_contents(self, is_summed: bool, other: Recording | None = None,
-                      is_any_page: bool = False) -> None:
-        """Read the whole recording with `survey`. `other` is the same recording, if it was read
-        before, perhaps for another page. If `is_any_page` is true, request one of its pages."""
-        if other:
-            self.path, self.file = other.path, other.file
-            if self.request.page == other.request.page:
-                self.survey = other.survey
-                return
-        elif self.is_piped:
+    def read_contents(self, is_summed: bool, run_survey: Callable[[], Survey] | None = None
+                      ) -> None:
+        """Read the whole recording with `run_survey`, by default for the requested page."""
+        if self.is_piped:
             self.file = copy_piped(self.name, self.path, self.listener.printer)
         background_sum = BackgroundChecksum(self.name) if is_summed and not self.is_piped else None
-        if is_any_page:
-            self.request.page = find_any_page(self.command_paths.program_path, self.path,
-                                              self.request.pid)
-        self.survey = survey(self.command_paths.program_path, self.path, self.request.page,
-                             self.request.pid, look=self.show_progress)
+        self.survey = run_survey() if run_survey else self.run_survey(self.request.pid)
         self.file = background_sum.result() if background_sum else self.file
         refuse_stream(self.survey, self.name)
+
+    def run_survey(self, pid: int | None) -> Survey:
+        return survey(self.command_paths.program_path, self.path, self.request.page, pid,
+                      look=self.show_progress)
 
     def choose_packets(self) -> None:
         """Find the packets of the page, and report losses."""
@@ -181,8 +175,7 @@ class Recording:
         is_chosen = self.is_stream and self.request.pid is None
         if is_chosen and not has_proved_numbers(self.make_packets_command(), self.packets):
             pid, other_pids = self.packets.pid, self.survey.by_pid
-            self.survey = survey(self.command_paths.program_path, self.path, self.request.page,
-                                 pid, look=self.show_progress)
+            self.survey = self.run_survey(pid)
             self.packets = self.survey.get_packets(str(pid))
             self.survey.by_pid = {**other_pids, pid: self.packets}
 
@@ -380,5 +373,5 @@ class Recording:
     def append_contents(self, reason: str) -> str:
         """Return a reason, followed by a list of the Teletext pages in the recording."""
         if self.request.pid is not None:
-            self.survey = survey(self.command_paths.program_path, self.path, self.request.page)
+            self.survey = self.run_survey(None)
         return "\n".join([reason, *(self.survey.lines() or ["no PID has Teletext"])])

@@ -4,7 +4,7 @@ from __future__ import annotations
 import dataclasses
 import subprocess
 import sys
-from typing import Callable, Iterable, Iterator, NamedTuple
+from typing import Callable, Collection, Iterable, Iterator, NamedTuple, Sequence
 
 from ..common.command_line import (
     ProgramInterrupted, decode_page, escape_hidden, format_pid, make_stream_options)
@@ -20,6 +20,9 @@ VERSION = "1"
 DEFAULT_PAGE: Page = (0, 0x88)
 TIME_FILLING = 0xFF  # the number of no page
 MAX_PAGES = 12  # maximum number of pages in a line
+MAX_SURVEYED_PAGES = 8  # maximum number of pages of one call
+PAGE_LINES = {"pes", "rows", "strays", "set"}  # lines that belong to one page
+START_LINES = 1000  # number of lines to read after a page is known, to find further pages
 SUBTITLE_KINDS = (2, 5)
 KINDS = {1: "initial page", 2: "subtitles", 3: "additional information", 4: "programme schedule",
          5: "subtitles for the hard of hearing"}
@@ -288,33 +291,62 @@ def survey(program: str, name: str, page: Page, pid: int | None = None,
            look: Callable[[], None] = lambda: None) -> Survey:
     """Run `survey` on a recording and return its output; call `look` after each line."""
     answer = Survey()
-    for _ in read_lines(answer, program, name, page, pid):
+    for _ in read_lines(answer, program, name, [page], pid):
         look()
     return answer
 
 
-def read_lines(answer: Survey, program: str, name: str, page: Page, pid: int | None = None) \
-        -> Iterator[None]:
-    """Run `survey` on a recording and read its output into `answer`. Yield after each line. Raise
-    `ProgramInterrupted` if the output is incomplete."""
-    words = [program, "survey", "--page", page_name(*page), *make_stream_options(pid), "--", name]
+def read_lines(answer: Survey, program: str, name: str, pages: Sequence[Page],
+               pid: int | None = None, skipped: Collection[str] = ()) -> Iterator[str]:
+    """Run `survey` on a recording and read its output, except lines that begin with one of the
+    `skipped` words, into `answer`. Yield each line. Raise `ProgramInterrupted` if the output is
+    incomplete."""
+    options = [word for page in pages for word in ("--page", page_name(*page))]
+    words = [program, "survey", *options, *make_stream_options(pid), "--", name]
     with subprocess.Popen(words, stdout=subprocess.PIPE, encoding="ascii",
                           errors="replace") as process:
         assert process.stdout
         for line in process.stdout:
-            answer.read_line(line.rstrip("\n"))
-            yield
+            if line.partition(" ")[0] not in skipped:
+                answer.read_line(line.rstrip("\n"))
+            yield line
     answer.refuse(process.returncode)
 
 
-def find_any_page(program: str, name: str, pid: int | None) -> Page:
-    """Return a subtitle page of a recording, or page 888 if it has none. Stop `survey`, which
-    decodes only one page, as soon as a page is known."""
+def find_first_pages(program: str, name: str, pid: int | None) -> list[Page]:
+    """Return the subtitle pages at the start of a recording, or page 888 if the whole recording has
+    none. Stop `survey` soon after the first page is known."""
+    answer, count = Survey(), 0
+    for _ in read_lines(answer, program, name, [DEFAULT_PAGE], pid):
+        count += count > 0 or bool(answer.list_pages(pid))
+        if count == START_LINES:
+            break
+    return [*answer.list_pages(pid)] or [DEFAULT_PAGE]
+
+
+def store_survey(program: str, name: str, pages: Sequence[Page], pid: int | None, path: str,
+                 look: Callable[[], None]) -> Survey:
+    """Run `survey` for several pages of a recording, and store its output in a file. Return the
+    output without the lines of single pages, which need much memory."""
     answer = Survey()
-    for _ in read_lines(answer, program, name, DEFAULT_PAGE, pid):
-        if pages := answer.list_pages(pid):
-            return next(iter(pages))
-    return DEFAULT_PAGE
+    with open(path, "w", encoding="utf-8") as file:
+        for line in read_lines(answer, program, name, pages, pid, PAGE_LINES):
+            file.write(line)
+            look()
+    return answer
+
+
+def read_stored_survey(path: str, page: Page) -> Survey:
+    """Return the stored output of `survey` about a page."""
+    answer, is_own = Survey(), True
+    with open(path, encoding="utf-8") as file:
+        for line in file:
+            word, _, name = line.rstrip("\n").partition(" ")
+            if word == "page":
+                is_own = name == page_name(*page)
+            elif is_own or word not in PAGE_LINES:
+                answer.read_line(line.rstrip("\n"))
+    return answer
 
 
 def survey_runs(program: str, name: str, page: Page) -> Iterator[tuple[PacketRun, Texts | None]]:
@@ -322,7 +354,7 @@ def survey_runs(program: str, name: str, page: Page) -> Iterator[tuple[PacketRun
     `survey` printed after its first PES packet, or `None`."""
     answer = Survey()
     packets = answer.get_packets(str(PES))
-    for _ in read_lines(answer, program, name, page):
+    for _ in read_lines(answer, program, name, [page]):
         if len(packets.runs) > 1:
             yield pop_first_run(packets)
     if packets.runs:
