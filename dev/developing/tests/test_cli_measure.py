@@ -13,8 +13,8 @@ from typing import Any
 
 from developing.pes import make_packet
 from subtitles.cli.measure import (
-    Delays, LateCue, MAX_EXAMPLES, find_sent_options, format_name_lines, list_separate_cues,
-    measure_delays, measure_recording, propose_keeping, propose_lateness, propose_option,
+    Delays, LateCue, MAX_EXAMPLES, find_sent_options, format_name_lines, list_refused,
+    list_separate_cues, measure_delays, measure_recording, propose_keeping, propose_lateness, propose_option,
     remove_unusual)
 from subtitles.common.command_line import MAX_WITHIN
 from subtitles.common.times import TICKS
@@ -306,6 +306,16 @@ class Profiles(Case):
         self.check("named", [name in line for line in lines if "later than usual" in line],
                    [True])
         self.check("refused", ": Refused: subtitle " in lines[-1] and name[:-4] in lines[-1], True)
+
+    def test_lists_a_recording_that_is_not_judged_with_the_profile(self) -> None:
+        stl = write_programme(self, subtitle_times(2))
+        path = self.write("one.pes", join_pes_packets(schedule_pages(self, stl)))
+        requests = [make_example_request(stl, path, "--origin", "0", "--page", page)
+                    for page in ("888", "100")]
+        lines = [*list_refused(requests, CommandPaths("tools/qc", self.bench.program),
+                               self.folder)]
+        self.check("lines", [line.rpartition(f"{path}: ")[2] for line in lines], [
+            "Not judged: the recording does not contain the page at the time of the subtitles"])
 
     def test_decodes_by_the_option_that_it_proposes(self) -> None:
         stl = write_programme(self, subtitle_times(12))

@@ -25,8 +25,8 @@ from subtitles.common.command_line import (
     BUG_STATUS, KINDS as KIND_NAMES, MAX_EVERY, MAX_WITHIN, NO_PID, OTHER_STATUS, PACKET_SIZE,
     STATUSES_BY_KIND, Stop, USAGE_STATUS)
 from subtitles.common.program import TOP, read
-from subtitles.common.times import FRAMES_A_SECOND, FRAMES_OF_A_DAY
-from subtitles.formats.layout import LAST_ROW
+from subtitles.common.times import EARLY_TICKS, FRAMES_A_SECOND, FRAMES_OF_A_DAY, TICKS
+from subtitles.formats.layout import COLUMNS, LAST_ROW, PLAIN, find_column
 from subtitles.formats.listing import (
     ENDS_FILE, ENDS_READING, FAULTS_WITH_CAUSE, LOST_PACKETS, SILENT, SKIPPED_PACKETS,
     STL_FAULTS)
@@ -39,6 +39,7 @@ from subtitles.judging.status import (
     Severity)
 from subtitles.judging.unchecked import MAX_HOLE
 from subtitles.judging.waivers import WAIVABLE
+from subtitles.reading.received import FEW_CELLS
 from subtitles.recording.recording import MAX_PIPED_BYTES, TELETEXT
 from subtitles.request.request import OPTIONS
 from subtitles.results.schema import FORMAT, MAX_LISTED_ITEMS, MAX_SUBTITLES
@@ -309,6 +310,10 @@ PES_BYTES = read_constant("sub_listing/copying", "PES_PACKET_CAPACITY")
 LOST_UNSEEN = read_constant("ts_survey/packets_in_step", "LOSS_SIZE_IN_PACKETS")
 DEFAULTS = {option.name: option.default for option in OPTIONS}
 FINAL = {*STATUSES.values()} - {STATUSES[NOT_JUDGED]}
+# The justification codes of lines that begin in column 0, are centred and end in the last column
+JUSTIFIED = [" or ".join(str(code) for code in range(RIGHT + 1)
+                         if find_column(b"Hi", code, PLAIN) == column)
+             for column in (0, COLUMNS // 2 - 1, COLUMNS - 2)]
 STATED: list[tuple[str, str, object]] = [
     ("MANUAL.md", "back once, by {} hours or more", MIN_STEP_BACK // (FRAMES_OF_A_DAY // 24)),
     ("../README.md", "| {} | status 0, but you gave no clock", STATUSES[RELATIVE]),
@@ -325,6 +330,8 @@ STATED: list[tuple[str, str, object]] = [
     ("manual/qc.md", "for wrong arguments and {} for a bug", BUG_STATUS),
     ("manual/qc.md", "for the next one, at most {} times", MAX_CALLS),
     ("manual/qc.md", "at least {} seconds, and five consecutive cues", BREAK_SECONDS),
+    ("manual/qc.md", "A PTS may be a {} of a frame early, or almost three quarters of a",
+     {4: "quarter"}[TICKS // EARLY_TICKS]),
     ("MANUAL.md", "at least [{} seconds]", BREAK_SECONDS),
     ("manual/qc.md", "N, from 0 to {}, is the delay in frames", MAX_WITHIN),
     ("manual/reference.md", "or {:.0f} GB from a pipe", MAX_PIPED_BYTES / 1e9),
@@ -334,7 +341,7 @@ STATED: list[tuple[str, str, object]] = [
     ("manual/air.md", "older than {} hours (`--keep`)", RECORDER.get_default("keep")),
     ("manual/air.md", "less than {} MB of the disk is free (`--free`)",
      RECORDER.get_default("free")),
-    ("manual/air.md", "deletes at most {} segments for each new one",
+    ("manual/air.md", "but at most {} for each new one",
      NUMBER_WORDS[MAX_DELETED_SEGMENTS]),
     ("manual/air.md", "or {:.0f} minutes after it", MAX_SEGMENT_SECONDS / 60),
     ("manual/air.md", "has not changed for {} seconds (`--settled`)",
@@ -418,6 +425,10 @@ STATED: list[tuple[str, str, object]] = [
     ("manual/survey.md", "and PCR_PID ({} if there is none)", NO_PID),
     ("manual/read.md", "of {}. What was", join_statuses(
         status for status in STATUS_ORDER if status != STATUSES[RELATIVE])),
+    ("manual/read.md", "an adjoining subtitle in one or {} characters", NUMBER_WORDS[FEW_CELLS]),
+    ("manual/streams.md", "A line begins in column 0 (JC {}), is", JUSTIFIED[0]),
+    ("manual/streams.md", "is centred (JC {}), or ends in column 39", JUSTIFIED[1]),
+    ("manual/streams.md", "or ends in column 39 (JC {}).", JUSTIFIED[2]),
     ("manual/refusals.md", "is not {} N - 6, with", read_constant("mpeg_ts/gap_marker",
                                                                   "GAP_MARKER_SIZE")),
     ("manual/refusals.md", "send at most {} bytes in each PES packet", PES_BYTES),
@@ -529,6 +540,18 @@ class StatedFacts(Case):
             self.check(word, (int(region, 2), sum(int(bit) << place for place, bit
                                                   in enumerate(bits)), shown.replace(" ", "")),
                        (option.region, option.bits, sent))
+
+    def test_readme_lists_languages_as_the_table_does(self) -> None:
+        rows = re.findall(r"^\| ([A-Z][^|]+) \| (?:`[^|]+`|the one[^|]+|none) \| ([^|]+) \|$",
+                          read_document("docs/manual/subtitle-files.md"), re.M)
+        complete = {name: letters == "none" for names, letters in rows
+                    for name in re.sub(r" \([^)]*\)", "", names).split(", ")}
+        text = " ".join(read_document("README.md").partition("**Languages**")[2].split())
+        _, _, text = text.partition("): ")
+        known, _, text = text.partition(" with all letters; ")
+        for names, expected in (known, True), (text.partition(" without ")[0], False):
+            for name in re.split(", | and ", names):
+                self.check(name, complete.get(name), expected)
 
     def test_the_chapter_names_each_alarm(self) -> None:
         monitor = Monitor()

@@ -7,6 +7,7 @@ import io
 import os
 import shutil
 import subprocess
+import sys
 import unittest
 import unittest.mock
 from typing import Any
@@ -138,6 +139,40 @@ class DocumentStatuses(unittest.TestCase):
             with self.subTest(name):
                 self.assertEqual([status for status in possible
                                   if has_expected_status(status, command, output)], statuses)
+
+
+class FailedScripts(Case):
+    def test_check_manual_compares_output_and_status(self) -> None:
+        script = import_script("check-manual")
+        os.mkdir(self.path("copy"))
+        for name, command, expected in (
+                ("right", "echo accepted", (1, 0)), ("another output", "echo refused", (0, 1)),
+                ("another status", "echo accepted; exit 1", (0, 1))):
+            path = self.write("a.md", f"```\n$ {command}\naccepted\n```\n".encode())
+            self.check(name, script.run(path, self.path("copy"))[:2], expected)
+
+    def test_check_live_counts_the_failures_of_each_feed(self) -> None:
+        script = import_script("check-live")
+        feed = script.Feed("a", [], [], ())
+        for counts, expected in (([(2, 0), (1, 0)], ("3 passed, 0 failed", 0)),
+                                 ([(1, 1), (1, 0)], ("2 passed, 1 failed", 1)),
+                                 ([(1, 0), (0, 1)], ("1 passed, 1 failed", 1))):
+            with unittest.mock.patch.multiple(
+                    script, make_feeds=lambda: [feed], make_stream=lambda _: [],
+                    follow=unittest.mock.Mock(side_effect=counts)), \
+                    contextlib.redirect_stdout(io.StringIO()) as out:
+                status = script.main(["-p", "/bin/true"])
+            self.check(f"{counts}", (out.getvalue().strip(), status), expected)
+
+    def test_bench_measures_no_command_that_failed(self) -> None:
+        with unittest.mock.patch.object(sys, "path", [os.path.join(TOP, "bench"), *sys.path]):
+            script = import_script("../bench/run")
+        for does, is_measured in (("exit 0", True), ("exit 1", True), ("exit 2", False),
+                                  ("kill -9 $$", False)):
+            try:
+                self.check(does, script.milliseconds(["sh", "-c", does]) > 0, is_measured)
+            except SystemExit:
+                self.check(does, False, is_measured)
 
 
 class FailedChecks(Case):

@@ -175,6 +175,8 @@ class Lines(unittest.TestCase):
         self.assertEqual({*listing.read_named_meanings()},
                          {*listing.FAULT_NAMES, *listing.READING_FAULT_NAMES})
         self.assertTrue(all(map(all, listing.read_named_meanings().values())))
+        self.assertEqual(listing.read_named_meanings()["ends early"], (
+            "ends early", "the recording is damaged: the rest was not read", "record again"))
         self.assertEqual(listing.remove_markup("`a` [b c](d#e) f, [g](h)"), "a b c f, g")
 
     def test_parses_only_complete_lines(self) -> None:

@@ -475,5 +475,6 @@ class ParsedLines(Case):
             try:
                 result: object = parse_subtitles(lines)
             except Stop as reason:
-                result = str(reason)
-            self.must(f"not read: {lines}", str(result).startswith("`show` printed no "), result)
+                result = f"{reason.kind}: {reason}"
+            self.must(f"not read: {lines}", str(result).startswith("bug: `show` printed no "),
+                      result)

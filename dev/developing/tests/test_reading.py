@@ -9,7 +9,7 @@ from typing import Any
 from developing import TOOLS
 from developing.pes import decode_pts, encode_triplet, make_packet, make_pes_packet
 from subtitles.common.checks import CLOCK as CLOCK_KIND, OPTION, OUTSIDE
-from subtitles.common.times import CLOCK, TICKS
+from subtitles.common.times import CLOCK, FRAMES_OF_A_DAY, TICKS
 from subtitles.formats.layout import PLAIN, draw_text, make_page_rows
 from subtitles.formats.listing import NEVER_SENT, SUB_PAGES
 from subtitles.formats.stl_writer import StoredPage, store_page
@@ -20,9 +20,10 @@ from subtitles.judging.status import (
     AS_SHOWN, CheckSummary, DIFFERS, Grounds, NOT_READ, SAME, Severity, WITH_FAULTS, decide_reading)
 from subtitles.reading.dates import find_date
 from subtitles.reading.received import (
-    ShownPage, choose_header_option, choose_language, find_likely_errors, find_undecided_option,
-    join_late_pages, mark_cuts, prefer_option, store_pages)
+    ShownPage, choose_header_option, choose_language, find_likely_errors, find_recorded_day,
+    find_undecided_option, join_late_pages, mark_cuts, prefer_option, store_pages)
 from subtitles.results.schema import find_misfit
+from subtitles.stream.packets import PES, PacketRun, Packets
 from subtitles.stream.receiver import BLANK_PAGE, Rows
 from .bench import Case, CompletedCall
 from .streams import add_pictures, make_stream_of_pids
@@ -109,6 +110,15 @@ class ReceivedPages(Case):
                 ("a pause between others", join(2, (0, ONE), (5, BLANK), (6, TWO)),
                  [(0, 5, ONE), (5, 6, BLANK), (6, 100, TWO)])):
             self.check(name, found, expected)
+
+    def test_finds_the_day_of_a_recording(self) -> None:
+        evening, noon = FRAMES_OF_A_DAY - 100, FRAMES_OF_A_DAY // 2
+        for name, first, count, expected in (
+                ("until a frame before midnight", evening, 99, 0),
+                ("until midnight", evening, 100, noon), ("over midnight", evening, 200, noon),
+                ("from midnight on", 0, 100, 0)):
+            sent = Packets(PES, [PacketRun(0, count, TICKS * first, TICKS, "h", "")])
+            self.check(name, find_recorded_day(sent, (0, count - 1), 0), expected)
 
     def test_marks_pages_that_the_recording_cuts(self) -> None:
         rows: dict[str, tuple[list[Rows], list[str | None]]] = {
@@ -584,7 +594,9 @@ class TwoRecordings(Case):
                 ("one clock", ("b.ts", "--start", "10:00:00:00"), 64),
                 ("two clocks", ("b.ts", "--same-start", "--start", "10:00:00:00"), 64),
                 ("a layout", ("b.ts", "--layout", "up"), 64), ("no other recording", (), 64),
-                ("the same bytes", ("a.ts",), 2), ("three files", ("b.ts", "a.ts"), 64)):
+                ("the same bytes", ("a.ts",), 2), ("three files", ("b.ts", "a.ts"), 64),
+                ("an output over the reference", ("b.ts", "--json", "a.ts"), 2),
+                ("an output over the recording", ("b.ts", "--json", "b.ts"), 2)):
             call = self.tool("qc", "--reference", "a.ts", *args)
             self.must(name, call.status == status and len(call.told) == 1, call)
         self.check("no reference", self.tool("qc", "a.ts", "b.ts").status, 2)

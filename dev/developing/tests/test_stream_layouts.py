@@ -68,7 +68,8 @@ BROADCASTER_LAYOUTS = [
     (False, False, "before=070B0B"), (False, False, "before=*0B0B"), (False, False, "free=2"),
     (False, False, "fit"), (True, True, "strip=0A0B0D,before=0D070B0B,after=0A,double,pack"),
     (False, False, "before=0D*0B0B,white,double,last,text"), (False, False, "up"),
-    (True, False, "row=-1,double,last"), (False, False, "left=2,right=3")]
+    (True, False, "row=-1,double,last"), (False, False, "left=2,right=3"),
+    (False, False, "after=0A0A0A0A")]
 
 
 def encode_printed_text(printed: str) -> bytes:

@@ -10,6 +10,7 @@ from typing import Callable, Iterable, Sequence
 from developing.multiplex import ADAPTATION_ALONE, PACKET, make_packet_header
 from developing.pes import make_packet, make_pes_packet
 from subtitles.common.command_line import ProgramInterrupted
+from subtitles.common.program import TOP, read
 from subtitles.common.times import CLOCK, TICKS
 from subtitles.formats.teletext import Page
 from subtitles.stream.packets import GapMarker, PCRStep, PacketRun, Packets, PageChange, Texts
@@ -269,6 +270,17 @@ class Listings(Case):
                   "announce 257 888 656e67 2", "teletext 257"]
         for name, (data, lines) in rows.items():
             self.check(name, self.lines_of(data), [*tables, *lines.split("; ")])
+
+    def test_the_manual_states_the_order_of_gap_and_seam(self) -> None:
+        two_ts_packets_each = [make_pes_packet(FIRST_PTS + TICKS * at, [CLOSING] * 4)
+                               for at in range(3)]
+        data = build_teletext(two_ts_packets_each,
+                              lambda packets: [*packets[:2], *announce_jump_in_second(packets[2:])])
+        first, second = (line.split(" ")[0] for line in self.lines_of(data)
+                         if line.startswith(("gap ", "seam ")))
+        manual = " ".join((read(os.path.join(TOP, "docs", "manual", "survey.md")) or "").split())
+        self.must("order", first != second and f"also a `gap`, the `{first}` comes first." in manual,
+                  (first, second))
 
     def test_ends_pictures_with_group_and_pictures(self) -> None:
         tables = ["size 188", "programme 1 512", "stream 512 2", "stream 257 6",
