@@ -14,8 +14,8 @@ from typing import Any
 from developing.pes import make_packet
 from subtitles.cli.measure import (
     Delays, LateCue, MAX_EXAMPLES, find_sent_options, format_name_lines, list_refused,
-    list_separate_cues, measure_delays, measure_recording, propose_keeping, propose_lateness, propose_option,
-    remove_unusual)
+    list_separate_cues, measure_delays, measure_recording, propose_keeping, propose_lateness,
+    propose_option, remove_unusual)
 from subtitles.common.command_line import MAX_WITHIN
 from subtitles.common.times import TICKS
 from subtitles.formats.stl import Subtitle

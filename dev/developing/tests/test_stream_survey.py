@@ -279,8 +279,8 @@ class Listings(Case):
         first, second = (line.split(" ")[0] for line in self.lines_of(data)
                          if line.startswith(("gap ", "seam ")))
         manual = " ".join((read(os.path.join(TOP, "docs", "manual", "survey.md")) or "").split())
-        self.must("order", first != second and f"also a `gap`, the `{first}` comes first." in manual,
-                  (first, second))
+        self.check("lines", {first, second}, {"gap", "seam"})
+        self.must("the manual", f"also a `gap`, the `{first}` comes first." in manual, first)
 
     def test_ends_pictures_with_group_and_pictures(self) -> None:
         tables = ["size 188", "programme 1 512", "stream 512 2", "stream 257 6",
