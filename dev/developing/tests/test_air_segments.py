@@ -65,6 +65,7 @@ JOINT_CASES = {
     "it stalled, and no counters are in the tables": (900.5, 900.5, "0-10 18-20", "0-20"),
     "the second is cut, and starts later": (900.5, 930.3, "0-10 18-20", "0-10 18-20"),
     "the first is too short to tell": (3.5, 3.5, "0-10 18-20", "0-10 18-20"),
+    "it stalled, and the PCR goes back": (900, 900, "0-10 18-20", "0-10 18-20"),
 }
 
 # Segments, each with begin, end, the time in its TDT, if any, and ! as above; and the expected jump
@@ -135,7 +136,8 @@ class Segments(AirCase):
                  "tables": b"".join(
             packet[:3] + b"\x10" + packet[4:] if packet[1] in (0x40, 0x41) else packet
             for packet in packets), "jump": feed[:700 * 188] + later[700 * 188:],
-            "PID": b"".join(packet for packet in packets if packet[1] not in (0x40, 0x41))}
+            "PID": b"".join(packet for packet in packets if packet[1] not in (0x40, 0x41)),
+            "back": later[:900 * 188] + feed[900 * 188:]}
         for name, (end, begin, text, expected) in JOINT_CASES.items():
             for size in (188, 192, 204):
                 data = change_packet_size(feeds.get(name.split()[-1], feed), size)

@@ -488,6 +488,7 @@ class Pages(Case):
         page = collection.make_index_page(self.folder, rows, "now").decode()
         self.must("counts", page.count("5 pairs: 1 accepted, 1 lost, 1 not judged, 1 refused, "
                                        "1 waived") == 2, page[:900])
+        self.must("pairs by cause", "<b>6</b> cause 6 in 1 pair; " in page, page)
         with mock.patch.object(collection, "MAX_PAGE_PAIRS", 2):
             short_page = collection.make_index_page(self.folder, rows, "now").decode()
         self.must("the worst two", "only the worst 2 of 5 pairs" in short_page and

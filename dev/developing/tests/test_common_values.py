@@ -149,6 +149,8 @@ class FileNames(Case):
         later.set_subtitle_file(self.write("a.stl", b"one"))
         self.must("as it is", later.make_part_paths(1).program_stl == later.program_stl ==
                   self.path("a.stl"))
+        later.set_subtitle_file(self.path("a.stl"), is_moved=True)
+        self.check("moved", later.make_part_paths(1).moved_stl, "out/one.midnight.copy")
         own = os.fsdecode(os.fsencode(self.path("caf")) + b"\xe9")
         self.write(own, b"two")
         for _ in range(2):

@@ -18,6 +18,7 @@ from subtitles.air.recorder import MAX_DELETED_SEGMENTS
 from subtitles.air.segments import MAX_SEGMENT_SECONDS
 from subtitles.air.state import PAGE_SILENCE, SILENCE, Monitor
 from subtitles.air.status import CRITICAL, OK
+from subtitles.cli.batch import SCAN_SECONDS
 from subtitles.cli.main import make_parser
 from subtitles.cli.state import MIN_FREE_BYTES
 from subtitles.clock.stretches import MIN_BREAK_FRAMES, MIN_MATCHING_CUES
@@ -29,11 +30,12 @@ from subtitles.common.times import EARLY_TICKS, FRAMES_A_SECOND, FRAMES_OF_A_DAY
 from subtitles.formats.layout import COLUMNS, LAST_ROW, PLAIN, find_column
 from subtitles.formats.listing import (
     ENDS_FILE, ENDS_READING, FAULTS_WITH_CAUSE, LOST_PACKETS, SILENT, SKIPPED_PACKETS,
-    STL_FAULTS)
+    STL_FAULTS, read_meanings)
 from subtitles.formats.midnight import MIN_STEP_BACK
 from subtitles.formats.stl import COMMENT as MAX_COMMENT_FLAG, MAX_STL, TEXT
 from subtitles.formats.stl_writer import MAX_BLOCKS, RIGHT
 from subtitles.formats.teletext import OPTION_WORDS, OPTIONS as NATIONAL_OPTIONS
+from subtitles.judging.sentence import FAULT_CLAUSES
 from subtitles.judging.status import (
     ACCEPTED, FAULT_NUMBERS, NOT_JUDGED, READING_STATUSES, RELATIVE, STATUSES, STATUS_ORDER,
     Severity)
@@ -307,6 +309,8 @@ BREAK_SECONDS = NUMBER_WORDS[MIN_BREAK_FRAMES // FRAMES_A_SECOND]
 PAGE_COLUMNS, PAGE_ROWS = map(int, re.findall(r"rows: \[\[u8; (\d+)\]; (\d+)\]", read(
     os.path.join(TOP, "crates", "ttx_page", "src", "page.rt")) or "")[0])
 PES_BYTES = read_constant("sub_listing/copying", "PES_PACKET_CAPACITY")
+with open(os.path.join(TOP, "dist", "subttx"), "rb") as released_program:
+    GLIBC_MINOR = max(map(int, re.findall(rb"GLIBC_2\.(\d+)", released_program.read())))
 LOST_UNSEEN = read_constant("ts_survey/packets_in_step", "LOSS_SIZE_IN_PACKETS")
 DEFAULTS = {option.name: option.default for option in OPTIONS}
 FINAL = {*STATUSES.values()} - {STATUSES[NOT_JUDGED]}
@@ -357,6 +361,8 @@ STATED: list[tuple[str, str, object]] = [
     ("manual/air.md", "`silence`: no byte for {:.0f} seconds", SILENCE),
     ("manual/air.md", "`page 888`: no header of a page in the schedule for {:.0f} minutes",
      PAGE_SILENCE / 60),
+    ("../README.md", "x86-64-v2, glibc 2.{} and Python", GLIBC_MINOR),
+    ("MANUAL.md", "with glibc 2.{}, and Python", GLIBC_MINOR),
     ("../README.md", "are `--page 888`, `--option {}`", DEFAULTS["--option"]),
     ("../README.md", "and `--every {}` (frames)", DEFAULTS["--every"]),
     ("../README.md", "| {} | status 0, but you gave no clock", STATUSES[RELATIVE]),
@@ -369,6 +375,10 @@ STATED: list[tuple[str, str, object]] = [
     ("manual/qc.md", "It covers faults {}, but neither", join_numbers(WAIVABLE)),
     ("manual/qc.md", "and {} consecutive cues", NUMBER_WORDS[MIN_MATCHING_CUES]),
     ("manual/qc.md", "A layout needs {} subtitles", NUMBER_WORDS[MIN_SUBTITLES]),
+    ("manual/qc.md", "A PTS may be {} of a frame early, or almost three quarters of a frame late.",
+     {0.25: "a quarter"}[EARLY_TICKS / TICKS]),
+    ("manual/many-pairs.md", "for the folder IN, not for a list, every {}.",
+     {1.0: "second"}[SCAN_SECONDS]),
     ("manual/qc.md", "for more than {} s, subtitles were sent", MAX_HOLE // 90_000),
     ("manual/refusals.md", "The list ends early at faults {}.",
      join_numbers(ENDS_FILE | ENDS_READING)),
@@ -464,6 +474,7 @@ FAULT_WORDS = {
     74: "break|during a subtitle|alone|ends so", 79: "pace|PES packets are more|waived?",
     90: "standard output|OUT"}
 FAULT_MENTION = re.compile(r"\bfault (\d+)\b")
+FIELD = re.compile(r"\b(?:C\d+|X/\d+|TC[IO]|DFC|DSC|CCT|EBN|CS|CF|JC|VP|SGN|SN)\b")
 SENTENCE_END = re.compile(r"(?<=[.?:])\s|\|\n|\n- |\n\n")
 OPTION_NAME = re.compile(r"(?<![\w-])--[a-z][a-z-]*")
 # Options of other programs that the documents mention.
@@ -487,6 +498,11 @@ class StatedFacts(Case):
                 for number in FAULT_MENTION.findall(sentence):
                     self.must(f"{os.path.relpath(path, TOP)}: fault {number}", re.search(
                         FAULT_WORDS.get(int(number), "(?!)"), sentence) is not None, sentence)
+
+    def test_a_fault_has_the_same_fields_in_the_manual_and_in_its_sentence(self) -> None:
+        for number, row in read_meanings().items():
+            if clause := FAULT_CLAUSES.get(number):
+                self.check(f"{number}", {*FIELD.findall(row.meaning)}, {*FIELD.findall(clause)})
 
     def test_the_verdict_table_has_each_status(self) -> None:
         rows = re.findall(r"^\| `([a-z ]+)` \|.*\| (\d)[^|]*\|$",

@@ -1,7 +1,6 @@
 """Test the scripts of the gate: what they count, and what they must not count as passed."""
 from __future__ import annotations
 
-import io
 import contextlib
 import io
 import os
@@ -15,6 +14,7 @@ from typing import Any
 from developing.proved import (
     Crates, ProvedProgram, find_crates_without_line, format_proved, list_crate_sums)
 from developing.shown import has_expected_status
+from developing.surveying.streams import make_random_recording
 from subtitles.common.command_line import Stop
 from subtitles.common.program import TOP, read
 from .bench import Case, get_tool_path, import_script
@@ -202,6 +202,18 @@ class FailedChecks(Case):
             self.check(f"{name}: {last}", (process.status, last.endswith(", 0 failed")),
                        (1, False))
 
+    def test_check_readme_accepts_only_commands_with_a_verdict(self) -> None:
+        for status in (0, 1, 2, 3, 64, 70):
+            steps = import_script("check-readme").CloneCommands(self.folder)
+            with contextlib.redirect_stdout(io.StringIO()):
+                steps.check_command(f"exit {status}", "out")
+            self.check(f"status {status}", steps.failed == 0, status in (0, 1, 3))
+
+    def test_check_survey_compares_the_status(self) -> None:
+        program = self.write_program("other", "#!/bin/sh\nexit 3\n")
+        self.check("lines", import_script("check-survey").printed(
+            program, make_random_recording(1)), ["status 3"])
+
     def test_check_tools_says_at_once_what_it_runs(self) -> None:
         name = "test_dev_gate.Counts"
         process = self.tool("check-tools", "--jobs", "3", "-p", self.bench.program, name)
@@ -222,7 +234,7 @@ class NewMachines(Case):
 
     def test_check_program_says_what_it_runs_and_last_what_was_skipped(self) -> None:
         script = import_script("check-program")
-        self.patch_script(script)
+        self.patch_script(script, 0, "skipped: units, since it is night\n2 passed, 0 failed\n")
         with contextlib.redirect_stdout(io.StringIO()) as out:
             script.main(["-p", self.bench.program])
         first, *lines = out.getvalue().splitlines()
@@ -231,10 +243,17 @@ class NewMachines(Case):
         self.check("last lines", lines[-2:], ["skipped: units, since it is night",
                                               "3 passed, 0 failed"])
 
-    def patch_script(self, script: Any) -> None:
-        """Let check-program run a script that skips a test, and compare no examples."""
-        process = subprocess.CompletedProcess(
-            [], 0, "skipped: units, since it is night\n2 passed, 0 failed\n")
+    def test_check_program_counts_a_script_that_crashes_as_failed(self) -> None:
+        script = import_script("check-program")
+        for status in (0, 1, -9):
+            self.patch_script(script, status, "running\n")
+            with contextlib.redirect_stdout(io.StringIO()) as out:
+                self.check("status", script.main(["-p", self.bench.program]), 1)
+            self.check("last line", out.getvalue().splitlines()[-1], "1 passed, 1 failed")
+
+    def patch_script(self, script: Any, status: int, printed: str) -> None:
+        """Let check-program run a script that prints a text, and compare no examples."""
+        process = subprocess.CompletedProcess([], status, printed)
         for name, value in {"SCRIPTS": ["check-live"], "run": lambda *_: process,
                             "compare_examples": lambda _: (1, 0)}.items():
             patch = unittest.mock.patch.object(script, name, value)

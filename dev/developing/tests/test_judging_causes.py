@@ -366,6 +366,14 @@ ROWS_BY_HAND = {
 
 
 class CausesByHand(unittest.TestCase):
+    def test_keeps_the_first_of_several_wrong_frames(self) -> None:
+        causes: Any = SimpleNamespace(
+            finder=SimpleNamespace(find_text_in_pause=lambda *_: None),
+            first_wrong_frames={}, cause_by_index={0: None})
+        for span in (Span(10, 12), Span(20, 21)):
+            Causes.add_span(causes, 0, span)
+        self.assertEqual(causes.first_wrong_frames, {0: 10})
+
     def test_finds_the_causes_derived_by_hand(self) -> None:
         for name, (subtitles, sent, expected) in ROWS_BY_HAND.items():
             times = [[int(frame) for frame in item.split()[0].split("-")]

@@ -363,7 +363,7 @@ class Profiles(Case):
             lines = self.profile(stl, self.write("one.pes", join_pes_packets(sent)))
             self.check(f"{name}: proposed", [line for line in lines
                                              if line.startswith("--layout")], [])
-            for part in (printed, "The nearest, ", against):
+            for part in (printed, "The nearest, ", against, "# against it: 7 more"):
                 self.must(f"{name}: {part}", any(part in line for line in lines), lines)
 
     def test_names_a_subtitle_with_another_layout(self) -> None:

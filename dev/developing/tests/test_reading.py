@@ -8,11 +8,11 @@ from typing import Any
 
 from developing import TOOLS
 from developing.pes import decode_pts, encode_triplet, make_packet, make_pes_packet
-from subtitles.common.checks import CLOCK as CLOCK_KIND, OPTION, OUTSIDE
+from subtitles.common.checks import CLOCK as CLOCK_KIND, OPTION, OUTSIDE, PHRASES
 from subtitles.common.times import CLOCK, FRAMES_OF_A_DAY, TICKS
 from subtitles.formats.layout import PLAIN, draw_text, make_page_rows
 from subtitles.formats.listing import NEVER_SENT, SUB_PAGES
-from subtitles.formats.stl_writer import StoredPage, store_page
+from subtitles.formats.stl_writer import StoredPage, make_gsi_block, store_page
 from subtitles.formats.teletext import (
     CROATIAN, ENGLISH, FRENCH, GERMAN, OPTIONS, NationalOption)
 from subtitles.judging.cues import CERTAIN, NOT_CERTAIN
@@ -66,6 +66,9 @@ class StoredPages(Case):
                 ("double height in row 23", page((23, b"\x0d\x0ba")), ENGLISH,
                  "row 23 has double height (0D)")):
             self.check(name, store_page(rows, option), expected)
+
+    def test_counts_blocks_before_subtitles(self) -> None:
+        self.check("TNB and TNS", make_gsi_block(b"", 5, 3)[238:248], b"0000500003")
 
     def test_draws_each_stored_character_as_its_code(self) -> None:
         for option in OPTIONS:
@@ -239,6 +242,8 @@ class Decisions(Case):
 OTHER_OPTION = make_packet(0, 0, [8, 8, 0, 8, 0, 8, 1, 8], b" " * 32)  # German
 RESERVED_OPTION = make_packet(0, 0, [8, 8, 0, 8, 0, 8, 1, 14], b" " * 32)
 OTHER_SUBCODE = make_packet(0, 0, [8, 8, 1, 8, 0, 8, 1, 0], b" " * 32)
+NEXT_PAGE = make_packet(0, 0, [9, 8, 0, 8, 0, 8, 1, 0], b" " * 32)
+KEEPING_HEADER = make_packet(0, 0, [8, 8, 0, 0, 0, 8, 1, 0], b" " * 32)  # C4 clear
 ROW = make_numbered_row(22, b"Good evening.")
 # M/29: region 1, so that receivers above level 1 show other characters
 OTHER_SET = make_packet(0, 29, [0], b"") + encode_triplet(0x400) + encode_triplet(0) * 12
@@ -352,11 +357,21 @@ class WholeCalls(Case):
             line = result["reason"] or result["line"].partition(": ")[2]
             has_begin = line == begin if "not checked" in begin else line.startswith(begin)
             self.must(name, call.status == status == result["status"] and has_begin, call)
+            self.check(f"{name}: the sentence", PHRASES[OPTION] in result["sentence"],
+                       line.endswith("option"))
         self.send(*row_24)
         self.read("sent.pes")
         result = self.result()
         self.check("counts", [result["subtitles"], result["subtitle_counts"],
                               result["reading"]["shown"]], [[], {"judged": 0, "refused": 1}, 1])
+
+    def test_has_the_worst_status_of_all_pages(self) -> None:
+        self.send((0, [HEADER, ROW, NEXT_PAGE, ROW, CLOSING]),
+                  (25, [KEEPING_HEADER, ROW, NEXT_PAGE, ROW, CLOSING]),
+                  (50, [HEADER, NEXT_PAGE, CLOSING]))
+        status = self.read("sent.pes").status
+        self.check("statuses", (status, self.result("888")["status"], self.result("889")["status"]),
+                   (1, 1, 0))
 
     def test_names_pes_packets_before_the_first_header(self) -> None:
         self.send((0, [CLOSING]), (25, [CLOSING]), (30, [HEADER, CLOSING]), (50, [HEADER, CLOSING]))

@@ -1,10 +1,12 @@
 """Compare a report page that contains all kinds of details with its expected text."""
 from __future__ import annotations
 
+import collections
 import dataclasses
 import itertools
 import re
 from typing import Any
+from unittest import mock
 
 from developing.pes import make_pes_packet
 from subtitles.clock.start import ESTIMATED_NOTE, GIVEN, RECORDING
@@ -14,6 +16,7 @@ from subtitles.common.times import TICKS
 from subtitles.formats.listing import NamedFault
 from subtitles.formats.stl import Subtitle
 from subtitles.judging.coverage import UNCHECKED_GAP
+from subtitles.judging.part import Part
 from subtitles.judging.status import REFUSED
 from subtitles.judging.transmissions import ExpectedPages
 from subtitles.judging.unchecked import MISSING_TEXTS
@@ -114,3 +117,8 @@ class CompletePage(Case):
         verdict.parts = [dataclasses.replace(part, severity=make_severity("68 warning"))
                          for part in verdict.parts]
         self.check("waived", [*report_page.list_waived(verdict)], ["68 Parity (4)"])
+        view = report_page.PartView(verdict, self.verdict("r").parts[0])
+        for count, words in ((0, ""), (1, " (1 waived)"), (2, " (waived)")):
+            with mock.patch.object(Part, "waived_counts", collections.Counter({68: count})):
+                table = markup_text(view.make_fault_table())
+            self.must(f"{count} of 2", f">68 Parity{words}</th>" in table, table)

@@ -9,7 +9,7 @@ from developing.stl import make_gsi_block
 from subtitles.common.times import Span, TICKS, format_frame
 from subtitles.formats.stl import NamedSubtitle, Subtitle, SubtitleFile
 from subtitles.judging.causes import Cause, LATE, NEVER, NOT_RECEIVED, UNKNOWN_CAUSE, WRONG_TEXT
-from subtitles.judging.cues import Cue, CueJudge, CueVerdict, add_decoded_page
+from subtitles.judging.cues import Cue, CueJudge, CueVerdict, SubtitleFaults, add_decoded_page
 from subtitles.judging.status import (
     ACCEPTED, AS_SHOWN, DIFFERS, LOST, NOT_JUDGED, NOT_READ, REFUSED, RELATIVE, SAME, VALID, WAIVED,
     WARNED, WITH_FAULTS)
@@ -168,6 +168,12 @@ class CueVerdicts(Case):
             verdict = CueJudge(part).judge(cue)
             self.check(f"{span}", (verdict.word, verdict.doubt), (
                 word, "not received completely" if word == "not known" else ""))
+
+    def test_waives_a_refused_subtitle_only_if_all_its_faults_are_waived(self) -> None:
+        part: Any = SimpleNamespace(is_error=lambda fault: fault.number == 52)
+        for numbers, expected in (((50,), True), ((52,), False), ((50, 52), False)):
+            faults = [parse_single_fault(f"refused {number} X block 1 at 0") for number in numbers]
+            self.check(f"{numbers}", SubtitleFaults(None, faults).is_waived(part), expected)
 
     def test_explains_why_a_subtitle_is_not_known(self) -> None:
         # Trusted frames, first frame and end of the decoded page, and the reason.

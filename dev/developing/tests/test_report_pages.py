@@ -4,12 +4,14 @@ from __future__ import annotations
 import itertools
 import re
 import unittest
+from types import SimpleNamespace
 from typing import Any
 
 from subtitles.formats.teletext import ENGLISH
 from subtitles.report.pictures import (
     CellStyle, BLANK_PAGE_ROWS, find_differences, draw_row, draw_outlines, is_boxed, draw_picture,
     find_used_rows, style_row)
+from subtitles.report.timeline import Lanes
 from subtitles.stream.receiver import BLANK_PAGE, HIT, OLD, Rows
 from .bench import Case, get_example_path
 from .parts import markup_text
@@ -103,6 +105,11 @@ class Drawings(unittest.TestCase):
         self.assertIn('<rect class="hit" x="49" y="1" width="22" height="13"/>', marked)
         self.assertEqual([is_boxed(bytes([8, 8, 0, 0, 0, bits, 1, 0])) for bits in (0, 4, 8, 12)],
                          [False, True, True, True])
+
+    def test_draws_each_mark_of_the_timeline_to_its_end(self) -> None:
+        lanes: Any = SimpleNamespace(compute_x=float)
+        text = markup_text(Lanes.draw_lane(lanes, "fault", "", [(0, 100), (10, 20), (200, 200)]))
+        self.assertEqual(re.findall(' d="([^"]*)"', text), ["M0 0H100V10H0zM200 0H202V10H200z"])
 
     def test_frames_neighbouring_cells_once(self) -> None:
         rows: list[tuple[list[tuple[int, int]], list[int], int]] = [

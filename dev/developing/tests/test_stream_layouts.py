@@ -142,6 +142,22 @@ class LayoutSearch(Case):
             self.must(text, result.as_sent == result.total == len(sent) and result.is_clear
                       and compute_complexity(result.layout) <= compute_complexity(layout), result)
 
+    def test_finds_that_a_full_row_has_no_codes_after_its_text(self) -> None:
+        layout, sent = Layout(fit=True), list[SentSubtitle]()
+        for text in (b"%02d" % at + b"x" * size for at in range(12) for size in (9, 36)):
+            lines = draw_text(text, 20, 2, layout, ENGLISH)
+            assert isinstance(lines, list)
+            sent.append(SentSubtitle(text, 20, 2, make_page_rows(lines)))
+        self.check("layout", choose_layouts(sent, ENGLISH)[1][:3], (layout, 24, 24))
+
+    def test_finds_the_left_margin_of_lines_without_justification(self) -> None:
+        layout, sent = Layout(left=4), list[SentSubtitle]()
+        for text in (b"%02d" % at + b"x" * at for at in range(12)):
+            lines = draw_text(text, 20, 0, layout, ENGLISH)
+            assert isinstance(lines, list)
+            sent.append(SentSubtitle(text, 20, 0, make_page_rows(lines)))
+        self.check("layout", choose_layouts(sent, ENGLISH)[1][:3], (layout, 12, 12))
+
     def test_a_wrong_page_shows_no_layout(self) -> None:
         sent = programme(False, False, Layout(text=True))
         wrong = sent[20]._replace(rows=tuple(row.replace(b"e", b"c") for row in sent[20].rows))

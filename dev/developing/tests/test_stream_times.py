@@ -9,7 +9,7 @@ from types import SimpleNamespace
 from typing import Any, Iterator, Sequence
 
 from subtitles.clock.start import find_frame_offset, find_largest_offset
-from subtitles.clock.stretches import MIN_BREAK_FRAMES, MIN_GAP_FRAMES, Stretch, split_at_breaks
+from subtitles.clock.stretches import MIN_BREAK_FRAMES, Stretch, split_at_breaks
 from subtitles.common.times import (
     CLOCK, EARLY_TICKS, FRAMES_OF_A_DAY, NO_FRAME, Spans, TICKS, compute_frame, find_frame_of_day,
     find_frames_of_day, join_spans, pts_of, subtract_origin, subtract_pts, subtract_pts_within,
@@ -228,7 +228,7 @@ class ClockTables(unittest.TestCase):
         for tracks, ends in (
                 ([(0, 0)], [9]), ([(0, 0), (0, -five)], [9, 18]), ([(0, 0), (0, 1 - five)], [18]),
                 ([(0, 0), (0, -1)], [18]), ([(0, 0), (0, 1)], [18]),
-                ([(0, 0), (0, MIN_GAP_FRAMES - 1)], [18]), ([(0, 0), (0, MIN_GAP_FRAMES)], [9, 18]),
+                ([(0, 0), (0, 1499)], [18]), ([(0, 0), (0, 1500)], [9, 18]),
                 ([(0, 0), (1, 1)], [9, 18]), ([(0, 0), (1, -1)], [9, 18]),
                 ([(0, 0), (0, -five), (0, -2 * five)], [9, 18, 27]),
                 ([(0, 0), (0, -75), (0, -150)], [27]),  # two delays of three seconds each
