@@ -146,8 +146,9 @@ class Verdicts(Case):
     def test_lists_each_part_whose_clock_was_estimated(self) -> None:
         for sources, expected in (([GIVEN], []), ([RECORDING], [1]), ([GIVEN, RECORDING], [2]),
                                   ([RECORDING, GIVEN], [1])):
-            verdict = make_part_verdict([make_part(0, 9, 0, number=number, source=source, pes=(0, 9))
-                                         for number, source in enumerate(sources, 1)])
+            verdict = make_part_verdict([
+                make_part(0, 9, 0, number=number, source=source, pes=(0, 9))
+                for number, source in enumerate(sources, 1)])
             self.check(f"{sources}", [item.part for item in verdict.list_unchecked()
                                       if item.kind == CLOCK_KIND], expected)
 
