@@ -1,6 +1,8 @@
 """Test the places of losses, the option --pace, and reading lists of specifications."""
 from __future__ import annotations
 
+import contextlib
+import io
 import itertools
 import os
 from typing import Optional, Tuple
@@ -16,7 +18,7 @@ from subtitles.stream.survey import ProgramMap, Survey
 from ..cited import find_long_readings
 from ..definitions import Library, count_lines_to_read
 from ..promises import list_indexed_clauses, find_unknown_clauses
-from .bench import Case
+from .bench import Case, import_script
 from .parts import make_example_request
 
 
@@ -202,6 +204,13 @@ class ReadingLists(Case):
             result = " ".join(f"{item.file.crate}.{item.name}"
                               for item in them.sort_highest_first(name))
             self.must(name, result == want, result)
+
+    def test_prints_the_names_of_std(self) -> None:
+        them = library(self)
+        with contextlib.redirect_stdout(io.StringIO()) as out:
+            import_script("reading-list").print_external_names(them, them.list_reading("total")[1])
+        self.check("printed", out.getvalue(),
+                   "== types of the code\n\n== names of std\nℕ ◌+◌\n\n")
 
     def test_limits_the_lines_to_read(self) -> None:
         library(self)
