@@ -91,7 +91,7 @@ JUMP_CASES = {
     "the TDT jumps where segments overlap by a second": ("0..10:0 9..19:130", ""),
     "where they overlap more": ("0..10:0 8..18:128", "-120 at 8"),
     "the TDT jumps back": ("0..10:600 !20..30:0", ""),
-    "the TDT stands": ("0..10:0 !100..110:0", ""),
+    "the TDT stands still": ("0..10:0 !100..110:0", ""),
     "the TDT is a day ahead": ("0..10:0 !10..20:86410", ""),
     "the TDT is almost a day ahead": ("0..10:0 !10..20:86409", "-86399 at 10"),
     "no TDT for two segments": ("0..10:0 10..20 !20..30 30..40:150", "-120 at 20"),
