@@ -75,8 +75,9 @@ abbrev pub newly_reported_head : Bool → List ℕ → Bool → List (List ℕ)
 newly_reported_head before bytes after = if before then [] else head_texts_if_received after
     (take head_size bytes)
 
--- When the kind of a recording was determined and memory did not run out, exactly these lines were
--- printed: `survey 1` and `head`, unless they were printed before, and the lines of that kind.
+-- Bytes of a recording of unknown kind were examined; the kind may still be unknown afterwards. If
+-- memory did not run out, exactly these lines were printed: `survey 1` and `head`, if enough bytes
+-- were received and unless they were printed before, and the lines of the kind.
 pub record FindsKind (old : Recording) (bytes : List ℕ) (before after : Text) (new : Recording)
     : Type 0 where
   pub reported :

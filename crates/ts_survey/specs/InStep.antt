@@ -94,8 +94,9 @@ pub record TakesAll
       → items_from (bytes_of new.size) new.in_step (drop (used + new.lead) bytes) ≡ []
 
 -- Bytes that arrive in two calls are processed as in one call, if the unprocessed rest of the first
--- part is put before the second part. So the output does not depend on the parts in which a
--- recording arrives.
+-- part is put before the second part. So the packets and gaps that are processed do not depend on
+-- the parts in which a recording arrives. The output does: a run of PES packets ends if no more
+-- data is available for now.
 abbrev pub LawOfTwoCalls : {T : Type 0} → (T → List ℕ → T → Type 0) → Type 0
 LawOfTwoCalls {T} IsTaken =
     (old mid new : PacketsInStep) (before reported after : T) (bytes more : List ℕ) (is_end : Bool)

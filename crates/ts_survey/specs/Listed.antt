@@ -21,8 +21,9 @@ use Rattle.ts_survey.specs.declared.text.Text.{Text}
 
 -- ---- the requested options
 
--- If the recording is a transport stream, it has the requested packet size, the requested PID and
--- pages are followed, and no other PID is followed.
+-- If the recording is a transport stream, it has the requested packet size, if any; its state
+-- contains the requested PID, if any, and the requested pages; and if a PID is requested, no other
+-- PID is followed.
 abbrev pub IsAsRequested : SurveyOptions → Kind → Type 0
 IsAsRequested options (Stream packets multiplex) =
     (IfSome options.packet_size (λ size. packets.size ≡ size))

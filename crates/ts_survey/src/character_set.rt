@@ -85,8 +85,9 @@ fn data_bits(word: u32) -> u32
     word / 4 % 2 + word / 0x10 % 8 * 2 + word / 0x100 % 0x80 * 0x10 + word / 0x1_0000 % 0x80 * 0x800
 }
 
-// Returns the character set in the bits of triplet 1. Returns `None` if the page function in the
-// bits is not the function of pages that are shown.
+// Returns the character set in the bits of triplet 1, or `Some(None)` if they cannot be decoded.
+// Returns `None` for a packet 28 whose page function is not that of pages that are shown. In a
+// packet 29 the page function does not matter.
 fn set_from_triplet(number: u8, bits: Option<u32>) -> Option<Option<u32>>
     ensures { result ≡ specs.set_from_triplet number bits }
 {
@@ -101,7 +102,9 @@ fn set_from_triplet(number: u8, bits: Option<u32>) -> Option<Option<u32>>
     }
 }
 
-// Returns the designation of a packet, and its character set.
+// Returns the designation and the character set of a packet 29, or of a packet 28 after a header of
+// the page. Returns `None` for other packets, other designations than 0 and 4, and for a packet 28
+// with another page function.
 fn set_of_packet(packet: &Packet, number: u8, is_requested_page: bool) -> Option<(u8, Option<u32>)>
     ensures { result ≡ specs.set_of_packet number is_requested_page packet.now }
 {

@@ -1,5 +1,6 @@
 //! Laws of `survey`: the receiver of a PID gets exactly the data in the PID's packets, and the
-//! output does not depend on the parts in which a recording arrives.
+//! packets and gaps that are processed do not depend on the parts in which a recording arrives. The
+//! output does: a run of PES packets ends if no more data is available for now.
 //!
 //! The functions do nothing: the contract of each function is a law about the definitions in
 //! `specs/`.

@@ -23,7 +23,7 @@ pub struct PesLines {
     frame: PesFrame,
     count: u64,
     gap_markers: u64,
-    // The PTS of the last PES packet.
+    // The PTS of the last PES packet that has a PTS.
     last: Option<u64>,
 }
 
@@ -80,7 +80,7 @@ impl PesLines {
         self.gap_markers
     }
 
-    /// Returns the PTS of the last PES packet.
+    /// Returns the PTS of the last PES packet that has a PTS.
     pub fn last(&self) -> Option<u64> {
         self.last
     }
@@ -130,7 +130,7 @@ impl PesLines {
         }
     }
 
-    /// Prints the runs of PES packets, if any.
+    /// Prints the runs of PES packets, if any, and ends them.
     pub fn flush(&mut self, text: &mut Text)
         ensures { self.new.count ≡ self.old.count }
     {
@@ -145,7 +145,8 @@ impl PesLines {
         text.put(b"\n");
     }
 
-    /// Prints a gap marker with the numbers of lost and of scrambled packets.
+    /// Prints and ends the runs of PES packets, if any, and prints a gap marker with the numbers of
+    /// lost and of scrambled packets.
     pub fn gap_marker(&mut self, lost: u64, scrambled: u64, text: &mut Text)
         ensures { self.new.count ≡ saturating_count self.old.count 1 }
     {
@@ -184,8 +185,8 @@ fn begin_packet(pages: &mut Vec<PageLines>, fault: u16, has_pts: bool) {
     }
 }
 
-// Passes a Teletext packet to the receivers of all pages. Returns the packet's header of any page,
-// if it has one.
+// Passes a Teletext packet to the receivers of all pages. Returns the packet's header, which may be
+// of any page. Returns `None` if the packet has no header or if no page is followed.
 fn hear_packet(pages: &mut Vec<PageLines>, packet: &Packet, text: &mut Text) -> Option<Header> {
     let mut header = None;
     for page in pages.iter_mut() {

@@ -40,7 +40,7 @@ pub struct PidState {
     pub first: u64,
     pub last: u64,
     /// The PCR_PID of the programme whose PMT named this PID last, and the stream_type in that PMT;
-    /// 0 if no PMT named it.
+    /// `NULL_PID` and 0 if no PMT named it.
     pub clock_pid: u16,
     pub kind: u8,
     /// The number of the packet in which that PMT ended; 0 if no PMT named this PID.
@@ -135,7 +135,8 @@ fn note_jump(state: &mut PidState, packet: &[u8; PACKET]) {
     }
 }
 
-// Returns whether the counter of a packet counts: the packet is usable and has a payload.
+// Returns whether the counter of a packet counts: the packet has a payload, and its
+// transport_error_indicator is clear. It may be scrambled.
 #[inline(always)]
 fn is_counted(packet: &[u8; PACKET]) -> bool {
     packet[1] < 0x80 && has_payload(packet)

@@ -22,14 +22,14 @@ use std::alloc::Global;
 /// The number of first bytes of a recording that are printed.
 const HEAD: usize = 11;
 
-/// The number of bytes that are examined together to detect the packet size. `MAX_INSPECTED_BYTES`
-/// limits how many bytes are examined in all.
+/// Up to so many bytes, and one read more, are examined together to detect the packet size. The
+/// search ends once more than `MAX_INSPECTED_BYTES` were examined in all.
 const INSPECTED_BYTES: usize = 65_536;
 
 const MAX_INSPECTED_BYTES: u64 = 0x100_0000;
 
-// The number of last bytes that are examined again, if no packet size was found in the bytes.
-// Packets may begin in these bytes.
+// The number of last bytes that are examined again, if no packet size was found in more than
+// `INSPECTED_BYTES`. Packets may begin in these bytes.
 const RETAINED_BYTES: usize = 1024;
 
 /// The kind of a recording.
@@ -103,7 +103,8 @@ impl Recording {
         ensures unknown { is_unknown self.new.kind ≡ true → text.new ≡ text.old }
         ensures known { is_end ≡ true → self.new.out_of_memory ≡ false
             → is_unknown self.new.kind ≡ false }
-        // The first bytes of the recording are printed once, when all of them have arrived.
+        // The first bytes of the recording are printed once, when all of them have arrived, or at
+        // the end of a recording that has fewer.
         ensures stays { self.old.has_head ≡ true → self.new.has_head ≡ true }
         ensures is_waiting { is_unknown self.new.kind ≡ true → self.new.has_head ≡ false
             → result ≡ 0 }

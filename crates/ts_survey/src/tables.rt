@@ -84,7 +84,8 @@ fn append_to_section(received: &mut Section, bytes: &[u8]) {
     let _ = received.try_extend_from_slice(bytes);
 }
 
-// Returns whether the next byte is stuffing, FF in place of a table_id.
+// Returns whether the next byte is stuffing, FF in place of a table_id, and at least three bytes
+// were received.
 fn has_stuffing(received: &[u8]) -> bool {
     received.len() >= 3 && received[0] == 0xFF
 }
