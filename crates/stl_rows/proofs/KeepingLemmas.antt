@@ -207,7 +207,7 @@ is_followed (Some times) left = is_followed_in_order times left
 -- before its TCI or overlaps it, followed by the reliable subtitles of the rest.
 abbrev pub judged_with_kept : Drawing → Option Times → KeptRecords → Findings → ReliableSubtitles
 judged_with_kept drawing before k left =
-    if k.was_last_kept && not (is_followed before left)
+    if k.compares_with_last_kept && not (is_followed before left)
     then joined (take (length k.records - 1) (all_kept k)) (judged_after drawing before true left)
     else joined (all_kept k) (judged_after drawing before k.is_before_unreliable left)
 
@@ -226,9 +226,9 @@ pub judged-end : (drawing : Drawing) (before : Option Times) (k : KeptRecords)
     → judged_with_kept drawing before k no_more
     ≡ record { judged = all_kept k; is_before_unreliable = k.is_before_unreliable }
 unfolding judged_after
-judged-end drawing None k = appending_empty_changes_nothing k.was_last_kept k.is_before_unreliable
-    (all_kept k) _
-judged-end drawing (Some times) k = appending_empty_changes_nothing k.was_last_kept
+judged-end drawing None k = appending_empty_changes_nothing k.compares_with_last_kept
+    k.is_before_unreliable (all_kept k) _
+judged-end drawing (Some times) k = appending_empty_changes_nothing k.compares_with_last_kept
     k.is_before_unreliable (all_kept k) _
 
 pub judged-refused : (drawing : Drawing) (before : Option Times) (k : KeptRecords)
@@ -332,7 +332,7 @@ judging_drops_reported_subtitle : (drawing : Drawing) (before : Option Times) (k
     → in_order ≡ is_none (first_of (order_faults before (times_of t)))
     → judged_with_kept drawing before k (finds t block left)
     ≡ judged_with_kept drawing (Some (times_of t))
-    (if k.was_last_kept && not in_order then after_faulty_subtitle (without_last_kept k)
+    (if k.compares_with_last_kept && not in_order then after_faulty_subtitle (without_last_kept k)
     else after_faulty_subtitle k) left
 judging_drops_reported_subtitle drawing before k t block left in_order some is =
     grind (
@@ -480,7 +480,7 @@ module _ {drawing : Drawing} {before : Option Times} {early : List LoadFault} {k
   kept-next in_order false is_clean subtitle =
       dropping_faulty_subtitle_matches
       (early ++ map (load_fault block) (faults_of_next_subtitle drawing before t))
-      (k.was_last_kept && not in_order)
+      (k.compares_with_last_kept && not in_order)
       (added_faults_have_first early block (faults_of_next_subtitle drawing before t)
       (sym is_clean))
 

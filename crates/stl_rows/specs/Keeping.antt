@@ -19,7 +19,7 @@ pub record KeptRecords : Type 0 where
   pub records : List SubtitleValue
   pub after_unreliable_bits : List Bool
   pub is_before_unreliable : Bool
-  pub was_last_kept : Bool
+  pub compares_with_last_kept : Bool
 
 -- The state of loading before the first subtitle.
 abbrev pub no_subtitles_yet : KeptRecords
@@ -28,7 +28,7 @@ no_subtitles_yet =
       records = [];
       after_unreliable_bits = [];
       is_before_unreliable = false;
-      was_last_kept = false;
+      compares_with_last_kept = false;
     }
 
 -- The kept subtitles, each with its bit: whether an unreliable subtitle directly precedes it.
@@ -58,7 +58,7 @@ after_kept_subtitle t k = record {
   after_unreliable_bits = bits_with_next (length k.records) k.is_before_unreliable
       k.after_unreliable_bits;
   is_before_unreliable = false;
-  was_last_kept = true;
+  compares_with_last_kept = true;
 }
 
 -- The state after a rejected subtitle. The times of the next subtitle are not compared with the
@@ -68,7 +68,7 @@ after_rejected_subtitle k = record k { is_before_unreliable = true }
 
 -- The state after a subtitle with a fault, which is not kept.
 abbrev pub after_faulty_subtitle : KeptRecords → KeptRecords
-after_faulty_subtitle k = record k { is_before_unreliable = true; was_last_kept = false }
+after_faulty_subtitle k = record k { is_before_unreliable = true; compares_with_last_kept = false }
 
 -- The state without the last kept subtitle, which is not reliable.
 abbrev pub without_last_kept : KeptRecords → KeptRecords
@@ -83,7 +83,8 @@ without_last_kept k = record k {
 abbrev pub records_after_subtitle : Bool → Bool → SubtitleValue → KeptRecords → KeptRecords
 records_after_subtitle in_order clean t k =
     if clean then after_kept_subtitle t k
-    else if k.was_last_kept && not in_order then after_faulty_subtitle (without_last_kept k)
+    else if k.compares_with_last_kept && not in_order
+    then after_faulty_subtitle (without_last_kept k)
     else after_faulty_subtitle k
 
 -- ---- the kept subtitles at the end of the file

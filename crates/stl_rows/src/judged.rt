@@ -72,7 +72,7 @@ impl JudgedProgramme {
             subtitles,
             after_unreliable_bits,
             is_before_unreliable,
-            was_last_kept: _,
+            compares_with_last_kept: _,
         } = kept;
         JudgedProgramme {
             programme: Programme::of(drawing, subtitles),

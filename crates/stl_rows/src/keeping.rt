@@ -28,7 +28,7 @@ pub struct KeptSubtitles<A: Allocator + Copy> {
     // Whether an unreliable subtitle follows the last kept subtitle.
     pub(crate) is_before_unreliable: bool,
     // Whether the times of the next subtitle are compared with the times of the last kept subtitle.
-    pub(crate) was_last_kept: bool,
+    pub(crate) compares_with_last_kept: bool,
 }
 
 impl<A: Allocator + Copy> Model for KeptSubtitles<A> {
@@ -40,7 +40,7 @@ impl<A: Allocator + Copy> Model for KeptSubtitles<A> {
       records = k.subtitles;
       after_unreliable_bits = k.after_unreliable_bits.items;
       is_before_unreliable = k.is_before_unreliable;
-      was_last_kept = k.was_last_kept;
+      compares_with_last_kept = k.compares_with_last_kept;
     } };
 }
 
@@ -84,7 +84,7 @@ impl<A: Allocator + Copy> KeptSubtitles<A> {
             subtitles: StoredSubtitles::new(alloc),
             after_unreliable_bits: Vec::new(alloc),
             is_before_unreliable: false,
-            was_last_kept: false,
+            compares_with_last_kept: false,
         }
     }
 
@@ -107,7 +107,7 @@ impl<A: Allocator + Copy> KeptSubtitles<A> {
             return Err(LoadFaultKind::Memory);
         };
         self.is_before_unreliable = false;
-        self.was_last_kept = true;
+        self.compares_with_last_kept = true;
         Ok(())
     }
 
@@ -136,11 +136,11 @@ impl<A: Allocator + Copy> KeptSubtitles<A> {
         if clean {
             return self.push(subtitle);
         }
-        if self.was_last_kept && !in_order {
+        if self.compares_with_last_kept && !in_order {
             self.remove_last();
         }
         self.is_before_unreliable = true;
-        self.was_last_kept = false;
+        self.compares_with_last_kept = false;
         Ok(())
     }
 
@@ -184,7 +184,7 @@ impl<A: Allocator + Copy> KeptSubtitles<A> {
             subtitles,
             after_unreliable_bits: _,
             is_before_unreliable: _,
-            was_last_kept: _,
+            compares_with_last_kept: _,
         } = self;
         subtitles
     }
