@@ -148,8 +148,9 @@ drawn_by national items t =
 unfoldable pub drawn : Drawing → SubtitleValue → Result Rows RowFault
 drawn drawing t = drawn_by drawing.national (items_of_layout drawing.layout) t
 
--- The default layout draws a subtitle plainly: each line is in a box of its own, one row below the
--- line before. So a layout changes nothing if each of its items has the default value.
+-- If VP is at least 1, the default layout draws a subtitle plainly: each line is one row below the
+-- line before, and gets a box if it has cells but no start box. So a layout changes nothing if each
+-- of its items has the default value.
 abbrev pub LawOfDefaultLayout : Type 0
 LawOfDefaultLayout =
     (national : National) (t : SubtitleValue)

@@ -20,9 +20,9 @@ abbrev pub drawn_or_blank : Drawing → Option SubtitleValue → Rows
 drawn_or_blank drawing None = blank
 drawn_or_blank drawing (Some t) = result_unwrap_or (drawn drawing t) blank
 
--- The expected page at a frame: the drawn page of the subtitle that is due at the frame, or blank
--- if no subtitle is due. If subtitles do not overlap (`AreInOrder`), at most one is due at each
--- frame.
+-- The expected page at a frame: the drawn page of the first subtitle in the list that is due at the
+-- frame; blank if no subtitle is due, or if that subtitle cannot be drawn. If subtitles do not
+-- overlap (`AreInOrder`), at most one is due at each frame.
 unfoldable pub due : Drawing → List SubtitleValue → ℕ → Rows
 due drawing records frame = drawn_or_blank drawing (find (is_due frame) records)
 
@@ -30,8 +30,9 @@ due drawing records frame = drawn_or_blank drawing (find (is_due frame) records)
 abbrev pub ends_at : ℕ → SubtitleValue → Bool
 ends_at frame t = t.tco == frame
 
--- The TCI of the subtitle whose TCO is the frame; `None` if no subtitle ends at the frame. If
--- subtitles do not overlap (`AreInOrder`), at most one subtitle ends at each frame.
+-- The TCI of the first subtitle in the list whose TCO is the frame; `None` if no subtitle ends at
+-- the frame. If subtitles are valid (`IsSubtitle`) and do not overlap (`AreInOrder`), at most one
+-- subtitle ends at each frame.
 unfoldable pub tci_of_subtitle_ending_at : List SubtitleValue → ℕ → Option ℕ
 tci_of_subtitle_ending_at records frame = option_map (λ t. t.tci) (find (ends_at frame) records)
 

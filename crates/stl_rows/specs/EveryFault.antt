@@ -37,7 +37,8 @@ faults_after drawing before (finds t block more) =
     map (load_fault block) (faults_of_next_subtitle drawing before t)
     ++ faults_after drawing (Some (times_of t)) more
 
--- All faults of a subtitle file, in the order of the file's blocks.
+-- The faults of a subtitle file that is read within the drawing's scope, in the order of the file's
+-- blocks. Of the faults of drawing a subtitle, only the first counts.
 unfoldable pub faults : Drawing → List ℕ → List LoadFault
 faults drawing file = faults_after drawing None (findings_within_scope drawing.scope file)
 
@@ -100,8 +101,9 @@ ends_in_subtitle _ = false
 abbrev pub is_reported_before : ℕ → LoadFault → Bool
 is_reported_before block fault = nat_lt fault.block block && not (ends_in_subtitle fault.kind)
 
--- The source failed at `block`, the block of the first byte that could not be read, and exactly the
--- faults before that block were reported.
+-- The reports before a failure of the source at `block`. If the source's bytes are known, `block`
+-- is the block of the first byte that was not read, and exactly the faults found before that block
+-- were reported. That the source failed is not part of this definition.
 pub record FailsReporting
     {D : Type 0} (drawing : Drawing) (old new : Option (List ℕ))
     (IsReported : D → LoadFault → D → Type 0) (reported_old reported_new : D) (block : ℕ)
@@ -129,8 +131,9 @@ EndsSubtitleAfter drawing before reported at (finds t block more) =
     × (reported ≡ map (load_fault block) (faults_of_next_subtitle drawing before t) ++ rest)
     × EndsSubtitleAfter drawing (Some (times_of t)) rest at more)
 
--- Memory could not be allocated for the subtitle that ends at `block`. The subtitle has no fault,
--- and exactly the faults before it were reported.
+-- The reports before memory runs out at `block`: a subtitle without faults ends at this block, and
+-- exactly the faults before that subtitle were reported. That memory ran out is not part of this
+-- definition.
 pub record RunsOutOfMemory
     {D : Type 0} (drawing : Drawing) (file : List ℕ) (IsReported : D → LoadFault → D → Type 0)
     (old new : D) (block : ℕ)

@@ -1,9 +1,10 @@
--- The reliable subtitles of a file that also has other subtitles, and the frames at which the
--- expected page is unknown.
+-- The reliable subtitles of a file, which may also have other subtitles, and the frames at which
+-- the expected page is unknown.
 --
--- A subtitle is reliable if it has no fault and the next subtitle is in order with it. The times of
--- all other subtitles are not used: between the last reliable subtitle before them and the next
--- reliable subtitle, any page may be expected.
+-- A subtitle is reliable if it has no fault and the next subtitle that is not rejected, if any, is
+-- in order with it. The times of any other subtitle decide at most whether its neighbours are
+-- reliable: between the last reliable subtitle before it and the next reliable subtitle, any page
+-- may be expected.
 use Rattle.std.specs.Prelude.{◌≡◌, ℕ, Bool, false, true, ◌&&◌, ◌||◌, nat_le, nat_lt, List, [], ◌∷◌}
 use Rattle.std.specs.Prelude.{if◌then◌else◌, is_none, map, Option, Some, None, All, IsOk, Ok, ◌⊎◌}
 use Rattle.std.specs.List.{list_any}
@@ -31,7 +32,7 @@ pub record ReliableSubtitles : Type 0 where
   pub is_before_unreliable : Bool
 
 -- The next subtitle in the file that is not rejected starts neither before the TCI of `times` nor
--- before the TCO.
+-- before the TCO. Also true if no such subtitle follows.
 abbrev pub is_followed_in_order : Times → Findings → Bool
 is_followed_in_order times no_more = true
 is_followed_in_order times (breaks fault block) = true
@@ -45,8 +46,8 @@ with_judged_in_front j all =
     record { judged = j ∷ all.judged; is_before_unreliable = all.is_before_unreliable }
 
 -- The reliable subtitles of the rest of a file, after a subtitle with the times `before`. `other`:
--- an unreliable subtitle follows the last reliable one. A subtitle is reliable if it has no fault
--- and the next subtitle is in order with it.
+-- an unreliable subtitle was found after the last reliable one. A subtitle is reliable if it has no
+-- fault and the next subtitle that is not rejected, if any, is in order with it.
 unfoldable pub judged_after : Drawing → Option Times → Bool → Findings → ReliableSubtitles
 judged_after drawing before other no_more = record { judged = []; is_before_unreliable = other }
 judged_after drawing before other (breaks fault block) =
@@ -60,7 +61,7 @@ judged_after drawing before other (finds t block more) =
     (judged_after drawing (Some (times_of t)) false more)
     else judged_after drawing (Some (times_of t)) true more
 
--- The reliable subtitles of a whole file.
+-- The reliable subtitles of a file that is read within the drawing's scope.
 unfoldable pub reliable_subtitles_of : Drawing → List ℕ → ReliableSubtitles
 reliable_subtitles_of drawing file =
     judged_after drawing None false (findings_within_scope drawing.scope file)
@@ -93,9 +94,9 @@ can_judge drawing file =
 
 -- ---- frames with an unknown expected page
 
--- The frame is in a gap between two reliable subtitles that contains an unreliable subtitle.
--- `start` is the TCO of the subtitle before the list; after the last subtitle, the gap lasts to the
--- end of the day.
+-- The frame is in a gap before, between or after the reliable subtitles in the list, and the gap
+-- contains an unreliable subtitle (for the last gap: `other`). The first gap begins at `start`,
+-- which is the TCO of the subtitle before the list, or 0 if there is none; the last gap has no end.
 abbrev pub is_undecided_from : ℕ → List ReliableSubtitle → Bool → ℕ → Bool
 is_undecided_from start [] other frame = nat_le start frame && other
 is_undecided_from start (j ∷ js) other frame =

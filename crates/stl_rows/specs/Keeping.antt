@@ -1,4 +1,5 @@
--- The state of loading a file: the reliable subtitles among those read so far.
+-- The state of loading a file: the subtitles kept so far. Each is reliable; the last only if the
+-- next subtitle that is not rejected, if any, is in order with it.
 use Rattle.std.specs.Prelude.{ℕ, ◌-◌, Bool, true, false, not, ◌&&◌, ◌||◌, if◌then◌else◌, List, []}
 use Rattle.std.specs.Prelude.{◌∷◌, ◌++◌, length, take, replicate, ◌≡◌, ◌⊎◌, Option, Some, None}
 use Rattle.std.specs.Prelude.{Result, Ok, Err}
@@ -45,8 +46,9 @@ judged_value_of drawing k = record {
 
 -- ---- the effect of the next subtitle
 
--- The bits of the kept subtitles after adding the bit of subtitle number n. Missing bits are filled
--- with false.
+-- The bits of the kept subtitles after adding the bit `other` of the subtitle with the index n,
+-- counted from 0. A true bit is added after filling missing bits with false; a false bit changes
+-- nothing.
 abbrev pub bits_with_next : ℕ → Bool → List Bool → List Bool
 bits_with_next n other bits =
     if other then take n bits ++ (replicate (n - length bits) false ++ true ∷ []) else bits
@@ -77,9 +79,9 @@ without_last_kept k = record k {
   after_unreliable_bits = take (length k.records - 1) k.after_unreliable_bits;
 }
 
--- The state after the next subtitle. `clean`: the subtitle has no fault. `in_order`: its times are
--- in order with the times of the previous subtitle; if they are not, the previous subtitle is not
--- reliable either.
+-- The state after the next subtitle. `clean`: the subtitle has no fault, so it is kept. `in_order`:
+-- its times are in order with the times of the previous subtitle. If neither holds, the previous
+-- subtitle is not kept either.
 abbrev pub records_after_subtitle : Bool → Bool → SubtitleValue → KeptRecords → KeptRecords
 records_after_subtitle in_order clean t k =
     if clean then after_kept_subtitle t k
@@ -109,7 +111,7 @@ is_checkable k = are_all_kept k || (has_any_subtitle (all_kept k) && are_in_orde
 -- can be checked against them, and all faults of the file were reported. With `None`: the receiver
 -- of the reports stopped them, or a transmission cannot be checked; all faults were reported, or
 -- those up to the stop. With `Memory`: the faults before the subtitle for which memory could not be
--- allocated were reported.
+-- allocated were reported. Another error requires nothing here.
 abbrev pub LoadsAll : {D : Type 0}
     → Drawing → List ℕ → (D → LoadFault → D → Type 0) → D → D → Bool
     → Result (Option KeptRecords) LoadFault → Type 0

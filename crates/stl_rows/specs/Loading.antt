@@ -59,33 +59,35 @@ abbrev pub EndsFaultlessSubtitle : Drawing → List ℕ → ℕ → Type 0
 EndsFaultlessSubtitle drawing file at = EndsFaultlessAfter drawing None at
     (findings_within_scope drawing.scope file)
 
--- The meaning of an error of `load`. `Memory`: a subtitle ends at the block, and no fault comes up
--- to that block. `Read`: the source failed, which is no fault of the file. Any other error is the
--- first fault of the file.
+-- The meaning of an error of `load` for the bytes of the file. `Memory`: a subtitle ends at the
+-- block, and no fault comes up to that block. `Read`: nothing is required, since a failure of the
+-- source is no fault of the file. Any other error is the first fault of the file.
 abbrev pub IsErrorOfLoad : Drawing → List ℕ → ℕ → LoadFaultKind → Type 0
 IsErrorOfLoad drawing file block (File Read) = ⊤
 IsErrorOfLoad drawing file block Memory = EndsFaultlessSubtitle drawing file block
 IsErrorOfLoad drawing file block kind = loaded_programme drawing file ≡ Err (load_fault block kind)
 
--- No fault of the file comes before this block. If a file ends within a subtitle, the fault has the
--- number of the last complete block, but is found only when the next block is read.
+-- No fault of the file comes before this block, except `Unfinished`: if a file ends within a
+-- subtitle, the fault has the number of the last complete block, but is found only when the next
+-- block is read.
 abbrev pub NoFaultBefore : Drawing → List ℕ → ℕ → Type 0
 NoFaultBefore drawing file block =
     (fault : LoadFault)
     → loaded_programme drawing file ≡ Err fault
     → (fault.kind ≡ File Unfinished) ⊎ (block ≤ fault.block)
 
--- The source failed at `block`, the block of the first byte that could not be read. A fault in the
--- bytes before would have been returned instead.
+-- The place of a failure of the source. If the source's bytes are known, `block` is the block of
+-- the first byte that was not read, and no fault comes before that block, since it would have been
+-- returned instead. That the source failed is not part of this definition.
 pub record FailsLoading (drawing : Drawing) (old new : Option (List ℕ)) (block : ℕ) : Type 0 where
   pub bytes : List ℕ
   pub consumed : Consumes old new bytes
   pub block_eq : block ≡ block_of_byte (length bytes)
   pub none : IfKnown old (λ all. NoFaultBefore drawing all block)
 
--- Bytes are loaded as a programme if and only if they are a subtitle file whose subtitles do not
--- overlap and can all be drawn, and the programme consists of these subtitles. So `load` accepts
--- each such file, unless memory cannot be allocated or the source fails.
+-- Bytes are loaded as a programme if and only if they are a subtitle file whose subtitles within
+-- the scope do not overlap and can all be drawn, and the programme consists of these subtitles. So
+-- `load` accepts each such file, unless memory cannot be allocated or the source fails.
 abbrev pub LawOfLoading : Type 0
 LawOfLoading =
     (drawing : Drawing) (s : List ℕ) (ts : List SubtitleValue)

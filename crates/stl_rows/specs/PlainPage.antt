@@ -1,5 +1,5 @@
 -- The drawn page of a subtitle with the default layout, or the first fault of drawing: each line is
--- in a box of its own, one row below the line before.
+-- one row below the line before, and gets a box if it has cells but no start box.
 use Rattle.std.specs.Prelude.{ℕ, ◌+◌, ◌-◌, Bool, false, ◌&&◌, List, [], ◌∷◌, ◌++◌, Result, Ok, Err}
 use Rattle.std.specs.Prelude.{◌==◌, nat_lt, if◌then◌else◌, map, length, slice_index_or}
 use Rattle.std.specs.List.{range_with_len}

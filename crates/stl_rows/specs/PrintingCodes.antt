@@ -1,4 +1,5 @@
--- No layout changes the printable characters of a text, their order, or the cells between them.
+-- No layout that draws a text changes its printable characters or their order. Of the cells between
+-- them, a layout removes only those that `strip` names.
 use Rattle.std.specs.Prelude.{◌≡◌, ℕ, Bool, List, [], ◌∷◌, Ok, if◌then◌else◌, map, nat_lt}
 use Rattle.std.specs.List.{filter, flat_map}
 use Rattle.ttx_page.specs.Page.{Rows, space}
@@ -46,19 +47,20 @@ printing_codes lines = flat_map (filter is_printable_cell) lines
 -- The page has the printable characters of the text.
 pub record HasPrintingCodes (national : National) (layout : Layout) (text : List ℕ) (page : Rows)
     : Type 0 where
-  -- From top to bottom and from left to right, the printable cells of the page are the cells of the
-  -- bytes of the text in order, for every layout.
+  -- From top to bottom and from left to right, the printable cells of the page are the printable
+  -- cells of the text in order, for every layout. Spaces and spacing attributes are left out.
   pub printing_codes : printing_codes page ≡ printing_codes
       (lines_of_codes (text_codes national 0 text))
   -- Two printable characters are in the same row if and only if no new line is between their bytes.
-  -- Between two characters in the same row are the cells that the text has between them, without
-  -- the cells of bytes that `strip` names.
+  -- Between two printable characters in the same row are the cells that the text has between them,
+  -- without the cells of bytes that `strip` names.
   pub lines :
       printed_lines page
       ≡ printed_lines (lines_of_codes (codes_by_layout national (items_of_layout layout) text))
 
 -- A layout that draws a subtitle adds, changes, loses or reorders no printable characters. So a
--- layout can change only rows, columns and spacing attributes, or prevent the drawing by a fault.
+-- layout can change only rows, columns, spaces and spacing attributes, or prevent the drawing by a
+-- fault.
 abbrev pub LawOfPrintingCodes : Type 0
 LawOfPrintingCodes =
     (national : National) (layout : Layout) (t : SubtitleValue) (page : Rows)

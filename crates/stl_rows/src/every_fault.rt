@@ -36,7 +36,7 @@ use stl_file::{Found, ResumingReader, Scope, StlFault, Subtitle};
 use sub_io::{ReportSink, Source, Stopped};
 
 /// Loads the reliable subtitles of an STL file, and reports every fault of the file to
-/// `report_sink`, which may stop the reports.
+/// `report_sink`, which may stop the reports. Subtitles outside the scope are skipped.
 ///
 /// The faults are reported by block, until `report_sink` stops:
 ///
@@ -47,10 +47,10 @@ use sub_io::{ReportSink, Source, Stopped};
 /// - `File` for the fault that ends reading.
 ///
 /// If the file has no fault, returns all its subtitles, as `load` does. Otherwise returns the
-/// subtitles that have no fault and whose successor neither starts earlier nor overlaps. Returns
-/// `None` if a transmission cannot be checked against the returned subtitles: the file was not read
-/// to its end, no subtitle is left, or a subtitle starts before an earlier one has ended. Also
-/// returns `None` if `report_sink` stops.
+/// subtitles that have no fault and are in order with the next subtitle that is not rejected, if
+/// any. Returns `None` if a transmission cannot be checked against the returned subtitles: the file
+/// was not read to its end, no subtitle is left, or a subtitle starts before an earlier one has
+/// ended. Also returns `None` if `report_sink` stops.
 ///
 /// # Errors
 ///
@@ -96,7 +96,8 @@ pub fn load_all<S: Source, D: ReportSink<LoadFault>>(
     // Faults may have been reported before an error, even if the source's bytes are unknown.
     ensures reported_before_failure { IfErr result
         (λ _. ReportsSome D.is_reported report_sink.old report_sink.new) }
-    // If the source failed, the error has the block of the byte that could not be read.
+    // If the source failed and its bytes are known, the error has the block of the byte that could
+    // not be read, and exactly the faults found before that block were reported.
     ensures read { IfErr result (λ f. is_load_read_failure f ≡ true →
         FailsReporting (drawing_within national layout scope)
         (S.remaining source.old) (S.remaining source.new)

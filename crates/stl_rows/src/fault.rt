@@ -5,8 +5,9 @@ ghost use Rattle.std.specs.Prelude.{◌≡◌};
 use stl_file::StlFault;
 use sub_io::FaultCode;
 
-/// A fault in the rows of a subtitle, which are drawn from its text, VP and JC by a layout. The
-/// order of the variants is the order of reports.
+/// A fault in the rows of a subtitle, which are drawn from its text, VP and JC by a layout. Of
+/// several faults only the first is reported: first `Character` and `Control` by byte, then the
+/// others by line, and for one line in the order of the variants.
 #[derive(Clone, Copy, Debug, PartialEq, Eq)]
 pub enum RowFaultKind {
     /// Fault code 50: a byte without a cell in the national option's character set.

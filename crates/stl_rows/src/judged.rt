@@ -1,4 +1,4 @@
-//! Programmes of the reliable subtitles of a file that also has unreliable subtitles.
+//! Programmes of the reliable subtitles of a file, which may also have unreliable subtitles.
 
 ghost use Rattle.std.specs.Prelude.{◌≡◌};
 ghost use Rattle.std.specs.List.{list_any};
@@ -13,7 +13,8 @@ use crate::programme::Programme;
 use std::alloc::Global;
 use std::marker::Model;
 
-/// The reliable subtitles of a file, and the gaps between them that contain unreliable subtitles.
+/// The reliable subtitles of a file, and the gaps before, between and after them that contain
+/// unreliable subtitles.
 ///
 /// Created by `load_all`. The model has the programme; for each of its subtitles in order, a bit
 /// that says whether an unreliable subtitle directly precedes it; and whether an unreliable
@@ -126,8 +127,8 @@ impl<'a> Judging<'a> {
         self.is_before_unreliable || has_set_bit(self.after_unreliable_bits)
     }
 
-    /// Returns whether the expected page is unknown at a frame: the frame is in a gap between
-    /// reliable subtitles that contains an unreliable subtitle.
+    /// Returns whether the expected page is unknown at a frame: the frame is in a gap before,
+    /// between or after the reliable subtitles, and the gap contains an unreliable subtitle.
     ///
     /// Uses binary search.
     pub fn is_undecided(&self, frame: u32) -> bool

@@ -1,4 +1,4 @@
-//! The reliable subtitles kept while a file is read.
+//! The subtitles kept while a file is read.
 
 ghost use Rattle.std.specs.Prelude.{◌≡◌, [], true, if◌then◌else◌, IfErr, IfSome, None, OnOk, Some};
 ghost use Rattle.stl_rows.specs.Judged.{are_in_order, judged_subtitles_with_bits};
@@ -15,15 +15,16 @@ use std::alloc::Allocator;
 use std::marker::Model;
 use stl_file::Subtitle;
 
-/// The reliable subtitles among those read so far.
+/// The subtitles kept so far. Each is reliable; the last only if the next subtitle that is not
+/// rejected, if any, is in order with it.
 ///
 /// The model has the subtitles; for each, a bit that says whether an unreliable subtitle of the
 /// file directly precedes it; and whether an unreliable subtitle follows the last.
 #[derive(Drop)]
 pub struct KeptSubtitles<A: Allocator + Copy> {
     pub(crate) subtitles: StoredSubtitles<A>,
-    // For each subtitle in order, whether an unreliable subtitle directly precedes it, up to the
-    // last bit that is set.
+    // For each subtitle in order, whether an unreliable subtitle directly precedes it. A missing
+    // bit means false.
     pub(crate) after_unreliable_bits: Vec<bool, A>,
     // Whether an unreliable subtitle follows the last kept subtitle.
     pub(crate) is_before_unreliable: bool,
@@ -95,7 +96,7 @@ impl<A: Allocator + Copy> KeptSubtitles<A> {
         self.is_before_unreliable = true;
     }
 
-    // Appends a reliable subtitle.
+    // Keeps a subtitle that has no fault.
     fn push(&mut self, subtitle: &Subtitle) -> Result<(), LoadFaultKind>
         ensures kept { OnOk result (self.new ≡ after_kept_subtitle subtitle.now self.old) }
         ensures memory { IfErr result (λ kind. kind ≡ Memory) }
@@ -120,9 +121,9 @@ impl<A: Allocator + Copy> KeptSubtitles<A> {
         self.after_unreliable_bits.truncate(left);
     }
 
-    // Processes the next subtitle of the file. `clean`: the subtitle has no fault. `in_order`: its
-    // times are in order with the times of the previous subtitle; if they are not, neither of the
-    // two subtitles is kept.
+    // Processes the next subtitle of the file. `clean`: the subtitle has no fault, so it is kept.
+    // `in_order`: its times are in order with the times of the previous subtitle. If neither holds,
+    // the previous subtitle is not kept either.
     pub(crate) fn put(
         &mut self,
         in_order: bool,

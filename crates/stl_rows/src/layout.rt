@@ -72,7 +72,8 @@ impl Attribute {
 }
 
 /// The values of a layout's items. A list of codes is filled from the front; `None` is an empty
-/// place.
+/// place. The items `before`, `after`, `white` and `trim` do not change a line that is empty or has
+/// a start box.
 #[derive(Clone, Copy, Debug)]
 pub(crate) struct LayoutItems {
     /// Layout item `strip`: whether each byte 00 to 1F of a text is dropped, so has no cell.
@@ -104,7 +105,8 @@ pub(crate) struct LayoutItems {
     pub(crate) double: bool,
     /// Layout item `pack`: whether empty lines take no row.
     pub(crate) pack: bool,
-    /// Layout item `last`: whether VP is the row of the last line.
+    /// Layout item `last`: whether the last line that isn't empty takes the row that line 0 would
+    /// have.
     pub(crate) last: bool,
     /// Layout item `row`: the number of rows that all lines are moved down; 0 if they are moved up.
     pub(crate) rows_down: u8,
@@ -152,8 +154,9 @@ impl LayoutItems {
 /// How a broadcaster draws the texts of subtitles: the codes that the inserter adds to a line, and
 /// the line's row and column.
 ///
-/// Created from a text by `parse`. By default a line has a box of its own, is one row below the
-/// line before, and all its cells count for its column. A layout allocates no memory.
+/// Created from a text by `parse`. By default a line is one row below the line before, gets a box
+/// if it has cells but no start box, and all its cells count for its column. A layout allocates no
+/// memory.
 #[derive(Clone, Copy, Debug)]
 pub struct Layout {
     // The items of the layout; `None` for the default layout.

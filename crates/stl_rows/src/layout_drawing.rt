@@ -224,7 +224,7 @@ fn draw_line(
     );
 }
 
-// Draws the lines of the cells on a blank page.
+// Draws the lines of the cells on a blank page, or returns the first fault of the lines.
 fn draw_lines(
     items: &LayoutItems,
     jc: u8,

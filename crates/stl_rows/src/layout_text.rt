@@ -313,7 +313,8 @@ impl Layout {
     /// for any other text.
     ///
     /// The items are `strip=HEX`, `before=HEX` or `before=HEX*HEX`, `after=HEX`, `fit`, `white`,
-    /// `trim`, `text`, `up`, `left=N`, `right=N`, `free=N`, `double`, `pack`, `last` and `row=N`.
+    /// `trim`, `text`, `up`, `left=N`, `right=N`, `free=N`, `double`, `pack`, `last`, and `row=N`
+    /// or `row=-N`.
     #[tactic(auto, unfolding(crate::specs::LayoutText::layout_of_text))]
     pub fn parse(text: &str) -> Option<Layout>
         ensures { result ≡ layout_of_text text.now }

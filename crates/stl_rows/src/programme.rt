@@ -1,5 +1,5 @@
 //! Programmes: subtitles without overlap, the expected page at a frame, and the cues at which the
-//! page changes.
+//! page can change.
 
 ghost use Rattle.std.specs.Prelude.{◌≡◌, ℕ, ◌-◌, ◌<◌, ◌≤◌, ◌↔◌, [], IsTrue, MatchOption, false};
 ghost use Rattle.std.specs.Prelude.{length};
@@ -24,7 +24,8 @@ use ttx_page::Page;
 
 /// Subtitles that are in order, do not overlap, and can all be drawn.
 ///
-/// Created by `load`. The model has the drawing and the list of subtitles.
+/// Created by `load`, and by `load_all` as part of a `JudgedProgramme`. The model has the drawing
+/// and the list of subtitles.
 #[derive(Drop)]
 pub struct Programme {
     drawing: Drawing,
@@ -399,7 +400,7 @@ impl Programme {
 }
 
 /// If subtitles do not overlap, the expected page at a frame is the page of the subtitle whose TCI
-/// is at or before the frame and whose TCO is after it.
+/// is at or before the frame and whose TCO is after it, or blank if that subtitle cannot be drawn.
 #[tactic(auto, using(crate::proofs::DuePageLemmas::due_subtitle_is_drawn))]
 pub fn law_of_due_subtitles()
     ensures { LawOfDueSubtitles }

@@ -1,4 +1,4 @@
-//! Finds the first fault of a subtitle's text in one pass.
+//! Finds the first fault of a subtitle's text, with the default layout in one pass.
 //!
 //! Loading a subtitle needs its faults, but not its page. So two functions read a text by the same
 //! definition: a single function would need 570 instructions in addition to the 390 for finding
