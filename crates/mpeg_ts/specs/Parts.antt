@@ -1,7 +1,7 @@
 -- Splits the good transport packets of a PID into parts with at most one PES packet each. A
--- complete part gives a PES packet, and an incomplete part gives a gap (ISO/IEC 13818-1,
--- payload_unit_start_indicator: a PES packet begins with the first byte of the payload; EN 300 472:
--- the length of a PES packet).
+-- complete part gives a PES packet, and an incomplete part gives a gap, unless the recording may
+-- end within it (ISO/IEC 13818-1, payload_unit_start_indicator: a PES packet begins with the first
+-- byte of the payload; EN 300 472: the length of a PES packet).
 use Rattle.std.specs.Prelude.{ℕ, ◌-◌, ◌&&◌, ◌||◌, not, nat_lt, nat_le, Bool, true, false}
 use Rattle.std.specs.Prelude.{if◌then◌else◌, List, [], ◌∷◌, ◌++◌, length, take, Result, Ok, Err}
 use Rattle.std.specs.List.{concat}
@@ -65,8 +65,8 @@ parts (g ∷ more) = parts_from (single_packet_part g) more
 
 -- ---- the outcomes of parts
 
--- The outcome of a part: a PES packet; a gap, if data is missing; or bytes that end the stream,
--- since their start code or length is not that of a Teletext PES packet.
+-- An outcome of a part: a PES packet; a gap, if data is missing or follows the PES packet; or bytes
+-- that end the stream, since their start code or length is not that of a Teletext PES packet.
 pub data PartOutcome : Type 0 where
   Pes : List ℕ → PartOutcome
   Gap : PartOutcome
@@ -88,7 +88,7 @@ payloads_up_to count (first ∷ more) =
     if nat_le count (length first) then first else first ++ payloads_up_to (count - length first)
     more
 
--- The outcome of a part that begins a PES packet, for the size that its first six bytes give.
+-- The outcomes of a part that begins a PES packet, for the size that its first six bytes give.
 -- `cut_off`: the recording may end within the part, so missing data is no gap.
 abbrev pub outcome_of_size : Bool → Part → Result ℕ PesFault → List PartOutcome
 outcome_of_size cut_off part (Ok size) =
@@ -97,9 +97,9 @@ outcome_of_size cut_off part (Ok size) =
     else gap_where (not cut_off)
 outcome_of_size cut_off part (Err f) = Other (payloads_up_to 6 part.payloads) ∷ []
 
--- The outcome of a part. A part is complete if it begins a PES packet and has at least as many
--- bytes as that PES packet. Bytes after the PES packet count as a gap, and so does an incomplete
--- part.
+-- The outcomes of a part. A part is complete if it begins a PES packet and has at least as many
+-- bytes as that PES packet. Bytes after the PES packet count as a gap. So does an incomplete part,
+-- unless the recording may end within it (`cut_off`).
 unfoldable pub outcome : Bool → Part → List PartOutcome
 outcome cut_off part =
     if part.begins && nat_le 6 (length (part_bytes part)) then
@@ -111,7 +111,8 @@ abbrev pub may_be_cut_off : Bool → List Part → Bool
 may_be_cut_off wrong_after [] = not wrong_after
 may_be_cut_off wrong_after (_ ∷ _) = false
 
--- The outcomes of parts. Lost data is a gap, before a part and after the last part.
+-- The outcomes of parts. Data lost before a part is a gap, and so is an unusable packet after the
+-- last part.
 unfoldable pub outcomes : Bool → List Part → List PartOutcome
 outcomes wrong_after [] = gap_where wrong_after
 outcomes wrong_after (part ∷ more) =

@@ -3,8 +3,8 @@ use Rattle.std.specs.Prelude.{◌≡◌, ℕ, Bool, true, false, List, [], Optio
 use Rattle.mpeg_ts.specs.Joining.{has_ended}
 use Rattle.mpeg_ts.specs.Stream.{StreamValue, start_of_stream}
 
--- The model of a reader of a recording: its source, the reading state, and whether it has returned
--- `Rest`.
+-- The model of a reader of a recording: its source, the reading state, and whether its last call of
+-- `next` returned `Rest`.
 pub record RecordingValue (D : Type 0) : Type 0 where
   pub device : D
   pub stream : StreamValue
@@ -18,12 +18,13 @@ recording_at_start device number distance = record {
   is_finished = false;
 }
 
--- The pending bytes do not begin with a PES packet, and no output follows them.
+-- All collected bytes are pending, and no output follows them.
 pub record IsAtRest (v : StreamValue) : Type 0 where
   pub all : v.joining.pending ≡ v.joining.bytes
   pub ended : has_ended v.joining.part ≡ true
 
--- The remaining bytes of a reader: none after it returned `Rest`, and `known_bytes` before.
+-- The remaining bytes of a reader, without a rest that it has reported: none after it returned
+-- `Rest`, and `known_bytes` before. The bytes of the rest are returned by `read_rest`.
 abbrev pub remaining_unless_over : Bool → Option (List ℕ) → Option (List ℕ)
 remaining_unless_over false known_bytes = known_bytes
 remaining_unless_over true known_bytes = option_map (λ bytes. []) known_bytes

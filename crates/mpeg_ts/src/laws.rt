@@ -7,8 +7,10 @@ pub fn law_of_stream_calls()
     ensures { LawOfStreamCalls }
 {}
 
-/// If a read fails within a PES packet of a recording, and all items before it are valid PES
-/// packets, the consumed bytes carry these packets and no further complete one.
+/// If a recording was read from its start, and the consumed bytes give no more output, the output
+/// for the recording is split at the byte where reading stopped. So if a read fails within a PES
+/// packet, and all items before it are valid PES packets, the consumed bytes carry these packets
+/// and no further complete one.
 pub fn law_of_failed_read()
     ensures { LawOfFailedRead }
 {}

@@ -20,7 +20,7 @@ pub(crate) fn packet_in_unit(bytes: &[u8], place: usize) -> &[u8; PACKET]
 }
 
 // Returns the offset after all consecutive transport packets of other PIDs from offset `from` on.
-// There follows a packet of the PID, a byte that is no sync byte, or the end of the available
+// A packet of the PID follows, a byte that is no sync byte, or fewer than `distance` available
 // bytes.
 //
 // Not inlined, for speed: most of a multiplex is skipped here, and the variables of a separate loop
@@ -74,9 +74,9 @@ pub(crate) fn is_unit_of_pid(bytes: &[u8], place: usize, distance: usize, number
     packet[0] == SYNC_BYTE && pid_of(packet) == number
 }
 
-// Returns the number of bytes before the first sync byte. When reading is out of step, no transport
-// packet begins in them. The caller must not pass the byte with which the skipped bytes become a
-// loss.
+// Returns the number of bytes before the first sync byte, or of all bytes if there is none. When
+// reading is out of step, no transport packet begins in them. The caller must not pass the byte
+// with which the skipped bytes become a loss.
 #[tactic(auto, using(crate::proofs::StreamLemmas::junk))]
 pub(crate) fn junk_size(bytes: &[u8]) -> usize
     ensures within { result ≤ length bytes.now }

@@ -26,19 +26,23 @@ use ttx_pes::{
 };
 
 /// A reader of the PES packets that the transport packets of one PID carry (ISO/IEC 13818-1). If
-/// data is missing between two PES packets, it returns a gap marker: 184 bytes that begin like a
-/// PES packet and are FF from byte 6 on (not defined by a standard).
+/// data is missing between two PES packets or after the last, it returns a gap marker: 184 bytes
+/// that begin like a PES packet and are FF from byte 6 on (not defined by a standard). It returns
+/// none if the recording merely ends within a PES packet.
 ///
 /// The reader returns a PES packet before it reads any byte after the last transport packet of that
-/// PES packet, except the first byte of the next transport packet if reading was out of step. It
+/// PES packet, with two exceptions: bytes up to the next transport packet that the source has
+/// buffered, and, if reading was out of step, the bytes up to the first byte of that packet. It
 /// returns a gap marker as soon as the gap is detected. It allocates no memory.
 ///
-/// Its model has the inner source, the reading state, and whether `Rest` was returned.
+/// Its model has the inner source, the reading state, and whether the last call of `next` returned
+/// `Rest`.
 #[derive(Drop)]
 pub struct RecordingPesPackets<S> {
     inner: S,
     stream: Stream,
-    // Whether `Rest` was returned: the remaining bytes do not begin with a PES packet.
+    // Whether the last call of `next` returned `Rest`: all collected bytes are pending, and do not
+    // begin with a PES packet, or `read_rest` has returned them.
     is_finished: bool,
 }
 
