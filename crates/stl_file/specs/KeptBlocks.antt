@@ -11,7 +11,7 @@ use Rattle.stl_file.specs.SubtitleBlocks.{IsBlock}
 use Rattle.stl_file.specs.TimeCode.{day}
 use Rattle.stl_file.specs.Tti.{ebn, is_skipped_block, last_block_ebn}
 
--- The block b, which is neither a comment nor user data, belongs to a subtitle that is not outside
+-- The block b, which is not skipped (`is_skipped_block`), belongs to a subtitle that is not outside
 -- the scope. `within` is `None` if b is the first block of a subtitle; for a later block, it says
 -- whether the first block was not outside the scope.
 abbrev pub stays : Scope → Option Bool → List ℕ → Bool
@@ -23,8 +23,8 @@ abbrev pub within_for_next_block : Scope → Option Bool → List ℕ → Option
 within_for_next_block scope within b =
     if ebn b == last_block_ebn then None else Some (stays scope within b)
 
--- The blocks of a file without the blocks of subtitles outside the scope. Comments and user data
--- stay in the list.
+-- The blocks of a file without the blocks of subtitles outside the scope. Skipped blocks, which are
+-- comments and user data, stay in the list.
 abbrev pub scope_blocks : Scope → Option Bool → List (List ℕ) → List (List ℕ)
 scope_blocks scope within [] = []
 scope_blocks scope within (b ∷ bs) =
@@ -51,9 +51,9 @@ unnumbered (breaks f block) = breaks f 0
 unnumbered (finds s block more) = finds s 0 (unnumbered more)
 unnumbered (refuses f block more) = refuses f 0 (unnumbered more)
 
--- Reading a file within a scope gives the same results as reading, for the whole day, the file
--- without the blocks of the subtitles outside the scope. So a part of a file can be checked without
--- cutting it out.
+-- If no fault ends the reading of a file within a scope, the results are, apart from block numbers,
+-- those of reading, for the whole day, the file without the blocks of the subtitles outside the
+-- scope. So a part of a file can be checked without cutting it out.
 abbrev pub LawOfScope : Type 0
 LawOfScope =
     (scope : Scope) (gsi : List ℕ) (blocks : List (List ℕ))

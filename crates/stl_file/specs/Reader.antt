@@ -94,7 +94,8 @@ LastIsSubtitleBlock bytes =
 
 -- ---- the bytes that a call of a reader consumes
 
--- The list of blocks has a last block, and the last block is neither user data nor a comment.
+-- The list of blocks has a last block, and the last block is not skipped: it is neither user data
+-- nor a comment, except that a comment may have a reserved EBN.
 abbrev pub EndsWithSubtitleBlock : List (List ℕ) → Type 0
 EndsWithSubtitleBlock [] = ⊥
 EndsWithSubtitleBlock (b ∷ []) = is_subtitle_block b ≡ true
@@ -121,8 +122,8 @@ pub record ConsumesSkippedBlocks (from to : ℕ) (old new : Option (List ℕ)) :
   pub ended : IsAtEnd new
 
 -- No subtitle file continues with the bytes consumed after `from` TTI blocks, where a subtitle may
--- begin. For faults of a truncated file, no file ends with these bytes at this position. `to` is
--- the block of the last byte consumed.
+-- begin. A fault of a truncated file (`is_cut`) means only that no file ends with these bytes at
+-- this position. `to` is the block of the last byte consumed.
 pub record Refuses (from to : ℕ) (old new : Option (List ℕ)) (f : StlFault) : Type 0 where
   pub bytes : List ℕ
   pub consumed : Consumes old new bytes
@@ -161,9 +162,10 @@ pub record FailsReading
   pub none : (more : List ℕ) → FindsFrom to (findings_from scope from refused (bytes ++ more))
 
 -- The bytes that a call consumes, by the call's result. For a subtitle: its blocks, with the
--- skipped blocks before and inside them. For `None`: only skipped blocks. For a fault of the
--- format: bytes with which no file continues. If the source failed, the failure was at block `to`.
--- Before the call, `from` blocks were read, and the next block begins a subtitle.
+-- skipped blocks before and inside them. For `None`: only skipped blocks, up to the end of the
+-- file. For a fault of the format: bytes with which no file continues, or, for a truncated file,
+-- ends. If the source failed, the failure was at block `to`. Before the call, `from` blocks were
+-- read, and the next block begins a subtitle.
 abbrev pub ConsumesByResult :
     ℕ → ℕ → Option (List ℕ) → Option (List ℕ) → Result (Option SubtitleValue) StlFault → Type 0
 ConsumesByResult from to old new (Ok (Some s)) = ConsumesSubtitle from to old new s
@@ -195,8 +197,8 @@ checked_gsi_of_file takes_open s =
 abbrev pub open_result : List ℕ → Result ReaderValue StlFault
 open_result s = reader_after_gsi (checked_gsi_of_file false s)
 
--- No file within the scope begins with the bytes consumed. For faults of a truncated file, no file
--- consists of exactly these bytes.
+-- No file within the scope begins with the bytes consumed. A fault of a truncated file (`is_cut`)
+-- means only that no file consists of exactly these bytes.
 pub record RefusesOpeningFor (scope : Scope) (old new : Option (List ℕ)) (f : StlFault) : Type 0
   where
     pub bytes : List ℕ
@@ -209,8 +211,8 @@ pub record RefusesOpeningFor (scope : Scope) (old new : Option (List ℕ)) (f : 
         → IsFileFor scope (bytes ++ more) g ts
         → ⊥
 
--- No file for Teletext begins with the bytes consumed. For faults of a truncated file, no file for
--- Teletext consists of exactly these bytes.
+-- No file for Teletext begins with the bytes consumed. A fault of a truncated file means only that
+-- no file for Teletext consists of exactly these bytes.
 abbrev pub RefusesOpening : Option (List ℕ) → Option (List ℕ) → StlFault → Type 0
 RefusesOpening old new f = RefusesOpeningFor whole old new f
 

@@ -29,8 +29,8 @@ pub record StartedSubtitle : Type 0 where
   pub blocks : ℕ
   pub is_skipped : Bool
 
--- The effect of a block. `More`: the subtitle continues, or no subtitle has begun. `Yield`: the
--- block was the last block of this subtitle.
+-- The effect of a block. `More`: the current subtitle continues, or, if it is `None`, no subtitle
+-- has begun. `Yield`: the block was the last block of this subtitle, which is not skipped.
 pub data BlockStep : Type 0 where
   More : Option StartedSubtitle → BlockStep
   Yield : SubtitleValue → BlockStep
@@ -88,7 +88,7 @@ skipped_after_first_block b = if ebn b == last_block_ebn then None else Some
     (skipped_subtitle_from b)
 
 -- The effect of a block of a subtitle: its first block, or a later block of the current subtitle.
--- The first block of a subtitle outside the scope is not checked.
+-- `first_block_checks` does not apply to a subtitle outside the scope.
 unfoldable pub subtitle_block_step : Scope → Option StartedSubtitle → List ℕ → Result BlockStep
     StlFault
 subtitle_block_step scope None b =

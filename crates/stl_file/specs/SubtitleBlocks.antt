@@ -61,8 +61,8 @@ pub record AreBlocksOf (s : SubtitleValue) (bs : List (List ℕ)) : Type 0 where
   pub linked : AreLinked s.sgn s.sn bs
   pub text_eq : s.text ≡ flat_map text_of_block bs
 
--- The list has 1 to 9 blocks, and they are the blocks of one subtitle outside the scope. Of the
--- fields only the TCI of the first block is checked.
+-- The list has 1 to 9 blocks, and they are the blocks of one subtitle outside the scope. Besides
+-- SGN, SN, EBN and CF of each block, only the TCI of the first block is checked.
 pub record AreOutside (scope : Scope) (bs : List (List ℕ)) : Type 0 where
   pub first : List ℕ
   pub others : List (List ℕ)
@@ -71,9 +71,10 @@ pub record AreOutside (scope : Scope) (bs : List (List ℕ)) : Type 0 where
   pub linked : AreLinked (sgn first) (sn first) bs
   pub outside : begins_outside scope first ≡ true
 
--- The blocks bs, at most `most`, contain the subtitles ts. Without comments and user data, bs
--- consists of one group of blocks per subtitle. A group outside the scope only has to be linked;
--- the groups inside the scope are the blocks of the subtitles ts, in order.
+-- The blocks bs, at most `most`, contain the subtitles ts. Without skipped blocks, which are
+-- comments and user data, bs consists of one group of blocks per subtitle. A group outside the
+-- scope only has to be linked and to have at most nine blocks; the groups inside the scope are the
+-- blocks of the subtitles ts, in order.
 pub record AreSubtitleBlocks (scope : Scope) (most : ℕ) (bs : List (List ℕ))
     (ts : List SubtitleValue) : Type 0 where
   pub each : AllByRecursion IsBlock bs

@@ -24,7 +24,7 @@ pub enum StlFault {
     Extension,
     /// Fault code 16: CS of a subtitle's first block is not 0; cumulative sets are not supported.
     Cumulative,
-    /// Fault code 17: CF of a TTI block is neither 0, subtitle, nor 1, comment.
+    /// Fault code 17: CF of a TTI block, except user data, is neither 0, subtitle, nor 1, comment.
     CommentFlag,
     /// Fault code 18: JC of a subtitle's first block is greater than 3.
     Justify,

@@ -9,8 +9,8 @@ ghost use Rattle.stl_file.specs.Subtitle.{SubtitleValue};
 ghost use Rattle.stl_file.specs.KeptBlocks.{LawOfWholeDay, LawOfScope};
 ghost use Rattle.stl_file.specs.declared.scope.Scope.{Scope};
 
-/// Bytes are a file with certain subtitles if and only if reading these bytes returns exactly these
-/// subtitles and no fault.
+/// Within a scope, bytes are a file with a certain GSI block and certain subtitles if and only if
+/// they begin with this block, and reading them returns exactly these subtitles and no fault.
 ///
 /// So the definition of a file determines which subtitles a reader returns, and whether it reports
 /// a fault.
@@ -22,9 +22,9 @@ pub fn law_of_files()
         ↔ ((g ≡ take 1024 s) × (subtitles_of (stopped (findings_within_scope scope s)) ≡ Ok ts)) }
 {}
 
-/// Reading a file with a scope gives the same results as reading, for the whole day, the file
-/// without the blocks of subtitles outside the scope, apart from block numbers. No subtitle is
-/// outside the scope of the whole day.
+/// If no fault ends the reading of a file within a scope, the results are, apart from block
+/// numbers, those of reading, for the whole day, the file without the blocks of subtitles outside
+/// the scope. No subtitle is outside the scope of the whole day.
 pub fn law_of_scope()
     ensures part { LawOfScope }
     ensures day { LawOfWholeDay }

@@ -75,7 +75,8 @@ impl StlReader {
             IfOk result (λ reader. S.remaining source.new ≡ Some (drop 1024 bytes))) }
         ensures start { IfOk result (λ reader.
             (reader.block ≡ 0) × (reader.progress ≡ Reading)) }
-        // No subtitle file begins with the rejected bytes.
+        // No subtitle file begins with the rejected bytes; after `Truncated`, a file may begin with
+        // them, but none consists of exactly these bytes.
         ensures refused { IfErr result (λ fault. is_file_format_fault fault ≡ true →
             RefusesOpening (S.remaining source.old) (S.remaining source.new) fault) }
         // If the source failed, it failed within the GSI block.
@@ -130,10 +131,10 @@ impl StlReader {
     /// # Errors
     ///
     /// Returns the first fault by block: `TooManyBlocks` (bytes after 99,999 blocks), `Truncated`
-    /// (fewer than 128 bytes), `Extension`, `CommentFlag`. Unless the block is skipped: within a
-    /// subtitle `Sequence`, `TooLong`; otherwise `Cumulative`, `Justify`, `Row`, `Time`,
-    /// `EmptyTime`. Returns `Unfinished` if the file ends within a subtitle, and `Read` if the
-    /// source fails. After any error each call returns `Ended` and consumes nothing.
+    /// (fewer than 128 bytes), `Extension`, `CommentFlag` (except for user data). Unless the block
+    /// is skipped: within a subtitle `Sequence`, `TooLong`; otherwise `Cumulative`, `Justify`,
+    /// `Row`, `Time`, `EmptyTime`. Returns `Unfinished` if the file ends within a subtitle, and
+    /// `Read` if the source fails. After any error each call returns `Ended` and consumes nothing.
     pub fn next<S: Source>(&mut self, source: &mut S) -> Result<Option<Subtitle>, StlFault>
         requires { CanFail (S.failure_count source.old) }
         // If the source's bytes are known and the source does not fail, the bytes determine the
@@ -152,7 +153,8 @@ impl StlReader {
         ensures none { self.old.progress ≡ Reading → IfOk result (λ found. IfNone found
             (ConsumesSkippedBlocks self.old.block self.new.block
             (S.remaining source.old) (S.remaining source.new))) }
-        // No subtitle file has the rejected bytes at this position.
+        // No subtitle file has the rejected bytes at this position; after `Truncated` and
+        // `Unfinished`, a file may continue with them, but none ends with them.
         ensures refused { self.old.progress ≡ Reading → IfErr result (λ fault.
             is_file_format_fault fault ≡ true → Refuses self.old.block self.new.block
             (S.remaining source.old) (S.remaining source.new) fault) }
@@ -205,9 +207,11 @@ impl StlReader {
             GivesNextResult self.old bytes self.new (S.remaining source.new)
             (yielded_subtitle result subtitle.new)) }
 
-        // If the result is `true`, the bytes consumed are the blocks of the subtitle; if `false`,
-        // only skipped blocks. No file has the rejected bytes at this position. If the source
-        // failed, it failed at the block `self.new.block`.
+        // If the result is `true`, the bytes consumed are the blocks of the subtitle, with the
+        // skipped blocks before and inside them; if `false`, only skipped blocks. No file has the
+        // rejected bytes at this position; after `Truncated` and `Unfinished`, a file may continue
+        // with them, but none ends with them. If the source failed, it failed at the block
+        // `self.new.block`.
         ensures taken { self.old.progress ≡ Reading → ConsumesByResult self.old.block self.new.block
             (S.remaining source.old) (S.remaining source.new)
             (yielded_subtitle result subtitle.new) }

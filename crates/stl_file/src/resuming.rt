@@ -89,7 +89,8 @@ impl ResumingReader {
             IfOk result (λ reader. S.remaining source.new ≡ Some (drop 1024 bytes))) }
         ensures start { IfOk result (λ reader. reader
             ≡ record { scope = scope; block = 0; progress = Reading; refused = None }) }
-        // No subtitle file begins with the rejected bytes.
+        // No subtitle file that the scope accepts begins with the rejected bytes; after
+        // `Truncated`, a file may begin with them, but none consists of exactly these bytes.
         ensures refused { IfErr result (λ fault. is_file_format_fault fault ≡ true →
             RefusesOpeningFor scope (S.remaining source.old) (S.remaining source.new) fault) }
         // If the source failed, it failed within the GSI block.
@@ -126,10 +127,10 @@ impl ResumingReader {
     /// Finds the next item of the file, and reads a subtitle into `subtitle`. After `End` or an
     /// error, do not call `next_into` again.
     ///
-    /// If no subtitle was rejected before it, a returned subtitle is equal to the subtitle that
-    /// `StlReader::next` would return. If no subtitle is returned, the contents of `subtitle` are
-    /// unspecified. The reader skips comments, user data, subtitles outside the scope, and the
-    /// later blocks of a rejected subtitle.
+    /// A returned subtitle is equal to the subtitle that `StlReader::next` would return for its
+    /// blocks. If no subtitle is returned, the contents of `subtitle` are unspecified. The reader
+    /// skips comments, user data, subtitles outside the scope, and the later blocks of a rejected
+    /// subtitle.
     ///
     /// # Errors
     ///
@@ -142,7 +143,8 @@ impl ResumingReader {
     ) -> Result<Found, StlFault>
         requires count { CanFail (S.failure_count source.old) }
         requires reading { self.old.progress ≡ Reading }
-        // The bytes consumed determine the result, its block number and the bytes left.
+        // If the source does not fail, the bytes consumed determine the result and its block
+        // number; some results also depend on the end of the file.
         ensures leads { failed is_file_read_failure result ≡ false →
             LeadsToResult self.old.scope self.old.block self.new.block self.old.refused
             self.new.refused

@@ -9,7 +9,7 @@ use crate::tti::Tti;
 /// The accepted files, by their display standard code, and the range of subtitles to read.
 ///
 /// If the TCI of a subtitle is a time code outside the range, the subtitle is skipped like a
-/// comment, and the other fields of its first block are not checked. The blocks of a skipped
+/// comment. Besides TCI, only EBN and CF of its first block are checked. The blocks of a skipped
 /// subtitle are counted, and must be linked like the blocks of any other subtitle.
 #[derive(Clone, Copy, Debug, PartialEq, Eq)]
 pub struct Scope {
