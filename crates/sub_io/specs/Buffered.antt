@@ -22,8 +22,8 @@ pub record BufferedSinkValue (D : Type 0) : Type 0 where
 abbrev pub failures_with_refused_calls : ℕ → ℕ → ℕ
 failures_with_refused_calls failures refused = min (failures + refused) 0xFFFF_FFFF_FFFF_FFFF
 
--- A successful flush: the buffer is empty afterwards, and the failure count is the same. Another
--- clause of `flush` says that its bytes were written.
+-- The buffer is empty in the new state, and no failure was counted since the old state. This does
+-- not say that the buffered bytes were written.
 pub record Flushes
     {D : Type 0} (failure_count : D → ℕ) (old new : BufferedSinkValue D)
     : Type 0 where

@@ -12,12 +12,13 @@ use crate::sink::push_all;
 use crate::{Close, Failed, Flush, Sink};
 use std::marker::Model;
 
-/// A sink that buffers bytes. It writes them to the inner sink when the buffer is full, and at each
-/// flush.
+/// A sink that buffers bytes. It writes them to the inner sink at each flush, and at a push that
+/// finds the buffer full. If the buffer is empty, a push of at least its size bypasses it.
 ///
-/// After the first failure of the inner sink, every call returns `Failed` and writes nothing more.
-/// Dropping the sink writes nothing, so flush it first. A failed call is never repeated, even if it
-/// was interrupted. The buffer is borrowed, like the slice of a `MemSink`.
+/// After the first failure of the inner sink, every push, flush and store returns `Failed` and
+/// writes nothing more. Dropping or closing the sink writes nothing, so flush it first. A failed
+/// call is never repeated, even if it was interrupted. The buffer is borrowed, like the slice of a
+/// `MemSink`.
 ///
 /// Its model has the inner sink, the buffered bytes, the buffer's size, whether the inner sink has
 /// failed, and the number of calls refused since that failure.
@@ -230,7 +231,8 @@ impl<K: Sink> Flush for BufferedSink<'_, K> {
         // If flushing succeeds, all buffered bytes were written to the inner sink.
         ensures whole { OnOk result ((self.new.buffered ≡ [])
             × Appends (K.contents self.old.device) (K.contents self.new.device) self.old.buffered) }
-        // If flushing fails, the bytes that the inner sink did not take stay in the buffer.
+        // If flushing fails, a suffix of the buffered bytes stays in the buffer. The clause `bytes`
+        // says that the inner sink took the others, if its contents are known.
         ensures left { IfErr result (λ _. HasRemainder self.old.buffered self.new.buffered) }
         ensures room { self.new.room ≡ self.old.room }
 

@@ -14,11 +14,11 @@ ghost use Rattle.sub_io.specs.Reading.{AreNextBytes};
 use crate::{Failed, Source};
 use std::marker::Model;
 
-/// A source that fills its buffer from the inner source, and serves pulls of any length from it.
+/// A source that fills its buffer from the inner source, and serves pulls from it.
 ///
-/// A pull calls the inner source at most once, and only if the buffer is empty. A failed call is
-/// never repeated, even if it was interrupted. The buffer is borrowed, like the slice of a
-/// `MemSink`.
+/// A pull calls the inner source at most once, and only if the buffer is empty. If such a pull is
+/// at least as long as the buffer, it bypasses the buffer. A failed call is never repeated, even if
+/// it was interrupted. The buffer is borrowed, like the slice of a `MemSink`.
 ///
 /// Its model has the inner source, the buffered bytes and the buffer's size.
 #[derive(Drop)]

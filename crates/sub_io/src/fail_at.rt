@@ -15,8 +15,9 @@ use std::marker::Model;
 /// A device that forwards every call except one to the inner device. The excepted call does nothing
 /// and returns `Failed`.
 ///
-/// `FailAt` implements the traits of the inner device (`Source`, `Sink`, `Flush`, `Close`).
-/// Flushing and storing count as calls too. Its model has the inner device and the countdown.
+/// `FailAt` implements the traits of the inner device (`Source`, `Sink`, `Flush`, `Close`). The
+/// calls are pulls, pushes, flushes and stores. `close` is always forwarded, and no bytes can be
+/// borrowed from the device or skipped in it. Its model has the inner device and the countdown.
 #[derive(Drop)]
 pub struct FailAt<D> {
     inner: D,

@@ -16,7 +16,7 @@ use std::marker::Model;
 /// closed. Each push calls `write` once.
 ///
 /// Every error of the writer is a failure, including `Interrupted`. A write of 0 bytes, a `store`
-/// that loses bytes, and each call after `close` are failures too.
+/// that loses bytes, and each push, flush and store after `close` are failures too.
 ///
 /// Its model has the writer (until it is closed), the bytes that the writer reported as written,
 /// whether they are stored, and the failure count.
@@ -99,7 +99,8 @@ impl<W: Write> Sink for IntoFile<W> {
         }
     }
 
-    /// Returns the number of calls that failed, wrote no byte, lost bytes or came after `close`.
+    /// Returns the number of pushes, flushes and stores that failed, wrote no byte, lost bytes or
+    /// came after `close`.
     fn failures(&self) -> u64 {
         self.failures
     }
