@@ -121,9 +121,9 @@ accepted_prefix bytes None = []
 accepted_prefix bytes (Some n) = take n bytes
 
 -- A push into a buffered sink whose buffer is full. First the buffer is written to the inner sink.
--- If that fails, the push fails, and a suffix of the buffered bytes, of unspecified length, stays in
--- the buffer. Otherwise a push of at least the buffer's size is forwarded to the inner sink, and a
--- shorter push is buffered.
+-- If that fails, the push fails, and a suffix of the buffered bytes, of unspecified length, stays
+-- in the buffer. Otherwise a push of at least the buffer's size is forwarded to the inner sink, and
+-- a shorter push is buffered.
 pub record FlushesFull
     {D : Type 0} (IsPush : D → List ℕ → Option ℕ → D → Type 0)
     (old : BufferedSinkValue D) (bytes : List ℕ) (answer : Option ℕ) (new : BufferedSinkValue D)
