@@ -91,8 +91,8 @@ impl Packet {
 
     /// Returns the page header, with single wrong bits corrected (EN 300 706, page header).
     ///
-    /// Returns `None` if the packet is no packet X/0, or if one of the eight coded bytes cannot be
-    /// decoded.
+    /// Returns `None` if the packet is no packet X/0, or if an address byte or one of the eight
+    /// coded bytes cannot be decoded.
     #[tactic(auto, unfolding(crate::specs::PageHeader::header))]
     pub fn header(&self) -> Option<Header>
         ensures { result ≡ header self.now }
@@ -131,8 +131,8 @@ impl Packet {
         is_word(self.bytes[0]) && is_word(self.bytes[1])
     }
 
-    /// Returns whether the eight coded bytes of a page header are Hamming 8/4 code words, so
-    /// without a wrong bit (EN 300 706, 8.2). Ignores the address.
+    /// Returns whether the eight coded bytes of a page header are Hamming 8/4 code words, so that
+    /// decoding corrects no bit (EN 300 706, 8.2). Ignores the address.
     pub fn is_clean_header(&self) -> bool
         ensures { IsTrue result ↔ HasExactHeader self.now }
     {
