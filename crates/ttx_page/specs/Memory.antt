@@ -1,5 +1,6 @@
 -- The state of the receivers of this crate, and what they store for a byte of even parity (not
--- defined by a standard). Only private contracts use these definitions.
+-- defined by a standard). Of these definitions, the public types use only `state_of`: in the models
+-- of `Keep`, `Blank` and `DropRow`.
 use Rattle.std.specs.Prelude.{ℕ, if◌then◌else◌}
 use Rattle.ttx_packet.specs.Parity.{character_code, is_odd}
 use Rattle.ttx_page.specs.declared.memory.EvenParityChoice.{EvenParityChoice}

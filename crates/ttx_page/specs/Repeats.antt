@@ -129,8 +129,9 @@ pub record MayFollow
       → column < 40
       → character_code (text_byte first column) ≡ character_code (text_byte packet column)
 
--- The page does not depend on its contents before these packets: the receiver blanks it at each
--- header, or the packets contain a header that starts a new text, or it was blank and not open.
+-- If a header of the page was sent, the page does not depend on its contents before these packets:
+-- the receiver blanks it at each header, or the packets contain a header that starts a new text, or
+-- it was blank and not open.
 abbrev pub IsFresh : Bool → Bool → PageIdValue → List (List ℕ) → State → Type 0
 IsFresh keeps anew w sent old =
     IsTrue anew
@@ -168,8 +169,8 @@ pub record EndsAfterRepeats
 
 -- The law of repeats: the final state of every receiver that may blank cells at a repeat, if
 -- packets other than page headers are lost, and the other packets have at most one wrong bit in
--- each byte. So a repeat without C4, erase page, repairs cells that noise has hit, and puts no
--- wrong character into the decoded page.
+-- each byte. So, if the page does not depend on its earlier contents, a repeat without C4, erase
+-- page, repairs cells that noise has hit, and puts no wrong character into the decoded page.
 abbrev pub LawOfRepeats : Type 0
 LawOfRepeats =
     (keeps anew : Bool) (class : ReceiverClass) (w : PageIdValue) (sent : List (List ℕ))

@@ -75,7 +75,7 @@ abbrev pub Shows : PageIdValue → Display → List (List ℕ) → Display → T
 Shows w old packets new = ShowsBy Storing w old packets new
 
 -- If a receiver has received a header of its page, and the page is not open, the decoded page is on
--- its screen. So everything proved about the decoded page is also true for the screen.
+-- its screen. So what is proved about the decoded page is then also true for the screen.
 abbrev pub LawOfScreen : Type 0
 LawOfScreen =
     (class : ReceiverClass) (w : PageIdValue) (packets : List (List ℕ)) (old new : Display)

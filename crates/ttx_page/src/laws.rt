@@ -71,9 +71,9 @@ pub fn law_of_screen()
 {}
 
 /// The law of repeats, for well-formed packets of a page that is repeated without C4, erase page.
-/// At such a header a receiver may keep or blank each cell. As soon as no cell depends on the
-/// earlier contents of the page, each cell has the sent code, or is a space if noise or loss hit it
-/// or the last transmission has no packet of its row.
+/// At such a header a receiver may keep or blank each cell. After a header of the page, if no cell
+/// depends on the earlier contents of the page, each cell has the sent code, or is a space if noise
+/// or loss hit it or the last transmission has no packet of its row.
 pub fn law_of_repeats()
     ensures { LawOfRepeats }
 {}
