@@ -29,8 +29,8 @@ use Rattle.sub_laws.specs.Robust.{HoldsDuePage}
 -- ---- receivers that may erase the page at any header
 
 -- The guarantee to a receiver that may blank any cells of its page at each header of the page with
--- C4 (erase page) clear (`anew`: it always blanks them all). It listened from frame g to the end of
--- frame f, the packets `sent` were sent, and its state changed from `old` to `new`.
+-- C4 (erase page) clear, and blanks the whole page there if `anew` is true. It listened from frame
+-- g to the end of frame f, the packets `sent` were sent, and its state changed from `old` to `new`.
 pub record IsServedIfForgetful
     (keeps anew : Bool) (programme : ProgrammeValue) (transmission : Transmission)
     (options : OptionsValue) (g f : ℕ) (sent : List (List ℕ)) (IsExcused : ℕ → ℕ → Type 0)
