@@ -1,4 +1,4 @@
--- How a reader reads a PES packet, for private contracts only.
+-- How a reader reads a PES packet. Of these definitions, public contracts use only `ReadsValue`.
 use Rattle.std.specs.Prelude.{◌≡◌, ℕ, zero, suc, ◌+◌, ◌*◌, ◌/◌, ◌%◌, ◌<◌, ◌≤◌, List, [], ◌∷◌}
 use Rattle.std.specs.Prelude.{◌++◌, length, take, drop, slice_index, if◌then◌else◌, Bool, Option}
 use Rattle.std.specs.Prelude.{◌≢◌, true, false, Err, IfErr, OnOk, Ok, Result}
@@ -11,8 +11,8 @@ use Rattle.ttx_pes.specs.Reading.{is_format_fault, packet_at, units_at}
 use Rattle.ttx_pes.specs.Reading.{value_at}
 use Rattle.ttx_pes.specs.SentUnits.{EndWithinField, sent_units}
 
--- The consumed bytes determine the result, whatever bytes follow: a value of exactly these bytes,
--- or a fault.
+-- The consumed bytes, at least one, determine the result, whatever bytes can follow: a value of
+-- exactly these bytes, or a fault.
 pub record SettlesPacket
     (old new : Option (List ℕ)) (taken : List ℕ) (r : Result PesValue PesFault) : Type 0 where
   pub consumed : Consumes old new taken

@@ -29,8 +29,8 @@ unfoldable pub rest_fault : List ℕ → Option PesFault
 rest_fault b =
     if nat_lt (length b) 6 then Some Truncated else fault_of_size (length b) (size_at (take 6 b))
 
--- The bytes read so far do not begin with a PES packet, because of this fault, whatever bytes
--- follow.
+-- The bytes read so far, at least one, do not begin with a PES packet, because of this fault,
+-- whatever bytes can follow.
 pub record IsRestWithFault (following : Option (List ℕ)) (bytes : List ℕ) (f : PesFault) : Type 0
   where
     pub some : 0 < length bytes
@@ -56,8 +56,9 @@ pub record TakesPesPacketWith
   pub takes : is_take before bytes answer after
 
 -- The effect of a call of `next`. `old` and `new` are the remaining bytes of the reader before and
--- after the call, and `following` those of the device. A PES packet is consumed completely, and the
--- taker processes it. Otherwise nothing is consumed; a failure happened within the next packet.
+-- after the call, and `following` is its `left` afterwards. A PES packet is consumed completely,
+-- and the taker processes it. Otherwise nothing is consumed; the bytes that were read before a
+-- failure are too few for a PES packet.
 abbrev pub Advances : {T A E : Type 0}
     → Option (List ℕ) → Option (List ℕ) → Option (List ℕ)
     → (T → List ℕ → A → T → Type 0) → T → T → Result (Received A) E → Type 0
@@ -98,7 +99,8 @@ has_borrowed_pes_packet [] borrowed = has_enough_for_packet borrowed
 has_borrowed_pes_packet (x ∷ buffered) borrowed = false
 
 -- The bytes read for one PES packet agree with the result: no byte was read and the source has
--- ended, the bytes are a complete packet or have a fault, or the read failed.
+-- ended, the bytes are a complete packet or have a fault, or the read failed before the packet was
+-- complete.
 abbrev pub AreReadForPacket : {E : Type 0} → Option (List ℕ) → List ℕ → Result (Received (Unit {0}))
     E → Type
     0
@@ -118,8 +120,8 @@ pub record ReadsTowardPesPacket
 
 -- ---- skipping PES packets
 
--- Of the first n PES packets, k were skipped. Skipping n - k more from here has the same effect as
--- skipping n from the start.
+-- If the bytes are known, k of the first n PES packets were skipped: skipping n - k more from here
+-- has the same effect as skipping n from the start.
 abbrev pub HasSkipped : ℕ → ℕ → Option (List ℕ) → Option (List ℕ) → Type 0
 HasSkipped n k old new =
     IfKnown old (λ bytes. (rest : List ℕ)
@@ -127,7 +129,8 @@ HasSkipped n k old new =
     × (rest_after_pes_packets n bytes ≡ rest_after_pes_packets (n - k) rest)
     × (count_pes_packets n bytes ≡ k + count_pes_packets (n - k) rest))
 
--- The first n PES packets were skipped, or all if the file has fewer; `skipped` is their number.
+-- If the bytes are known, the first n PES packets were skipped, or all if the file has fewer, and
+-- `skipped` is their number.
 abbrev pub SkipsPesPackets : ℕ → Option (List ℕ) → Option (List ℕ) → ℕ → Type 0
 SkipsPesPackets n old new skipped =
     IfKnown old (λ bytes. (new ≡ Some (rest_after_pes_packets n bytes)) ×
@@ -153,18 +156,21 @@ limit_after left End = left
 limit_after left (PesPacket answer) = decremented_limit left
 limit_after left (Rest f) = None
 
--- The bytes of the next PES packets up to the limit, or all bytes if fewer packets remain.
+-- The bytes of the next PES packets up to the limit, or all bytes if fewer packets remain or there
+-- is no limit.
 abbrev pub limited_known_bytes : Option ℕ → Option (List ℕ) → Option (List ℕ)
 limited_known_bytes None known_bytes = known_bytes
 limited_known_bytes (Some n) known_bytes = option_map (limited_bytes (Some n)) known_bytes
 
--- The remaining bytes do not begin with a PES packet (`rest`), and there is no limit. It is false
--- if there is a limit, since the limit ends when the reader returns such a rest.
+-- `read_rest` may be called: the inner reader allows it (`rest`), and there is no limit. A limit
+-- ends when the reader returns `Rest`.
 abbrev pub is_unlimited_rest : Option ℕ → Bool → Bool
 is_unlimited_rest None rest = rest
 is_unlimited_rest (Some n) rest = false
 
--- The remaining bytes of the device, as far as the limit allows reading them.
+-- `left` of a reader with a limit: the remaining bytes of the inner reader (`known`) up to the
+-- limit, buffered bytes included. If there is no limit, it is `left` of the inner reader
+-- (`following`).
 abbrev pub limited_remaining : Option ℕ → Option (List ℕ) → Option (List ℕ) → Option (List ℕ)
 limited_remaining None known following = following
 limited_remaining (Some n) known following = option_map (limited_bytes (Some n)) known

@@ -80,8 +80,8 @@ LawOfReaderAnswers =
     → StartsWithoutValidPacket bytes)
     × (answer_at given bytes ≡ Err TooMany → 0 < length bytes)
 
--- Reading the bytes written for a frame returns that frame, and leaves the bytes that follow. So a
--- schedule is read as it was written.
+-- Reading the bytes written for a frame returns that frame, and leaves the bytes that follow,
+-- unless 2,160,000 packets were read before. So a schedule is read as it was written.
 abbrev pub LawOfReadingBack : Type 0
 LawOfReadingBack =
     (given : ℕ) (v : PesValue) (rest : List ℕ)
@@ -96,8 +96,8 @@ abbrev pub LawOfLineOrder : Type 0
 LawOfLineOrder = (units : List UnitValue) → AreInLineOrder 0 units ↔ AllPairs PrecedesInLineOrder
     units
 
--- The Teletext packets of one video frame form a value that fits in a `PesFrame`, and the units of
--- that value carry these packets.
+-- Up to 32 Teletext packets of one video frame form, with a PTS below 2^33, a value that fits in a
+-- `PesFrame`, and the units of that value carry these packets.
 abbrev pub LawOfNumberedFrame : Type 0
 LawOfNumberedFrame =
     (pts : ℕ) (packets : List (List ℕ))
@@ -113,9 +113,9 @@ LawOfNumberedFrame =
 abbrev pub LawOfPesPackets : Type 0
 LawOfPesPackets = (bytes : List ℕ) → AreBytes bytes → SplitInto bytes (pes_packets_after 0 bytes)
 
--- A range of a file contains the PES packets with the indices in the range, and the bytes after the
--- last packet of the file if the file ends before the range. The first packet of the range has the
--- index `first`, if the file has that many packets.
+-- A range of a file contains the PES packets with the indices in the range and, if it extends
+-- beyond the last packet of the file, the bytes after that packet. The first packet of the range
+-- has the index `first`, if the file has that many packets.
 abbrev pub LawOfRanges : Type 0
 LawOfRanges =
     (first : ℕ) (last : Option ℕ) (pes_packets : List (List ℕ)) (rest : List ℕ)

@@ -11,13 +11,14 @@ known_part zero left known_bytes = limited_known_bytes left known_bytes
 known_part (suc n) left known_bytes = limited_known_bytes left
     (option_map (rest_after_pes_packets (suc n)) known_bytes)
 
--- The remaining bytes of the device, as far as they belong to the range.
+-- `left` of a reader of a range: `limited_remaining`, but all remaining bytes of the range while
+-- PES packets are still to be skipped.
 abbrev pub left_after_part : ℕ → Option ℕ → Option (List ℕ) → Option (List ℕ) → Option (List ℕ)
 left_after_part zero left known following = limited_remaining left known following
 left_after_part (suc n) left known following = known_part (suc n) left known
 
--- The remaining bytes of the range do not begin with a PES packet, and no packet is still to be
--- skipped.
+-- `read_rest` may be called: the inner reader allows it (`rest`), no PES packet is still to be
+-- skipped, and there is no limit.
 abbrev pub is_part_rest : ℕ → Option ℕ → Bool → Bool
 is_part_rest zero left rest = is_unlimited_rest left rest
 is_part_rest (suc n) left rest = false
@@ -28,7 +29,8 @@ abbrev pub is_part_ready : ℕ → Bool → Bool
 is_part_ready zero ready = ready
 is_part_ready (suc n) ready = false
 
--- The index in the file of the first PES packet of the range.
+-- The index in the file of the first PES packet of the range, or the number of packets in the file
+-- if it has fewer. `None` if the remaining bytes are unknown.
 abbrev pub part_first_index : AheadValue → Option (List ℕ) → Option ℕ
 part_first_index ahead known_bytes = option_map (λ b. ahead.skipped + count_pes_packets
     ahead.to_skip b)

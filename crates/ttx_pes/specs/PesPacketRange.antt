@@ -9,8 +9,8 @@ use Rattle.ttx_pes.specs.Reading.{size_at}
 
 -- ---- the bytes of PES packets
 
--- The size of the PES packet at the front of the bytes, from its first six bytes. `None` if their
--- start code or length is wrong.
+-- The size of the PES packet at the front of the bytes, from its first six bytes. `None` if there
+-- are fewer, or if their start code or length is wrong.
 unfoldable pub stated_packet_size : List ℕ → Option ℕ
 stated_packet_size b = if nat_lt (length b) 6 then None else result_ok (size_at (take 6 b))
 
@@ -49,7 +49,7 @@ count_pes_packets zero b = 0
 count_pes_packets (suc n) b =
     with_packet_size_or (pes_packet_size b) (λ size. suc (count_pes_packets n (drop size b))) 0
 
--- The bytes of the first n PES packets, or all bytes if there is no limit.
+-- The bytes of the first n PES packets, or all bytes if b has fewer packets or there is no limit.
 abbrev pub limited_bytes : Option ℕ → List ℕ → List ℕ
 limited_bytes None b = b
 limited_bytes (Some n) b = first_pes_packets n b
@@ -72,8 +72,8 @@ range_of first (Some last) =
 abbrev pub range_length : PesPacketRangeValue → Option ℕ
 range_length r = option_map (λ last. last + 1 - r.first) r.last
 
--- The bytes of a range: its PES packets and, if the file ends before the range, the bytes after the
--- last packet of the file.
+-- The bytes of a range: its PES packets and, if it extends beyond the last packet of the file, the
+-- bytes after that packet.
 unfoldable pub range_bytes : PesPacketRangeValue → List ℕ → List ℕ
 range_bytes r b = limited_bytes (range_length r) (rest_after_pes_packets r.first b)
 
@@ -97,7 +97,8 @@ abbrev pub StartsWithoutPesPacket : List ℕ → Type 0
 StartsWithoutPesPacket bytes = (p more : List ℕ) → IsPesPacket p → bytes ≡ p ++ more → ⊥
 
 -- The part of a file from PES packet `first` to packet `last`. The file consists of PES packets and
--- a rest without packets. The rest belongs to the part if the file ends before packet `last`.
+-- a rest without packets. The rest belongs to the part if the file has no packet `last`, or if
+-- `last` is `None`.
 abbrev pub packets_in_range : ℕ → Option ℕ → List (List ℕ) → List ℕ → List ℕ
 packets_in_range first None pes_packets rest = concat (drop first pes_packets) ++ rest
 packets_in_range first (Some last) pes_packets rest =

@@ -48,14 +48,14 @@ IsIncompletePesPacket bytes =
     (length bytes < 6)
     ⊎ ((size : ℕ) × (size_at (take 6 bytes) ≡ Ok size) × (length bytes < size))
 
--- The source failed before a PES packet was complete: fewer than six bytes were consumed, or a
--- correct header and fewer bytes than its length field states.
+-- The consumed bytes are too few for a PES packet. Contracts state this if the source failed; the
+-- failure itself is not part of this definition.
 pub record FailsWithinPacket (old new : Option (List ℕ)) : Type 0 where
   pub bytes : List ℕ
   pub consumed : Consumes old new bytes
   pub begun : IsIncompletePesPacket bytes
 
--- The consumed bytes of a PES packet are rejected for the format fault f, whatever bytes follow.
+-- The consumed bytes, without those that follow, are rejected for the format fault f.
 pub record ConsumesRefusedPacket (old new : Option (List ℕ)) (f : PesFault) : Type 0 where
   pub bytes : List ℕ
   pub consumed : Consumes old new bytes
@@ -70,8 +70,8 @@ pub record ReportsPacket
     : Type 0 where
   -- If the reader returns a value, exactly a PES packet with this value was consumed.
   pub packet : IfOk answer (λ given. IfSome given (TakesValidPesPacket old new))
-  -- If the bytes of the source are known and it does not fail, they determine the result and the
-  -- remaining bytes.
+  -- Before the end and any fault, if the bytes of the source are known and it does not fail, they
+  -- determine the result and, unless it is a fault, the remaining bytes.
   pub exact :
       (given : ℕ)
       → before ≡ Reading given
@@ -85,7 +85,7 @@ pub record ReportsPacket
       fault)
   pub packet_limit_refuses_packet : IfErr answer (λ fault. fault ≡ TooMany → before ≡ Reading
       max_pes_packets)
-  -- If the source fails, it fails within the PES packet, whose bytes so far have no fault.
+  -- If the source fails, the consumed bytes are too few for a PES packet.
   pub within : failed is_read_fault answer ≡ true → FailsWithinPacket old new
   pub no_bytes_remain_at_end : before ≡ AtEnd → answer ≡ Ok None
   pub ended : (before ≡ Broken) ↔ (answer ≡ Err Ended)
@@ -99,8 +99,8 @@ pub record TakesValidPesPackets (n : ℕ) (old new : Option (List ℕ)) : Type 0
   pub each : AllByRecursion (λ b. (v : PesValue) × IsValidPesPacket v b) packets
   pub consumed : Consumes old new (concat packets)
 
--- The source failed within PES packet n, counted from 0, and the n packets before it were consumed
--- and are valid.
+-- Exactly n valid PES packets were consumed, and then too few bytes for a PES packet. Contracts
+-- state this if the source failed; the failure itself is not part of this definition.
 pub record FailsAfterValidPackets (n : ℕ) (old new : Option (List ℕ)) : Type 0 where
   pub following : Option (List ℕ)
   pub before : TakesValidPesPackets n old following

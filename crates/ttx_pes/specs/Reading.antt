@@ -79,7 +79,7 @@ has_pts_markers b =
 abbrev pub is_all_stuffing : List ℕ → Bool
 is_all_stuffing b = list_all (λ byte. byte == stuffing_byte) b
 
--- The PES packet is a gap marker, which stands for lost PES packets: 184 bytes, all FF from byte 6
+-- The PES packet is a gap marker, which replaces missing TS packets: 184 bytes, all FF from byte 6
 -- on (not defined by a standard).
 abbrev pub is_gap_marker : List ℕ → Bool
 is_gap_marker pes_packet = (length pes_packet == payload_size) && is_all_stuffing

@@ -41,7 +41,7 @@ pub enum PesFault {
     /// Bytes follow 2,160,000 packets, one for each frame of a day (not defined by a standard).
     TooMany,
     /// All bytes of the packet from byte 6 on are FF, as in a gap marker. A gap marker has 184
-    /// bytes and stands for lost PES packets (not defined by a standard).
+    /// bytes and replaces missing TS packets (not defined by a standard).
     Lost,
 }
 

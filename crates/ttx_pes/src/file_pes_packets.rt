@@ -38,7 +38,8 @@ impl<'a, S: Source> FilePesPackets<'a, S> {
     }
 }
 
-// Returns the size of the PES packet at the front of `bytes`, or `None` if it is incomplete.
+// Returns the size of the PES packet at the front of `bytes`, or `None` if it is incomplete, or its
+// start code or length is wrong.
 #[inline(always)]
 fn complete_size(bytes: &[u8]) -> Option<usize>
     ensures reported { IfSome result (λ size. size_at (take 6 bytes.now) ≡ Ok size) }

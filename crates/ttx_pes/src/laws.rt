@@ -49,7 +49,8 @@ pub fn law_of_reader_answers()
     ensures { LawOfReaderAnswers }
 {}
 
-/// Reading the bytes written for a frame returns that frame, and leaves the bytes that follow.
+/// Reading the bytes written for a frame returns that frame, and leaves the bytes that follow,
+/// unless 2,160,000 packets were read before.
 pub fn law_of_reading_back()
     ensures { LawOfReadingBack }
 {}
@@ -60,8 +61,8 @@ pub fn law_of_line_order()
     ensures { LawOfLineOrder }
 {}
 
-/// The Teletext packets of one video frame form a value that fits in a `PesFrame`, and the units of
-/// that value carry these packets.
+/// Up to 32 Teletext packets of one video frame form, with a PTS below 2^33, a value that fits in a
+/// `PesFrame`, and the units of that value carry these packets.
 pub fn law_of_numbered_frame()
     ensures { LawOfNumberedFrame }
 {}
@@ -72,8 +73,8 @@ pub fn law_of_pes_packets()
     ensures { LawOfPesPackets }
 {}
 
-/// A range of a file contains the PES packets with the indices in the range, and the bytes after
-/// the last packet of the file if the file ends before the range.
+/// A range of a file contains the PES packets with the indices in the range and, if it extends
+/// beyond the last packet of the file, the bytes after that packet.
 pub fn law_of_ranges()
     ensures { LawOfRanges }
 {}

@@ -15,14 +15,15 @@ pub struct FailedAt {
 /// A reader of some or all PES packets of a file or recording. Reports identify a packet by its
 /// index in the file.
 pub trait NumberedPesPackets: PesPackets {
-    // The index in the file of the first PES packet to read, if the bytes of the file are known.
+    // The index in the file of the first PES packet to read, or the number of packets in the file
+    // if it has fewer. It is `None` only if the bytes of the file are unknown.
     ghost first: { Self → Option ℕ };
 
     // The number of PES packets that were skipped before the first packet to read.
     ghost skipped: { Self → ℕ };
 
     /// Skips the PES packets before the first packet to read, and returns the index of that packet
-    /// in the file, counted from 0.
+    /// in the file, counted from 0, or the number of packets in the file if it has fewer.
     ///
     /// # Errors
     ///

@@ -110,7 +110,7 @@ fn is_all_stuffing(body: &[u8]) -> bool
     body.iter().all(|byte| *byte == 0xFF)
 }
 
-/// Returns whether a PES packet is a gap marker, which stands for lost PES packets: 184 bytes, all
+/// Returns whether a PES packet is a gap marker, which replaces missing TS packets: 184 bytes, all
 /// FF from byte 6 on (not defined by a standard).
 pub fn is_gap_marker(pes_packet: &[u8]) -> bool
     ensures { result ≡ is_gap_marker pes_packet.now }

@@ -83,9 +83,9 @@ fn fill_buffer<S: Source>(
     (at, false)
 }
 
-// Reads the rest of the PES packet whose first bytes are in the buffer: up to byte 5, then, if
-// these six bytes have no fault, up to the size that its length field states. Returns the number of
-// bytes in the buffer, and the result.
+// Reads the rest of the PES packet whose first bytes are in the buffer: at least up to byte 5 and
+// at most up to byte 183, then, if the first six bytes have no fault, up to the size that its
+// length field states. Returns the number of bytes in the buffer, and the result.
 fn read_pes_packet<S: Source>(
     source: &mut S,
     room: &mut PacketBuffer,

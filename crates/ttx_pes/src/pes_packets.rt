@@ -1,8 +1,9 @@
 //! The traits of readers of PES packets. A PES packet is as long as its length field states, but
 //! its contents may be invalid.
 //!
-//! `next` passes a borrowed packet to a taker, and then skips it. So no packet is copied. Bytes
-//! that do not begin with a packet are read by a separate function, which only `extract` uses.
+//! `next` passes a borrowed packet to a taker, and then skips it. So a packet is copied only if the
+//! reader must collect its bytes first. Bytes that do not begin with a packet are read by a
+//! separate function, which only `extract` uses.
 ghost use Rattle.std.specs.Borrow.{GName};
 ghost use Rattle.std.specs.Prelude.{◌≡◌, ℕ, Bool, List, Option, is_ok, true};
 ghost use Rattle.std.specs.Io.{ReadsAtMost};
@@ -52,14 +53,15 @@ pub trait PesPackets {
     // The remaining bytes of the reader, or `None` if they are unknown.
     ghost remaining: { Self → Option (List ℕ) };
 
-    // The remaining bytes of the device. After a failure, or bytes that do not begin with a packet,
-    // the reader has already read some of its remaining bytes from the device.
+    // The remaining bytes without those that were read before a failure or `Rest`. Readers other
+    // than `FilePesPackets` may include bytes that were read before a failure.
     ghost left: { Self → Option (List ℕ) };
 
     // The number of failed calls of the reader's device.
     ghost failure_count: { Self → ℕ };
 
-    // Whether the reader has returned `Rest`: the remaining bytes do not begin with a PES packet.
+    // Whether `read_rest` may be called. It is true after `next` has returned `Rest`, and may be
+    // true before.
     ghost is_rest: { Self → Bool };
 
     // Whether the next call uses no device.

@@ -35,8 +35,8 @@ pub(crate) fn is_same(a: &[u8], b: &[u8]) -> bool
     }
 }
 
-// Returns whether two data fields of one payload are equal. For speed, compares their second 64
-// bytes first, which contain the text of the subtitle's row.
+// Returns whether two data fields of one payload are equal. For speed, compares bytes 64 to 127
+// first: they contain most of the text of the second data unit, which is often a subtitle's row.
 #[inline(always)]
 #[tactic(auto, using(crate::proofs::SameBytesLemmas::payload_comparison_is_correct))]
 fn is_payload_equal(a: &[u8], b: &[u8]) -> bool

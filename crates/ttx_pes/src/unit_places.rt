@@ -69,7 +69,7 @@ impl UnitPlaces {
     }
 }
 
-// Returns the line order position that the next unit must follow, or a fault if the unit of this
+// Returns the line order position that the next unit must follow, or `None` if the unit of this
 // data unit may not follow the position `last`.
 #[inline(always)]
 fn line_place_after(last: u8, block: &[u8]) -> Option<u8>
