@@ -93,7 +93,7 @@ impl<S: Source> PesPackets for RecordingPesPackets<S> {
 
     ghost failure_count = { λ r. S.failure_count r.device };
 
-    ghost is_rest = { λ r. r.is_finished };
+    ghost may_read_rest = { λ r. r.is_finished };
 
     ghost ready = { λ r. is_output_ready r.stream };
 

@@ -114,7 +114,7 @@ pub fn copy_next<P: PesPackets, F: Flush>(
     ensures reported { IfKnown (P.remaining pes_packets.old) (λ bytes.
         CopiesNext bytes (P.remaining pes_packets.new) (F.contents file.old) (F.contents file.new)
         result) }
-    ensures rest { faulty_rest_is_answer result ≡ true → P.is_rest pes_packets.new ≡ true }
+    ensures rest { faulty_rest_is_answer result ≡ true → P.may_read_rest pes_packets.new ≡ true }
     ensures buffered { F.buffered file.old ≡ 0 → failed is_copy_file_failure result ≡ false
         → F.buffered file.new ≡ 0 }
     ensures never_reports_failed_read { IfOk result
@@ -154,7 +154,7 @@ pub fn copy_rest<P: PesPackets, F: Flush>(
     pes_packets: &mut P,
     file: &mut F,
 ) -> Result<(), CopyFault>
-    requires rest { P.is_rest pes_packets.old ≡ true }
+    requires rest { P.may_read_rest pes_packets.old ≡ true }
     requires pes_packets { CanFail (P.failure_count pes_packets.old) }
     requires file { CanFail (F.failure_count file.old) }
     ensures reported { IfKnown (P.remaining pes_packets.old) (λ bytes.

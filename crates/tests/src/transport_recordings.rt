@@ -61,7 +61,7 @@ fn write_pes_packet(sink: &mut MemSink<'_>, pes_packet: &[u8]) {
 
 // Writes the bytes after the last PES packet to a sink, as long as the sink has room.
 fn write_remaining_bytes<P: PesPackets>(sink: &mut MemSink<'_>, pes_packets: &mut P)
-    requires rest { P.is_rest pes_packets.old ≡ true }
+    requires rest { P.may_read_rest pes_packets.old ≡ true }
     requires failures { CanFail (P.failure_count pes_packets.old) }
 {
     let mut buffer = [0; REST_BUFFER_SIZE];

@@ -88,7 +88,7 @@ impl<S: Source> PesPackets for FilePesPackets<'_, S> {
 
     ghost failure_count = { λ f. S.failure_count f.source.now };
 
-    ghost is_rest = { λ f. true };
+    ghost may_read_rest = { λ f. true };
 
     ghost ready = { λ f. has_borrowed_pes_packet f.begun (S.borrowed f.source.now) };
 

@@ -58,7 +58,7 @@ impl<P: PesPackets> PesPackets for LimitedPesPackets<'_, P> {
 
     ghost failure_count = { λ l. P.failure_count l.inner.now };
 
-    ghost is_rest = { λ l. is_unlimited_rest l.left (P.is_rest l.inner.now) };
+    ghost may_read_rest = { λ l. is_unlimited_rest l.left (P.may_read_rest l.inner.now) };
 
     ghost ready = { λ l. P.ready l.inner.now };
 
@@ -76,7 +76,7 @@ impl<P: PesPackets> PesPackets for LimitedPesPackets<'_, P> {
             (P.left self.new.inner.now))
             T.is_take taker.old taker.new result }
         ensures rest { faulty_rest_is_answer result ≡ true
-            → is_unlimited_rest self.new.left (P.is_rest self.new.inner.now) ≡ true }
+            → is_unlimited_rest self.new.left (P.may_read_rest self.new.inner.now) ≡ true }
         ensures ready { P.ready self.old.inner.now ≡ true → is_ok result ≡ true }
         ensures same { self.new.inner.ghost_name ∷ P.device self.new.inner.now
             ≡ self.old.inner.ghost_name ∷ P.device self.old.inner.now }

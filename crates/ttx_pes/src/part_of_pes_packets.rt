@@ -84,8 +84,8 @@ impl<P: PesPackets> PesPackets for PartOfPesPackets<'_, P> {
 
     ghost failure_count = { λ p. P.failure_count p.inner.inner.now };
 
-    ghost is_rest = { λ p. is_part_rest p.ahead.to_skip p.inner.left
-        (P.is_rest p.inner.inner.now) };
+    ghost may_read_rest = { λ p. is_part_rest p.ahead.to_skip p.inner.left
+        (P.may_read_rest p.inner.inner.now) };
 
     ghost ready = { λ p. is_part_ready p.ahead.to_skip (P.ready p.inner.inner.now) };
 

@@ -62,7 +62,7 @@ pub trait PesPackets {
 
     // Whether `read_rest` may be called. It is true after `next` has returned `Rest`, and may be
     // true before.
-    ghost is_rest: { Self → Bool };
+    ghost may_read_rest: { Self → Bool };
 
     // Whether the next call uses no device.
     ghost ready: { Self → Bool } = { is_never_ready };
@@ -80,7 +80,7 @@ pub trait PesPackets {
         requires failures { CanFail (failure_count self.old) }
         ensures received { Advances (remaining self.old) (remaining self.new) (left self.new)
             T.is_take taker.old taker.new result }
-        ensures rest { faulty_rest_is_answer result ≡ true → is_rest self.new ≡ true }
+        ensures rest { faulty_rest_is_answer result ≡ true → may_read_rest self.new ≡ true }
         ensures ready { ready self.old ≡ true → is_ok result ≡ true }
         ensures same { device self.new ≡ device self.old }
         ensures count { CountsFailure (failure_count self.old) result (failure_count self.new) };
@@ -92,11 +92,11 @@ pub trait PesPackets {
     ///
     /// Returns `Failed` if the device fails. No byte was consumed by the call.
     fn read_rest(&mut self, room: &mut [u8; REST_BUFFER_SIZE]) -> Result<usize, Failed>
-        requires rest { is_rest self.old ≡ true }
+        requires rest { may_read_rest self.old ≡ true }
         requires failures { CanFail (failure_count self.old) }
         ensures bound { ReadsAtMost result room.new }
         ensures bytes { Pulls (remaining self.old) (remaining self.new) room.new result }
-        ensures rest { is_rest self.new ≡ true }
+        ensures rest { may_read_rest self.new ≡ true }
         ensures same { device self.new ≡ device self.old }
         ensures count { CountsFailure (failure_count self.old) result (failure_count self.new) };
 

@@ -7,7 +7,7 @@ use Rattle.sub_listing.proofs.copying.copy_rest.Given as goal
 
 abbrev pub invariant-reads : goal.invariant-reads
 invariant-reads g l = record {
-  rest : g.P.PesPackets.is_rest l.pes_packets ≡ true;
+  rest : g.P.PesPackets.may_read_rest l.pes_packets ≡ true;
   device : g.P.PesPackets.device l.pes_packets ≡ g.P.PesPackets.device l.initial.pes_packets;
   pes_packets : g.P.PesPackets.failure_count l.pes_packets ≡ g.P.PesPackets.failure_count
       l.initial.pes_packets;
