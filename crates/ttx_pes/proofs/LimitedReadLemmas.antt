@@ -26,7 +26,7 @@ use Rattle.ttx_pes.proofs.PesPacketRangeLemmas.{no_packet_takes_all_bytes, first
 use Rattle.ttx_pes.proofs.PesPacketRangeLemmas.{whole}
 use Rattle.ttx_pes.specs.Advancing.{Advances, HasSkipped, IsReportedRest, SkipsPesPackets}
 use Rattle.ttx_pes.specs.Advancing.{fault_of_size, is_finished}
-use Rattle.ttx_pes.specs.Advancing.{limit_after, limited_remaining, limited_known_bytes, rest_fault}
+use Rattle.ttx_pes.specs.Advancing.{limit_after, left_within_limit, limited_known_bytes, rest_fault}
 use Rattle.ttx_pes.specs.declared.pes_packets.Received.{Received}
 use Rattle.ttx_pes.specs.declared.pes_packets.Received.TheVariants.{End, PesPacket, Rest}
 
@@ -111,7 +111,7 @@ module _ {T A : Type 0} (E : Type 0) (is_take : T → List ℕ → A → T → T
   pub reader_stops_at_limit : (left : Option ℕ) (reported following : Option (List ℕ))
       → is_finished left ≡ true
       → Advances (limited_known_bytes left reported) (limited_known_bytes left reported)
-      (limited_remaining left reported following) is_take taker taker
+      (left_within_limit left reported following) is_take taker taker
       (let r : Result (Received A) E = Ok End in r)
   reader_stops_at_limit None reported following over = absurd (true≢false (sym over))
   reader_stops_at_limit (Some (suc n)) reported following over = absurd (true≢false (sym over))
@@ -165,7 +165,7 @@ module _ {T A : Type 0} (E : Type 0) (is_take : T → List ℕ → A → T → T
         received in r)
         → Advances (limited_known_bytes left old) (limited_known_bytes (limit_after left received)
         new)
-        (limited_remaining (limit_after left received) new following) is_take before after
+        (left_within_limit (limit_after left received) new following) is_take before after
         (let r : Result (Received A) E = Ok received in r)
     limited_reader_advances None End some on = on
     limited_reader_advances None (PesPacket answer) some on = on

@@ -171,6 +171,6 @@ is_unlimited_rest (Some n) rest = false
 -- `left` of a reader with a limit: the remaining bytes of the inner reader (`known`) up to the
 -- limit, buffered bytes included. If there is no limit, it is `left` of the inner reader
 -- (`following`).
-abbrev pub limited_remaining : Option ℕ → Option (List ℕ) → Option (List ℕ) → Option (List ℕ)
-limited_remaining None known following = following
-limited_remaining (Some n) known following = option_map (limited_bytes (Some n)) known
+abbrev pub left_within_limit : Option ℕ → Option (List ℕ) → Option (List ℕ) → Option (List ℕ)
+left_within_limit None known following = following
+left_within_limit (Some n) known following = option_map (limited_bytes (Some n)) known

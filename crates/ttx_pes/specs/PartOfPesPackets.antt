@@ -1,7 +1,7 @@
 -- The model of a reader of a range of PES packets: it skips the PES packets before the range, and
 -- ends at a limit.
 use Rattle.std.specs.Prelude.{ℕ, zero, suc, ◌+◌, Bool, false, List, Option, option_map}
-use Rattle.ttx_pes.specs.Advancing.{limited_remaining, limited_known_bytes, is_unlimited_rest}
+use Rattle.ttx_pes.specs.Advancing.{left_within_limit, limited_known_bytes, is_unlimited_rest}
 use Rattle.ttx_pes.specs.PesPacketRange.{AheadValue, rest_after_pes_packets, count_pes_packets}
 
 -- The remaining bytes of the range, if n PES packets are still to be skipped and then at most
@@ -11,10 +11,10 @@ known_part zero left known_bytes = limited_known_bytes left known_bytes
 known_part (suc n) left known_bytes = limited_known_bytes left
     (option_map (rest_after_pes_packets (suc n)) known_bytes)
 
--- `left` of a reader of a range: `limited_remaining`, but all remaining bytes of the range while
+-- `left` of a reader of a range: `left_within_limit`, but all remaining bytes of the range while
 -- PES packets are still to be skipped.
 abbrev pub left_after_part : ℕ → Option ℕ → Option (List ℕ) → Option (List ℕ) → Option (List ℕ)
-left_after_part zero left known following = limited_remaining left known following
+left_after_part zero left known following = left_within_limit left known following
 left_after_part (suc n) left known following = known_part (suc n) left known
 
 -- `read_rest` may be called: the inner reader allows it (`rest`), no PES packet is still to be

@@ -2,7 +2,7 @@
 ghost use Rattle.std.specs.Prelude.{◌≡◌, ◌∷◌, ◌<◌, ◌≤◌, OnErr, OnOk, false, is_ok, true};
 ghost use Rattle.sub_io.specs.Device.{CanFail, CountsFailure};
 ghost use Rattle.ttx_pes.specs.Advancing.{Advances, HasSkipped, SkipsPesPackets, is_finished};
-ghost use Rattle.ttx_pes.specs.Advancing.{limited_remaining};
+ghost use Rattle.ttx_pes.specs.Advancing.{left_within_limit};
 ghost use Rattle.ttx_pes.specs.Advancing.{limited_known_bytes, is_unlimited_rest};
 ghost use Rattle.ttx_pes.specs.Advancing.{faulty_rest_is_answer};
 ghost use Rattle.ttx_pes.specs.Advancing as specs;
@@ -54,7 +54,7 @@ impl<'a, P: PesPackets> LimitedPesPackets<'a, P> {
 impl<P: PesPackets> PesPackets for LimitedPesPackets<'_, P> {
     ghost remaining = { λ l. limited_known_bytes l.left (P.remaining l.inner.now) };
 
-    ghost left = { λ l. limited_remaining l.left (P.remaining l.inner.now) (P.left l.inner.now) };
+    ghost left = { λ l. left_within_limit l.left (P.remaining l.inner.now) (P.left l.inner.now) };
 
     ghost failure_count = { λ l. P.failure_count l.inner.now };
 
@@ -72,7 +72,7 @@ impl<P: PesPackets> PesPackets for LimitedPesPackets<'_, P> {
         ensures received { Advances
             (limited_known_bytes self.old.left (P.remaining self.old.inner.now))
             (limited_known_bytes self.new.left (P.remaining self.new.inner.now))
-            (limited_remaining self.new.left (P.remaining self.new.inner.now)
+            (left_within_limit self.new.left (P.remaining self.new.inner.now)
             (P.left self.new.inner.now))
             T.is_take taker.old taker.new result }
         ensures rest { faulty_rest_is_answer result ≡ true

@@ -1,7 +1,7 @@
 -- Reading the next PES packet has the specified effect if the number of packets is limited.
 use Rattle.std.proofs.Common.{◌∙◌, ℕ, Option, Result, Ok, subst, sym}
 use Rattle.sub_io.specs.declared.source.Failed.{Failed}
-use Rattle.ttx_pes.specs.Advancing.{Advances, limited_remaining, limited_known_bytes}
+use Rattle.ttx_pes.specs.Advancing.{Advances, left_within_limit, limited_known_bytes}
 use Rattle.ttx_pes.specs.declared.pes_packets.Received.{Received}
 use Rattle.ttx_pes.proofs.LimitedReadLemmas.{limited_reader_advances, reader_stops_at_limit}
 use Rattle.ttx_pes.proofs.limited_pes_packets.LimitedPesPacketsPesPackets.next.Goals as goal
@@ -22,7 +22,7 @@ returns-clause-received g c =
     let following = g.P.PesPackets.left c.next.new.self in
     subst (λ (l : Option ℕ).
     Advances (limited_known_bytes left old) (limited_known_bytes l new)
-    (limited_remaining l new following)
+    (left_within_limit l new following)
     g.T.TakePesPacket.is_take c.args.taker.now c.next.new.taker
     (let r : Result (Received _) Failed = Ok c.in_ok-received.received in r))
     (sym c.limit_after-self.ensures)
