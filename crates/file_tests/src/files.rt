@@ -22,7 +22,7 @@ const INPUT: Entry = Entry {
 // A name without a file.
 const NOTHING: Entry = Entry {
     name: "b",
-    found: LookupResult::Nothing,
+    found: LookupResult::NothingFound,
     bytes: None,
     fails: false,
 };
@@ -77,7 +77,7 @@ fn opens_two_files_in_the_order_of_the_arguments(rt: HostRuntime) {
 
 #[test]
 fn creates_a_file_once_the_input_is_opened_and_both_are_looked_up(rt: HostRuntime) {
-    let there = [INPUT, second(LookupResult::Nothing)];
+    let there = [INPUT, second(LookupResult::NothingFound)];
     assert_file_calls(&rt, &NORMAL, &there, &mut [0], "o0l0l1p?c1", true);
     let other = [INPUT, second(LookupResult::At(1, 2))];
     assert_file_calls(&rt, &NORMAL, &other, &mut [0], "o0l0l1p?c1", true);
@@ -128,14 +128,14 @@ fn assert_reasons(
 fn gives_a_reason_for_an_output_only_if_no_lookup_gave_one(rt: HostRuntime) {
     let (one, other) = (LookupResult::At(1, 1), LookupResult::At(1, 2));
     assert_reasons(&rt, one, one, 1);
-    assert_reasons(&rt, LookupResult::Nothing, other, 1);
+    assert_reasons(&rt, LookupResult::NothingFound, other, 1);
     assert_reasons(&rt, one, LookupResult::Unknown, 0);
     assert_reasons(&rt, LookupResult::Unknown, other, 0);
 }
 
 #[test]
 fn creates_the_file_of_a_recording_as_that_of_a_subtitle_file(rt: HostRuntime) {
-    let there = [INPUT, second(LookupResult::Nothing)];
+    let there = [INPUT, second(LookupResult::NothingFound)];
     assert_file_calls(&rt, &EXTRACT, &there, &mut [0], "o0l0l1p?c1", true);
     let other = [INPUT, second(LookupResult::At(1, 2))];
     assert_file_calls(&rt, &EXTRACT, &other, &mut [0], "o0l0l1p?c1", true);
@@ -169,7 +169,7 @@ fn creates_no_file_that_standard_output_goes_into(rt: HostRuntime) {
     assert_file_calls(&rt, &NORMAL, &inode, &mut [0], "o0l0l1p2c1", true);
     let device = [INPUT, second(LookupResult::At(2, 2)), printed];
     assert_file_calls(&rt, &NORMAL, &device, &mut [0], "o0l0l1p2c1", true);
-    let nothing = [INPUT, second(LookupResult::Nothing), printed];
+    let nothing = [INPUT, second(LookupResult::NothingFound), printed];
     assert_file_calls(&rt, &NORMAL, &nothing, &mut [0], "o0l0l1p2c1", true);
 }
 

@@ -105,7 +105,7 @@ impl<'a> FileSystem for FilesInMemory<'a> {
     fn look_up_standard_output(&mut self) -> LookupResult {
         match self.ask(b'p', STANDARD_OUTPUT) {
             Some(entry) => entry.found,
-            None => LookupResult::Nothing,
+            None => LookupResult::NothingFound,
         }
     }
 

@@ -24,7 +24,7 @@ use ttx_pes::{FilePesPackets, NumberedPesPackets, PesPackets};
 // The numbers of frames and page transmissions in the schedule for `Hi`.
 const COUNTS: Accepted = Accepted {
     frames: 51,
-    transmissions: 2,
+    headers: 2,
 };
 
 // Returns a recording with the schedule for `Hi` in PID 101 (hexadecimal).

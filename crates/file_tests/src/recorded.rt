@@ -80,7 +80,7 @@ pub fn recording(bytes: &[u8], fails: bool) -> Entry<'_> {
 // The entry for output file `c`.
 const WRITTEN: Entry = Entry {
     name: "c",
-    found: LookupResult::Nothing,
+    found: LookupResult::NothingFound,
     bytes: None,
     fails: false,
 };

@@ -7,7 +7,8 @@ use Rattle.mpeg_ts.specs.PacketSize.{bytes_of}
 use Rattle.ttx_pes.specs.PesPacketRange.{PesPacketRangeValue, first_index, range_bytes}
 use Rattle.sub_request.specs.declared.pes_selection.TransportStream.{TransportStream}
 use Rattle.sub_request.specs.declared.request.Request.{Request}
-use Rattle.sub_answer.specs.Answering.{InputCall, pes_packets_call, reads_pes_packets, entire_call}
+use Rattle.sub_answer.specs.Answering.{InputCall, pes_packets_call, reads_pes_packets}
+use Rattle.sub_answer.specs.Answering.{call_without_range}
 use Rattle.sub_answer.specs.Part.{IsPartOf, IsRangeOf, first_number_in_range, bytes_in_range}
 use Rattle.sub_answer.specs.Part.{entire_file}
 use Rattle.sub_answer.specs.declared.part.Part.{Part}
@@ -18,7 +19,7 @@ module _ {D : Type 0} (remaining : D → Option (List ℕ)) (failure_count : D �
   pub entire_source_is_part : (request : Request) (p : Part)
       → (p ≡ entire_file) ⊎ (reads_pes_packets request ≡ true)
       → reads_pes_packets request ≡ false
-      → input ≡ entire_call remaining failure_count old left
+      → input ≡ call_without_range remaining failure_count old left
       → IsPartOf p remaining failure_count old left input
   entire_source_is_part request p fits none is = grind
       (arith, nat_tests, entire_source_is_entire_part)

@@ -63,24 +63,24 @@ every_length_has_counts : (page : PageIdValue) (frames : Transmission) (n : ℕ)
 every_length_has_counts page frames zero is = (
   record {
     frames = 0;
-    transmissions = header_count page (packets_before frames (length frames));
+    headers = header_count page (packets_before frames (length frames));
   },
   record {
     none = λ none. refl;
     frames_are = λ some. absurd (omega (arith, is, some));
-    transmissions_eq = refl;
+    headers_eq = refl;
   },
 )
 every_length_has_counts page frames (suc n) is =
     let first = latest_frame-first frames n in (
       record {
         frames = (latest_frame frames (suc n) + 1) - frame_at frames 0;
-        transmissions = header_count page (packets_before frames (length frames));
+        headers = header_count page (packets_before frames (length frames));
       },
       record {
         none = λ none. absurd (omega (arith, is, none));
         frames_are = λ some. rw is (omega (arith, first));
-        transmissions_eq = refl;
+        headers_eq = refl;
       },
     )
 
@@ -263,7 +263,7 @@ module _ {D : Type 0} (IsReported : D → Event → D → Type 0) (value : D →
       let events =
       decided (λ (x : List Event × Accepted). PrintsEvents (value old) x.0 (value new)) pes.known
       (λ bytes. (all_judged_events judged options bytes, (counts bytes).0))
-      (some.items, record { frames = 0; transmissions = 0 }) (put some.items some.reported)
+      (some.items, record { frames = 0; headers = 0 }) (put some.items some.reported)
       (λ bytes heard.
       let p = reported bytes heard in
       let whole = all_judged_events judged options bytes in

@@ -149,8 +149,8 @@ input_call remaining failure_count number skipped old new = record {
 }
 
 -- A source of which no part is selected: its first PES packet has the number 0.
-abbrev pub entire_call : {S : Type 0} → (S → Option (List ℕ)) → (S → ℕ) → S → S → InputCall
-entire_call remaining failure_count old new =
+abbrev pub call_without_range : {S : Type 0} → (S → Option (List ℕ)) → (S → ℕ) → S → S → InputCall
+call_without_range remaining failure_count old new =
     input_call remaining failure_count (λ s. Some 0) (λ s. 0) old new
 
 -- The states of an input of PES packets before and after a call, given the functions for the bytes

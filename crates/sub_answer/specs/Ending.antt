@@ -98,7 +98,7 @@ BufferHoldsOneLineOnly contents failure_count IsPush =
     (λ k. failures_with_refused_calls (failure_count k.device) k.refused) (PushesBuffered IsPush)
 
 -- The buffer is empty, and no call has failed since the state `old`.
-pub record BuffersNothing
+pub record FlushedWithoutFailure
     {O : Type 0} (buffer_state : O → List ℕ) (failure_count : O → ℕ) (old new : O) : Type 0 where
   pub none : buffer_state new ≡ []
   pub count : failure_count new ≡ failure_count old

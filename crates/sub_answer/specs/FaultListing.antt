@@ -15,7 +15,7 @@ use Rattle.sub_listing.specs.declared.status.Status.TheVariants.{Refused}
 -- the number of headers of the page.
 abbrev pub accepted_line : Accepted → List ℕ
 accepted_line a = codes "accepted " ++ decimal a.frames ++ codes " frames "
-    ++ decimal a.transmissions ++ codes " transmissions\n"
+    ++ decimal a.headers ++ codes " transmissions\n"
 
 -- The line with the number of faults.
 abbrev pub fault_count_listing : ℕ → Listing

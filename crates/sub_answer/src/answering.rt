@@ -15,7 +15,7 @@ ghost use Rattle.sub_answer.specs.Answering.{FlushesOutputFile, WritesBeforeRead
 ghost use Rattle.sub_answer.specs.Answering.{pes_packets_call};
 ghost use Rattle.sub_answer.specs.Answering.{StoresOutputFile, reads_pes_packets};
 ghost use Rattle.sub_answer.specs.Answering.{reads_any_pes_packets};
-ghost use Rattle.sub_answer.specs.Answering.{reads_plain_source, entire_call};
+ghost use Rattle.sub_answer.specs.Answering.{reads_plain_source, call_without_range};
 ghost use Rattle.sub_listing.specs.DeviceCall.{CanFail, CountsFault, read_call, sink_call};
 ghost use Rattle.sub_listing.specs.DeviceCall.{source_call};
 ghost use Rattle.sub_listing.specs.Faults.{usage_line};
@@ -60,8 +60,8 @@ pub fn answer<S: Source, T: Source, F: Close, K: Flush>(
 
     // The output and the output file, for each command.
     ensures answers { Answers request.now
-        (entire_call S.remaining S.failure_count first.old first.new)
-        (entire_call T.remaining T.failure_count second.old second.new)
+        (call_without_range S.remaining S.failure_count first.old first.new)
+        (call_without_range T.remaining T.failure_count second.old second.new)
         (second.new ≡ second.old)
         (sink_call F.contents F.failure_count file.old file.new)
         (sink_call K.contents K.failure_count out.old out.new) result }
@@ -136,7 +136,7 @@ pub fn answer_from_inputs<S: Source, P: NumberedPesPackets, F: Close, K: Flush>(
     // The output and the output file, for each command, and the output that is flushed before a
     // read that may block.
     ensures answers { AnswersFromInputs request.now
-        (entire_call S.remaining S.failure_count first.old first.new)
+        (call_without_range S.remaining S.failure_count first.old first.new)
         (pes_packets_call P.remaining P.left P.failure_count P.first P.skipped pes.old pes.new)
         (pes.new ≡ pes.old)
         (sink_call F.contents F.failure_count file.old file.new)

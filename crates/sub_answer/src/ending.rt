@@ -7,9 +7,9 @@ ghost use Rattle.std.specs.Prelude.{◌≡◌, ⊤, false, true, []};
 ghost use Rattle.sub_io.specs.Buffered.{Flushes, failures_with_refused_calls};
 ghost use Rattle.sub_io.specs.Device.{CanFail};
 ghost use Rattle.sub_answer.specs.Answering.{StoresOutputFile, first_input, pes_packets_call};
-ghost use Rattle.sub_answer.specs.Answering.{reads_pes_packets, entire_call};
+ghost use Rattle.sub_answer.specs.Answering.{reads_pes_packets, call_without_range};
 ghost use Rattle.sub_answer.specs.Ending.{BufferHoldsOneLineOnly, EndsWith, FlushesWithFile};
-ghost use Rattle.sub_answer.specs.Ending.{BuffersOneLineOnly, BuffersNothing, IsClosedAfter};
+ghost use Rattle.sub_answer.specs.Ending.{BuffersOneLineOnly, FlushedWithoutFailure, IsClosedAfter};
 ghost use Rattle.sub_answer.specs.Ending.{IsEmptyFile, IsEmptySource, PrintsFault, state_of_sink};
 ghost use Rattle.sub_answer.specs.Ending.{state_of_buffer};
 
@@ -52,7 +52,7 @@ pub fn answer_both_inputs<S: Source, P: NumberedPesPackets, K: Sink>(
         0 }
     ensures ends { EndsWith request.now
         (λ input. input ≡ first_input request.now
-        (entire_call S.remaining S.failure_count first.old first.new)
+        (call_without_range S.remaining S.failure_count first.old first.new)
         (pes_packets_call P.remaining P.left P.failure_count P.first P.skipped pes.old pes.new))
         (λ input. input
         ≡ pes_packets_call P.remaining P.left P.failure_count P.first P.skipped pes.old pes.new)
@@ -84,14 +84,14 @@ pub fn answer_source<S: Source, F: Close, O: FlushPending<F>>(
     ensures closed { F.is_closed file.new.device ≡ true }
     ensures after { FlushesWithFile O.is_flushed file.new out.new result }
     ensures ends { EndsWith request.now
-        (λ input. input ≡ entire_call S.remaining S.failure_count first.old first.new)
+        (λ input. input ≡ call_without_range S.remaining S.failure_count first.old first.new)
         IsEmptySource ⊤
         (IsClosedAfter F.contents F.failure_count F.is_close request.now file.old file.new)
         (BuffersOneLineOnly O.contents O.buffer_state O.failure_count O.is_push)
         (state_of_sink O.contents O.buffer_state O.failure_count out.old)
         (state_of_sink O.contents O.buffer_state O.failure_count out.new) result }
     ensures done { result ≡ Status.Done → Flushes F.failure_count file.old file.new
-        × BuffersNothing O.buffer_state O.failure_count out.old out.new }
+        × FlushedWithoutFailure O.buffer_state O.failure_count out.old out.new }
     ensures stored { StoresOutputFile request.now result (F.is_stored file.new.device) }
 {
     let mut nothing = MemSource::new(&[]);
@@ -125,7 +125,7 @@ pub fn answer_pes_packets<P: NumberedPesPackets, F: Close, O: FlushPending<F>>(
         (state_of_sink O.contents O.buffer_state O.failure_count out.new) result }
     ensures device { P.device pes.new ≡ P.device pes.old }
     ensures done { result ≡ Status.Done → Flushes F.failure_count file.old file.new
-        × BuffersNothing O.buffer_state O.failure_count out.old out.new }
+        × FlushedWithoutFailure O.buffer_state O.failure_count out.old out.new }
     ensures stored { StoresOutputFile request.now result (F.is_stored file.new.device) }
 {
     let mut nothing = MemSource::new(&[]);
@@ -152,7 +152,7 @@ fn answer_and_flush<S: Source, P: NumberedPesPackets, F: Close, O: FlushPending<
     requires out { O.failure_count out.old ≡ 0 }
     ensures ends { EndsWith request.now
         (λ input. input ≡ first_input request.now
-        (entire_call S.remaining S.failure_count first.old first.new)
+        (call_without_range S.remaining S.failure_count first.old first.new)
         (pes_packets_call P.remaining P.left P.failure_count P.first P.skipped pes.old pes.new))
         (λ input. input
         ≡ pes_packets_call P.remaining P.left P.failure_count P.first P.skipped pes.old pes.new)
@@ -163,7 +163,7 @@ fn answer_and_flush<S: Source, P: NumberedPesPackets, F: Close, O: FlushPending<
         (state_of_sink O.contents O.buffer_state O.failure_count out.new) result }
     ensures device { P.device pes.new ≡ P.device pes.old }
     ensures done { result ≡ Status.Done → Flushes F.failure_count file.old file.new
-        × BuffersNothing O.buffer_state O.failure_count out.old out.new }
+        × FlushedWithoutFailure O.buffer_state O.failure_count out.old out.new }
     ensures stored { StoresOutputFile request.now result (F.is_stored file.new.device) }
     ensures closed { F.is_closed file.new.device ≡ true }
     // The output was flushed after the file was closed.

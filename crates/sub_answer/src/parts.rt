@@ -3,7 +3,8 @@
 ghost use Rattle.std.specs.Prelude.{◌≡◌, ◌⊎◌, ⊤, None, Some, [], false, true};
 ghost use Rattle.sub_io.specs.Buffered.{Flushes, failures_with_refused_calls};
 ghost use Rattle.sub_io.specs.Device.{CanFail};
-ghost use Rattle.sub_answer.specs.Answering.{StoresOutputFile, reads_pes_packets, entire_call};
+ghost use Rattle.sub_answer.specs.Answering.{StoresOutputFile, reads_pes_packets};
+ghost use Rattle.sub_answer.specs.Answering.{call_without_range};
 ghost use Rattle.sub_answer.specs.Ending.{BufferHoldsOneLineOnly, EndsWith, BuffersOneLineOnly};
 ghost use Rattle.sub_answer.specs.Ending.{IsClosedAfter, IsEmptyFile, IsEmptySource, state_of_sink};
 ghost use Rattle.sub_answer.specs.Ending.{state_of_buffer};
@@ -123,7 +124,7 @@ pub fn answer_second_part<S: Source, T: Source + Drop, K: Sink>(
     requires out { failures_with_refused_calls (K.failure_count out.old.device) out.old.refused ≡
         0 }
     ensures { EndsWith request.now
-        (λ input. input ≡ entire_call S.remaining S.failure_count first.old first.new)
+        (λ input. input ≡ call_without_range S.remaining S.failure_count first.old first.new)
         (IsPartOf part T.remaining T.failure_count whole result.1) (result.1 ≡ whole) IsEmptyFile
         (BufferHoldsOneLineOnly K.contents K.failure_count K.is_push)
         (state_of_buffer K.contents K.failure_count out.old)
@@ -161,7 +162,7 @@ fn answer_second_range<S: Source, P: NumberedPesPackets, K: Sink>(
     requires out { failures_with_refused_calls (K.failure_count out.old.device) out.old.refused ≡
         0 }
     ensures ends { EndsWith request.now
-        (λ input. input ≡ entire_call S.remaining S.failure_count first.old first.new)
+        (λ input. input ≡ call_without_range S.remaining S.failure_count first.old first.new)
         (IsRangeOf range P.remaining P.left P.failure_count pes_packets.old pes_packets.new)
         (pes_packets.new ≡ pes_packets.old) IsEmptyFile
         (BufferHoldsOneLineOnly K.contents K.failure_count K.is_push)

@@ -53,8 +53,8 @@ ReportsSubtitles drawing file _ = ⊤
 -- and the number of headers of the page.
 pub record HasCounts (page : PageIdValue) (frames : Transmission) (a : Accepted) : Type 0 where
   pub frames_are : a.frames + first_frame frames ≡ last_frame frames + 1
-  pub transmissions_eq :
-      a.transmissions ≡ header_count page (flat_map (λ (s : SentFrame). s.packets) frames)
+  pub headers_eq :
+      a.headers ≡ header_count page (flat_map (λ (s : SentFrame). s.packets) frames)
 
 -- ---- the contents of both files
 

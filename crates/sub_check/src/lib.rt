@@ -7,7 +7,7 @@
 //! (`GoodWithRepeats` in `sub_rules`), and returns the first fault for any other:
 //!
 //! ```text
-//! check(&programme, &mut source, &options)?; // Accepted { frames: 51, transmissions: 2 }
+//! check(&programme, &mut source, &options)?; // Accepted { frames: 51, headers: 2 }
 //! check_all(&judging, &mut source, &options, &mut report_sink)?; // reports every fault
 //! law_of_good: Good programme transmission options → HasPromises programme transmission options
 //! ```

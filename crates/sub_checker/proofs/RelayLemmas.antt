@@ -133,7 +133,7 @@ skipped_run_is_kept_after_event run mid xs e is =
 
 pub emitted_event_reports_trusted_frames : (t u : TrustTracker) (e named : Event)
     (first : Option Event)
-    → first_as_list first ≡ trusted_events_before t.run t.whole t.back
+    → first_as_list first ≡ trusted_events_before t.run t.first_finished t.back
     (invalidated t.last (overdue_run_start t) e)
     → u ≡ after_step (Emits e) t
     → named ≡ with_pes_number u.pes e

@@ -8,7 +8,7 @@ use Rattle.sub_rules.specs.Trusted.{last_packet_frame}
 use Rattle.sub_rules.specs.Trusted.{late_run_start}
 use Rattle.sub_rules.specs.Trusted.{current_pes, run_of, first_unfinished_of, stays_fault_free}
 use Rattle.sub_rules.specs.Trusted.{reports_order_fault, events_reported_after}
-use Rattle.sub_rules.specs.Trusted.{events_reported_at_step, first_correct_of}
+use Rattle.sub_rules.specs.Trusted.{events_reported_at_step, first_finished_of}
 use Rattle.sub_rules.specs.Trusted.CheckStep.{Closes, Emits}
 use Rattle.sub_rules.specs.declared.event.Event.{Event}
 use Rattle.sub_rules.specs.declared.event.Event.TheVariants.{Reported}
@@ -42,7 +42,7 @@ record TrackerMatches (past : List CheckStep) (t : TrustTracker) : Type 0 where
   back_frames_agree : t.back ≡ back_frame_of past
   reports_agree : t.reported ≡ list_any is_emitted past
   run_start_is_exact : t.run ≡ run_of past
-  first_correct_frame_is_exact : is_some t.run ≡ true → t.whole ≡ first_correct_of past
+  first_finished_frame_is_exact : is_some t.run ≡ true → t.first_finished ≡ first_finished_of past
 
 order_fault_test_is_exact : (e : Event) → reports_order_fault (Emits e) ≡ is_order_fault e
 unfolding reports_order_fault is_order_fault
@@ -64,7 +64,7 @@ keeps : (m : CheckStep) (past : List CheckStep) (t : TrustTracker) → TrackerMa
 unfolding after_step current_pes last_packet_frame stays_fault_free first_unfinished_of
     late_run_start
     back_frame_of
-    run_of first_correct_of
+    run_of first_finished_of
     reports_order_fault
 keeps m past t k = grind (arith, nat_tests, invalidated_frame_is_exact, order_fault_test_is_exact)
 

@@ -47,7 +47,7 @@ ending_fault pes (Some u) = Some (unread_fault pes (Some u))
 pub record CountsMatchChecker (c : CheckerValue) (a : Accepted) : Type 0 where
   pub none : c.counts.frames ≡ 0 → a.frames ≡ 0
   pub frames_are : 0 < c.counts.frames → a.frames + c.first ≡ c.latest_frame + 1
-  pub transmissions_eq : a.transmissions ≡ c.counts.headers
+  pub headers_eq : a.headers ≡ c.counts.headers
 
 -- The device received all events, and the counts are returned; or the device stopped the check
 -- after a prefix of the events.

@@ -18,8 +18,8 @@ pub record AreCountsOfFrames (page : PageIdValue) (frames : Transmission) (a : A
     pub none : length frames ≡ 0 → a.frames ≡ 0
     pub frames_are :
         0 < length frames → a.frames + frame_at frames 0 ≡ latest_frame frames (length frames) + 1
-    pub transmissions_eq :
-        a.transmissions ≡ header_count page (packets_before frames (length frames))
+    pub headers_eq :
+        a.headers ≡ header_count page (packets_before frames (length frames))
 
 -- Each Teletext packet of the frames has 42 bytes.
 abbrev pub HaveCompletePackets : Transmission → Type 0

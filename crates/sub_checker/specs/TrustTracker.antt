@@ -24,8 +24,8 @@ is_order_fault event = false
 -- The event for the trusted frames of a run that ends before this frame. The frames from `back` on
 -- have an unfinished page and are not trusted.
 abbrev pub trusted_events_before : Option ℕ → Option ℕ → Option ℕ → Option ℕ → List Event
-trusted_events_before run whole back None = []
-trusted_events_before run whole back (Some f) = trusted run whole (unwrap_or back f)
+trusted_events_before run finished back None = []
+trusted_events_before run finished back (Some f) = trusted run finished (unwrap_or back f)
 
 -- The run of trusted frames after frame f. `has_beginning` says whether f has a header with which a
 -- run can begin.
@@ -40,16 +40,18 @@ trusted_run_after run (Some f) = None
 
 -- The first frame of the run at whose end the page was finished, after frame f of the run. The page
 -- is finished at f if `first_unfinished` is `None`.
-abbrev pub first_correct : Option ℕ → Option ℕ → ℕ → Option ℕ
-first_correct (Some whole) first_unfinished f = Some whole
-first_correct None None f = Some f
-first_correct None (Some first_unfinished) f = None
+abbrev pub first_finished_frame : Option ℕ → Option ℕ → ℕ → Option ℕ
+first_finished_frame (Some earlier) first_unfinished f = Some earlier
+first_finished_frame None None f = Some f
+first_finished_frame None (Some first_unfinished) f = None
 
 -- The first frame of the run at whose end the page was finished, after frame f, with which a run
 -- continues or begins.
-abbrev pub first_correct_frame_in : Option ℕ → Option ℕ → Option ℕ → ℕ → Option ℕ
-first_correct_frame_in None whole first_unfinished f = first_correct None first_unfinished f
-first_correct_frame_in (Some from) whole first_unfinished f = first_correct whole first_unfinished f
+abbrev pub first_finished_frame_in : Option ℕ → Option ℕ → Option ℕ → ℕ → Option ℕ
+first_finished_frame_in None earlier first_unfinished f =
+    first_finished_frame None first_unfinished f
+first_finished_frame_in (Some from) earlier first_unfinished f =
+    first_finished_frame earlier first_unfinished f
 
 -- The first frame with the unfinished page, if the page is overdue.
 abbrev pub overdue_run_start : TrustTracker → Option ℕ
@@ -64,11 +66,14 @@ first_untrusted_frame t are_left =
 -- end of the file, trusted frames are reported only if an event was reported or `more` is true.
 unfoldable pub events_of_step : CheckStep → TrustTracker → List Event
 events_of_step (Emits e) t =
-    trusted_events_before t.run t.whole t.back (invalidated t.last (overdue_run_start t) e) ++
+    trusted_events_before t.run t.first_finished t.back
+    (invalidated t.last (overdue_run_start t) e) ++
     with_pes_number
     t.pes e ∷ []
 events_of_step (Closes are_left more) t =
-    if t.reported || more then trusted t.run t.whole (first_untrusted_frame t are_left) else []
+    if t.reported || more
+    then trusted t.run t.first_finished (first_untrusted_frame t are_left)
+    else []
 events_of_step step t = []
 
 -- The state of the tracker after one step.
@@ -84,11 +89,13 @@ after_step (Begins f) t = record t { last = f; is_clean = t.rises }
 after_step (AtEnd f first_unfinished late) t = record t {
   first_unfinished = first_unfinished;
   is_late = late;
-  whole = if is_some t.run then first_correct t.whole first_unfinished f else t.whole;
+  first_finished = if is_some t.run
+      then first_finished_frame t.first_finished first_unfinished f
+      else t.first_finished;
 }
 after_step (Ends f has_beginning none) t = record t {
   run = if t.is_clean && none then continued_run t.run has_beginning f else None;
-  whole = first_correct_frame_in t.run t.whole t.first_unfinished f;
+  first_finished = first_finished_frame_in t.run t.first_finished t.first_unfinished f;
 }
 after_step (Closes are_left more) t = record t { run = None }
 after_step (GoesBack first_unfinished) t = record t { back = first_unfinished }
@@ -98,7 +105,7 @@ abbrev pub new_tracker : TrustTracker
 new_tracker = record {
   pes = 0;
   run = None;
-  whole = None;
+  first_finished = None;
   last = 0;
   rises = true;
   is_clean = true;

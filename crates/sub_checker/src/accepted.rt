@@ -12,7 +12,7 @@ pub struct Accepted {
     /// greatest frame number; 0 if there is none.
     pub frames: u64,
     /// The number of headers of the page in the file.
-    pub transmissions: u64,
+    pub headers: u64,
 }
 
 /// Returns whether the fault is a failure to read the PES file.

@@ -237,7 +237,7 @@ impl<'a> Checker<'a> {
     {
         Accepted {
             frames: frame_count(self.counts.frames, self.first, self.latest_frame),
-            transmissions: self.counts.headers,
+            headers: self.counts.headers,
         }
     }
 }

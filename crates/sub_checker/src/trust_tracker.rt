@@ -4,7 +4,7 @@ ghost use Rattle.sub_io.specs.Reporting.{first_as_list};
 ghost use Rattle.sub_rules.specs.Trusted.{with_pes_number, trusted};
 ghost use Rattle.sub_rules.specs.Trusted.CheckStep.{AtEnd, AtPes, Begins, Closes, Ends, GoesBack};
 ghost use Rattle.sub_rules.specs.Trusted.CheckStep.{Emits};
-ghost use Rattle.sub_checker.specs.TrustTracker.{after_step, invalidated, first_correct};
+ghost use Rattle.sub_checker.specs.TrustTracker.{after_step, invalidated, first_finished_frame};
 ghost use Rattle.sub_checker.specs.TrustTracker.{is_order_fault};
 ghost use Rattle.sub_checker.specs.TrustTracker.{overdue_run_start, new_tracker, events_of_step};
 ghost use Rattle.sub_checker.specs.TrustTracker.{trusted_events_before};
@@ -20,7 +20,7 @@ pub(crate) struct TrustTracker {
     /// The frame of the header with which the current run of trusted frames began, if there is one.
     pub run: Option<u32>,
     /// The first frame of the current run at whose end the page was finished.
-    pub whole: Option<u32>,
+    pub first_finished: Option<u32>,
     /// The frame of the last PES packet that was not skipped; 0 if there is none.
     pub last: u32,
     /// Whether frame numbers have increased so far.
@@ -47,7 +47,7 @@ impl TrustTracker {
         TrustTracker {
             pes: 0,
             run: None,
-            whole: None,
+            first_finished: None,
             last: 0,
             rises: true,
             is_clean: true,
@@ -95,7 +95,11 @@ impl TrustTracker {
         self.first_unfinished = first_unfinished;
         self.is_late = is_late;
         if self.run.is_some() {
-            self.whole = first_correct(self.whole, first_unfinished, frame);
+            self.first_finished = first_finished_frame(
+                self.first_finished,
+                first_unfinished,
+                frame,
+            );
         }
     }
 
@@ -117,9 +121,9 @@ impl TrustTracker {
     #[inline(always)]
     fn run_stays_trusted(&self) -> bool
         ensures { result
-            ≡ (is_some self.now.run && is_some self.now.whole && self.now.is_clean) }
+            ≡ (is_some self.now.run && is_some self.now.first_finished && self.now.is_clean) }
     {
-        self.run.is_some() && self.whole.is_some() && self.is_clean
+        self.run.is_some() && self.first_finished.is_some() && self.is_clean
     }
 
     // Ends a frame that may change the run of trusted frames.
@@ -128,8 +132,12 @@ impl TrustTracker {
     fn update_trusted_run(&mut self, frame: u32, has_beginning: bool, none_active: bool)
         ensures { self.new ≡ after_step (Ends frame has_beginning none_active) self.old }
     {
-        let before = if self.run.is_some() { self.whole } else { None };
-        self.whole = first_correct(before, self.first_unfinished, frame);
+        let before = if self.run.is_some() {
+            self.first_finished
+        } else {
+            None
+        };
+        self.first_finished = first_finished_frame(before, self.first_unfinished, frame);
         if !(self.is_clean && none_active) {
             self.run = None;
         } else if has_beginning && self.run.is_none() {
@@ -142,7 +150,7 @@ impl TrustTracker {
     #[tactic(auto, unfolding(crate::specs::TrustTracker::after_step))]
     pub fn note_event(&mut self, event: &Event) -> Option<Event>
         ensures before { first_as_list result
-            ≡ trusted_events_before self.old.run self.old.whole self.old.back
+            ≡ trusted_events_before self.old.run self.old.first_finished self.old.back
             (invalidated self.old.last (overdue_run_start self.old) event.now) }
         ensures kept { self.new ≡ after_step (Emits event.now) self.old }
     {
@@ -162,7 +170,11 @@ impl TrustTracker {
         }
         self.reported = true;
         match frame {
-            Some(frame) => trusted(run, self.whole, u64::from(self.back.unwrap_or(frame))),
+            Some(frame) => trusted(
+                run,
+                self.first_finished,
+                u64::from(self.back.unwrap_or(frame)),
+            ),
             None => None,
         }
     }
@@ -196,7 +208,7 @@ impl TrustTracker {
             None => end,
         };
         if self.reported || reports_more {
-            trusted(self.run, self.whole, end)
+            trusted(self.run, self.first_finished, end)
         } else {
             None
         }
@@ -217,11 +229,15 @@ impl TrustTracker {
 
 // Returns the first frame of the run at whose end the page was finished, after one more frame of
 // the run.
-fn first_correct(whole: Option<u32>, first_unfinished: Option<u32>, frame: u32) -> Option<u32>
-    ensures { result ≡ first_correct whole first_unfinished frame }
+fn first_finished_frame(
+    earlier: Option<u32>,
+    first_unfinished: Option<u32>,
+    frame: u32,
+) -> Option<u32>
+    ensures { result ≡ first_finished_frame earlier first_unfinished frame }
 {
-    if whole.is_some() {
-        return whole;
+    if earlier.is_some() {
+        return earlier;
     }
     if first_unfinished.is_none() {
         Some(frame)
@@ -231,13 +247,13 @@ fn first_correct(whole: Option<u32>, first_unfinished: Option<u32>, frame: u32) 
 }
 
 // Returns the event for the trusted frames of the run before `frame`; `None` if there are none.
-fn trusted(run: Option<u32>, whole: Option<u32>, frame: u64) -> Option<Event>
+fn trusted(run: Option<u32>, finished: Option<u32>, frame: u64) -> Option<Event>
     requires { frame ≤ 0x1_0000_0000 }
-    ensures { first_as_list result ≡ trusted run whole frame }
+    ensures { first_as_list result ≡ trusted run finished frame }
 {
     let from = run?;
-    let whole = whole?;
-    if u64::from(whole) < frame {
+    let finished = finished?;
+    if u64::from(finished) < frame {
         let to = (frame - 1) as u32;
         Some(Event::Trusted { from, to })
     } else {

@@ -7,11 +7,11 @@ use Rattle.sub_rules.specs.Trusted.{current_pes}
 use Rattle.sub_rules.specs.Trusted.{run_of}
 use Rattle.sub_rules.specs.Trusted.{first_unfinished_of, stays_fault_free, reports_order_fault}
 use Rattle.sub_rules.specs.Trusted.{events_reported_after, events_reported_at_step}
-use Rattle.sub_rules.specs.Trusted.{first_correct_of}
+use Rattle.sub_rules.specs.Trusted.{first_finished_of}
 use Rattle.sub_examples.specs.TrustedExamples.{ExamplesOfTrustedFrames}
 
 pub examples_of_trusted_frames : ExamplesOfTrustedFrames
-unfolding events_reported_after events_reported_at_step first_correct_of run_of stays_fault_free
+unfolding events_reported_after events_reported_at_step first_finished_of run_of stays_fault_free
     invalidated_by
     reports_order_fault first_unfinished_of late_run_start
     back_frame_of last_packet_frame current_pes with_pes_number

@@ -2,7 +2,7 @@
 -- output (not defined by a standard).
 use Rattle.std.specs.Prelude.{Bool, true, false, not, ◌&&◌, ◌==◌}
 use Rattle.sub_files.specs.declared.distinct_files.LookupResult.{LookupResult}
-use Rattle.sub_files.specs.declared.distinct_files.LookupResult.TheVariants.{At, Nothing}
+use Rattle.sub_files.specs.declared.distinct_files.LookupResult.TheVariants.{At, NothingFound}
 
 -- The lookup of a name found a file.
 abbrev pub is_file_found : LookupResult → Bool
@@ -11,7 +11,7 @@ is_file_found _ = false
 
 -- The output file does not exist yet; or both files are known, and differ in device or inode.
 abbrev pub differs_from_input : (input output : LookupResult) → Bool
-differs_from_input input Nothing = true
+differs_from_input input NothingFound = true
 differs_from_input (At device inode) (At other_device other_inode) =
     not ((device == other_device) && (inode == other_inode))
 differs_from_input input output = false

@@ -7,7 +7,7 @@ use Rattle.sub_files.specs.FileCalls.{FileCall}
 use Rattle.sub_files.specs.FileCalls.FileCall.{Create, ReleaseInput, ReleaseOutput, LookUp}
 use Rattle.sub_files.specs.FileCalls.FileCall.{LookUpStandardOutput, Open}
 use Rattle.sub_files.specs.declared.distinct_files.LookupResult.{LookupResult}
-use Rattle.sub_files.specs.declared.distinct_files.LookupResult.TheVariants.{At, Nothing}
+use Rattle.sub_files.specs.declared.distinct_files.LookupResult.TheVariants.{At, NothingFound}
 use Rattle.sub_files.specs.declared.memory.MemFile.{MemFile}
 
 -- Two existing files, and the number of bytes that a created file can have; `None` if no file can
@@ -28,7 +28,7 @@ bytes_at name files =
 -- the same device and inode.
 abbrev pub lookup_result_for_bytes : Option (List ℕ) → LookupResult
 lookup_result_for_bytes (Some bytes) = At 0 0
-lookup_result_for_bytes None = Nothing
+lookup_result_for_bytes None = NothingFound
 
 -- A created file without contents, which can have this many bytes.
 abbrev pub empty_file_with_capacity : ℕ → MemSinkValue
@@ -40,7 +40,7 @@ empty_file_with_capacity room = record { bytes = []; room = room; failure_count 
 abbrev pub IsMemoryCall : MemFilesValue → FileCall (List ℕ) MemSinkValue → MemFilesValue → Type 0
 IsMemoryCall old (LookUp name found) new = (new ≡ old) ×
     (found ≡ lookup_result_for_bytes (bytes_at name old))
-IsMemoryCall old (LookUpStandardOutput found) new = (new ≡ old) × (found ≡ Nothing)
+IsMemoryCall old (LookUpStandardOutput found) new = (new ≡ old) × (found ≡ NothingFound)
 IsMemoryCall old (Open name file) new = (new ≡ old) × (file ≡ bytes_at name old)
 IsMemoryCall old (Create name file) new =
     (new ≡ record old { room = None }) × (file ≡ option_map empty_file_with_capacity old.room)

@@ -7,7 +7,7 @@ ghost use Rattle.sub_files.specs.DistinctFiles.{differs_from_standard_output, di
 #[derive(Clone, Copy, Debug, PartialEq, Eq)]
 pub enum LookupResult {
     /// No file has this name; or standard output keeps nothing, or is unknown.
-    Nothing,
+    NothingFound,
     /// A file with this device and inode.
     At(u64, u64),
     /// The name could not be looked up.
@@ -20,12 +20,12 @@ pub fn differs_from_input(input: LookupResult, output: LookupResult) -> bool
     ensures { result ≡ differs_from_input input output }
 {
     match output {
-        LookupResult::Nothing => true,
+        LookupResult::NothingFound => true,
         LookupResult::Unknown => false,
         LookupResult::At(device, inode) => match input {
             LookupResult::At(input_device, input_inode) => input_device != device
                 || input_inode != inode,
-            LookupResult::Nothing | LookupResult::Unknown => false,
+            LookupResult::NothingFound | LookupResult::Unknown => false,
         },
     }
 }
@@ -40,8 +40,8 @@ pub fn differs_from_standard_output(standard_output: LookupResult, output: Looku
             LookupResult::At(output_device, output_inode) => {
                 device != output_device || inode != output_inode
             }
-            LookupResult::Nothing | LookupResult::Unknown => true,
+            LookupResult::NothingFound | LookupResult::Unknown => true,
         },
-        LookupResult::Nothing | LookupResult::Unknown => true,
+        LookupResult::NothingFound | LookupResult::Unknown => true,
     }
 }

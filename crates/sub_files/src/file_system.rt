@@ -26,8 +26,8 @@ pub trait FileSystem {
     fn look_up(&mut self, name: &str) -> LookupResult
         ensures { is_call self.old (FileCall.LookUp name.now result) self.new };
 
-    /// Looks up the file, pipe, terminal or socket that receives standard output. Returns `Nothing`
-    /// if standard output is a device that keeps nothing, or unknown.
+    /// Looks up the file, pipe, terminal or socket that receives standard output. Returns
+    /// `NothingFound` if standard output is a device that keeps nothing, or unknown.
     fn look_up_standard_output(&mut self) -> LookupResult
         ensures { is_call self.old (FileCall.LookUpStandardOutput result) self.new };
 

@@ -115,9 +115,9 @@ pub struct LookupResults {
 fn reason_for_refusal(found: LookupResults) -> Option<&'static str> {
     match found.output {
         LookupResult::Unknown => None,
-        LookupResult::Nothing | LookupResult::At(..) => match found.input {
+        LookupResult::NothingFound | LookupResult::At(..) => match found.input {
             LookupResult::Unknown => None,
-            LookupResult::Nothing => Some("the file that is read was removed"),
+            LookupResult::NothingFound => Some("the file that is read was removed"),
             LookupResult::At(..) => Some("it is the file that is read"),
         },
     }

@@ -107,13 +107,13 @@ pub fn explain_refusal<E: Eprint>(request: &Request<'_>, kinds: &InputKinds, err
                 explain_pes_packets(
                     pes.name(),
                     kinds.second.get(),
-                    needs_no_pid(request),
+                    lacks_no_pid(request),
                     errors,
                 );
             }
         }
         FileNames::ReadPes(pes) | FileNames::Extract(pes, _) => {
-            explain_pes_packets(pes.name(), kinds.first.get(), needs_no_pid(request), errors);
+            explain_pes_packets(pes.name(), kinds.first.get(), lacks_no_pid(request), errors);
         }
         FileNames::None => {}
     }
@@ -123,7 +123,7 @@ const EXCHANGED: &str = ": give the subtitle file first (subttx check STL PES)";
 
 // Returns `false` only for a request without `--pid` that with `--pid` would read a transport
 // stream.
-fn needs_no_pid(request: &Request<'_>) -> bool {
+fn lacks_no_pid(request: &Request<'_>) -> bool {
     match request {
         Request::Packets { pes } | Request::Check { pes, .. } | Request::Listen { pes, .. } => {
             pes.stream.is_some()
@@ -156,13 +156,13 @@ fn explain_subtitle_file<E: Eprint>(name: &str, kind: InputKind, advice: &str, e
 
 // Prints a line if an input in the place of PES packets appears to be a transport stream that is
 // read without `--pid`, or a subtitle file.
-fn explain_pes_packets<E: Eprint>(name: &str, kind: InputKind, needs_no_pid: bool, errors: &E) {
+fn explain_pes_packets<E: Eprint>(name: &str, kind: InputKind, lacks_no_pid: bool, errors: &E) {
     let _ = match kind {
-        InputKind::TransportStream(188) if !needs_no_pid => eprintln!(errors;
+        InputKind::TransportStream(188) if !lacks_no_pid => eprintln!(errors;
             "subttx: {name:?} looks like a transport stream: give --pid \
             (subttx survey {name:?} lists PIDs)"
         ),
-        InputKind::TransportStream(size) if !needs_no_pid => eprintln!(errors;
+        InputKind::TransportStream(size) if !lacks_no_pid => eprintln!(errors;
             "subttx: {name:?} looks like a transport stream: give --pid and --packet-size {size} \
             (subttx survey {name:?} lists PIDs)"
         ),

@@ -83,12 +83,12 @@ impl<'a> FileSystem for MemFiles<'a> {
     fn look_up(&mut self, name: &str) -> LookupResult {
         match self.bytes_at(name) {
             Some(_) => LookupResult::At(0, 0),
-            None => LookupResult::Nothing,
+            None => LookupResult::NothingFound,
         }
     }
 
     fn look_up_standard_output(&mut self) -> LookupResult {
-        LookupResult::Nothing
+        LookupResult::NothingFound
     }
 
     fn open(&mut self, name: &str) -> Option<MemSource<'a>> {

@@ -22,7 +22,7 @@ const FOLDER: &str = "/";
 pub struct StreamInPlace<F> {
     // Stays open as long as files may be opened.
     _folder: Option<F>,
-    /// The device and inode of the folder; `Nothing` if the stream is open.
+    /// The device and inode of the folder; `NothingFound` if the stream is open.
     pub found: LookupResult,
 }
 
@@ -41,7 +41,7 @@ pub fn occupy_closed_stream<R: Files, S: AsFd>(
     if !is_closed(stream) {
         return Ok(StreamInPlace {
             _folder: None,
-            found: LookupResult::Nothing,
+            found: LookupResult::NothingFound,
         });
     }
     let folder = fs::open(rt, FOLDER)?;

@@ -39,7 +39,7 @@ pub struct SystemFiles<'a, R> {
     kinds: &'a InputKinds,
     // The number of opened files.
     opened: u8,
-    // The folder in the place of closed standard streams; `Nothing` if none is closed.
+    // The folder in the place of closed standard streams; `NothingFound` if none is closed.
     closed_stream: LookupResult,
 }
 
@@ -69,7 +69,7 @@ impl<'a, R: Files + Eprint> SystemFiles<'a, R> {
                 Ok(found_file) => found_file.dev() == device && found_file.ino() == inode,
                 Err(_) => false,
             },
-            LookupResult::Nothing | LookupResult::Unknown => false,
+            LookupResult::NothingFound | LookupResult::Unknown => false,
         }
     }
 
@@ -119,7 +119,7 @@ impl<'a, R: Files + Eprint> FileSystem for SystemFiles<'a, R> {
                 found_file.dev(),
                 found_file.ino(),
             ),
-            _ => LookupResult::Nothing,
+            _ => LookupResult::NothingFound,
         }
     }
 
@@ -190,14 +190,14 @@ fn is_memory_device(file: &Metadata) -> bool {
 fn lookup_result_from_metadata(looked_up: io::Result<Metadata>) -> LookupResult
     ensures found_file { IfOk looked_up (λ _. is_file_found result ≡ true) }
     ensures nothing { IfErr looked_up (λ error.
-        error_kind error ≡ ErrorKind.NotFound → result ≡ LookupResult.Nothing) }
+        error_kind error ≡ ErrorKind.NotFound → result ≡ LookupResult.NothingFound) }
     ensures unknown { IfErr looked_up (λ error.
         error_kind error ≢ ErrorKind.NotFound → result ≡ LookupResult.Unknown) }
 {
     match looked_up {
         Ok(found_file) => LookupResult::At(found_file.dev(), found_file.ino()),
         Err(error) => match error.kind() {
-            ErrorKind::NotFound => LookupResult::Nothing,
+            ErrorKind::NotFound => LookupResult::NothingFound,
             _ => LookupResult::Unknown,
         },
     }

@@ -214,7 +214,7 @@ accepted_line_fits row under line e =
           double_line_not_in_row_23 (has_double_height line) row (absent_fault_has_false_condition
           (has_double_height line && (row == 23)) DoubleRow
           two.1);
-      seen = covered_line_is_empty line under
+      empty_below_double_height = covered_line_is_empty line under
           (absent_fault_has_false_condition (has_cells line && under) Hidden three.1);
     }
 
@@ -405,7 +405,8 @@ fitting_line_has_no_fault row under line lines_fit_on_page =
     (line_does_not_pass_row_23 line row lines_fit_on_page.high)))
     (false_condition_has_no_fault _ DoubleRow (not_double_in_row_23 (has_double_height line) row
     lines_fit_on_page.double_not_in_row_23)))
-    (false_condition_has_no_fault _ Hidden (line_is_not_covered line under lines_fit_on_page.seen))
+    (false_condition_has_no_fault _ Hidden (line_is_not_covered line under
+    lines_fit_on_page.empty_below_double_height))
 
 fitting_lines_have_no_faults : (number row : ℕ) (under : Bool) (ls : List (List ℕ))
     → FitLines row under ls

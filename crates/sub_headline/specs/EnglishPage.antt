@@ -46,7 +46,7 @@ pub record FitsLine (row : ℕ) (is_below_double_height : Bool) (line : List ℕ
   pub short : length line ≤ 40
   pub high : line ≢ [] → row ≤ 23
   pub double_not_in_row_23 : IsTrue (has_double_height line) → row ≢ 23
-  pub seen : IsTrue is_below_double_height → line ≡ []
+  pub empty_below_double_height : IsTrue is_below_double_height → line ≡ []
 
 -- The lines of a subtitle fit on the page if the first of them is in row `row`.
 abbrev pub FitLines : ℕ → Bool → List (List ℕ) → Type 0

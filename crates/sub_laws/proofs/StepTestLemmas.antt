@@ -32,7 +32,7 @@ use Rattle.sub_rules.specs.declared.packet_rule.PacketRule.{PacketRule}
 use Rattle.sub_rules.specs.declared.packet_rule.Watched.{Watched}
 use Rattle.sub_rules.specs.Trusted.{CheckStep, with_pes_number, back_frame_of, run_of}
 use Rattle.sub_rules.specs.Trusted.{events_reported_after, events_reported_at_step}
-use Rattle.sub_rules.specs.Trusted.{trusted, trusted_up_to, first_correct_of}
+use Rattle.sub_rules.specs.Trusted.{trusted, trusted_up_to, first_finished_of}
 use Rattle.sub_rules.specs.declared.active_faults.ActiveFaults.{ActiveFaults}
 
 module _ (test : CheckStep → Bool) where
@@ -266,7 +266,7 @@ module _ (bad : CheckFault → Bool)
       false
   frames_up_to_report_nothing_bad t None = refl
   frames_up_to_report_nothing_bad t (Some f) = trusted_frames_report_nothing_bad (run_of t)
-      (first_correct_of t) (unwrap_or (back_frame_of t) f)
+      (first_finished_of t) (unwrap_or (back_frame_of t) f)
 
   numbered_event_is_not_bad : (pes : ℕ) (e : Event) → reports_bad_fault e ≡ false →
       reports_bad_fault (with_pes_number pes e) ≡ false

@@ -3,7 +3,7 @@
 use Rattle.std.proofs.lemmas.Bool.Decides.{nat_tests}
 use Rattle.std.proofs.Common.{◌≡◌, ℕ, ◌+◌, ◌<◌, Bool, true, false, if◌then◌else◌, List, Option}
 use Rattle.std.proofs.Common.{arith, refl}
-use Rattle.sub_listing.specs.LastLine.{BuffersLastLineOnly, IsAlone, PutsLine}
+use Rattle.sub_listing.specs.LastLine.{BuffersLastLineOnly, IsOnlyFaultLine, PutsLine}
 
 pub raised_count_means_failure : (old new : ℕ) (fails : Bool)
     → old < new
@@ -14,7 +14,7 @@ raised_count_means_failure old new false risen counted = absurd (omega (arith, r
 
 pub only_last_line_is_buffered : {K : Type 0} (contents : K → Option (List ℕ)) (buffered : K → ℕ)
     (IsPush : K → List ℕ → Option ℕ → K → Type 0) (before new : K) (text put : List ℕ)
-    → IsAlone (buffered before) text
+    → IsOnlyFaultLine (buffered before) text
     → put ≡ text
     → PutsLine contents IsPush before put new
     → BuffersLastLineOnly contents buffered IsPush new

@@ -26,7 +26,7 @@ pub record BuffersLastLineOnly
   pub line : PutsLine contents IsPush before (text_of_fault_line reported) new
 
 -- The text is the line of a fault, and everything before it was flushed.
-pub record IsAlone (buffered : ℕ) (text : List ℕ) : Type 0 where
+pub record IsOnlyFaultLine (buffered : ℕ) (text : List ℕ) : Type 0 where
   pub settled : buffered ≡ 0
   pub reported : FaultLine
   pub line : text ≡ text_of_fault_line reported

@@ -5,7 +5,7 @@ ghost use Rattle.std.specs.Prelude.{Bool, List, Option, false, true};
 ghost use Rattle.std.specs.Borrow.{GName};
 ghost use Rattle.sub_io.specs.Device.{CountsFailureIf};
 ghost use Rattle.sub_listing.specs.DeviceCall.{CanFail, CountsFault, read_call, sink_call};
-ghost use Rattle.sub_listing.specs.LastLine.{BuffersLastLineOnly, IsAlone};
+ghost use Rattle.sub_listing.specs.LastLine.{BuffersLastLineOnly, IsOnlyFaultLine};
 ghost use Rattle.sub_listing.specs.Listing.{ListsNext, IsEndless, ListingRelation};
 ghost use Rattle.sub_listing.specs.Listing.{PrintsListing};
 ghost use Rattle.sub_listing.specs.Listing.{has_failed};
@@ -92,7 +92,7 @@ pub trait Lister<I> {
         ensures followed { can_be_followed ≡ true
             → (printer.old.pending ≡ false → K.buffered printer.old.out.now ≡ 0)
             → has_failed result ≡ true → printer.new.failed ≡ false
-            → IsAlone (K.buffered printer.new.out.now) text.new.items };
+            → IsOnlyFaultLine (K.buffered printer.new.out.now) text.new.items };
 }
 
 /// Lists a file, one PES packet or subtitle after another.

@@ -30,7 +30,7 @@ use Rattle.sub_rules.specs.Trusted.{CheckStep, with_pes_number, back_frame_of, c
 use Rattle.sub_rules.specs.Trusted.{has_no_active_faults}
 use Rattle.sub_rules.specs.Trusted.{events_reported_after, events_reported_at_step, trusted}
 use Rattle.sub_rules.specs.Trusted.{trusted_up_to}
-use Rattle.sub_rules.specs.Trusted.{first_correct_of}
+use Rattle.sub_rules.specs.Trusted.{first_finished_of}
 use Rattle.sub_rules.proofs.FrameEvents.{frame_events, gap_events}
 
 pub first_fault_of_append : (xs ys : List Event)
@@ -57,7 +57,7 @@ trusted_frames_report_no_fault : (t : List CheckStep) (d : Option ℕ) → first
     (trusted_up_to t d) ≡ None
 trusted_frames_report_no_fault t None = refl
 trusted_frames_report_no_fault t (Some f) = closing_run_reports_no_fault true (run_of t)
-    (first_correct_of t)
+    (first_finished_of t)
     (unwrap_or (back_frame_of t) f)
 
 first_fault_after_trusted_frames : (trusts rest emitted : List Event) (e : Event) →

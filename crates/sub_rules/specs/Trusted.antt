@@ -138,29 +138,29 @@ frame_if_finished f first_unfinished = if is_none first_unfinished then Some f e
 
 -- The first frame of the current run, from its first header on, at whose end the page was finished.
 -- Has no meaning without a current run.
-unfoldable pub first_correct_of : List CheckStep → Option ℕ
-first_correct_of [] = None
-first_correct_of (AtEnd f first_unfinished late ∷ past) = option_or (first_correct_of past)
+unfoldable pub first_finished_of : List CheckStep → Option ℕ
+first_finished_of [] = None
+first_finished_of (AtEnd f first_unfinished late ∷ past) = option_or (first_finished_of past)
     (frame_if_finished f first_unfinished)
-first_correct_of (Ends f has_beginning none ∷ past) =
-    option_or (if is_none (run_of past) then None else first_correct_of past)
+first_finished_of (Ends f has_beginning none ∷ past) =
+    option_or (if is_none (run_of past) then None else first_finished_of past)
     (frame_if_finished f (first_unfinished_of past))
-first_correct_of (m ∷ past) = first_correct_of past
+first_finished_of (m ∷ past) = first_finished_of past
 
 -- ---- trusted frames, and when they are reported
 
 -- The event for the trusted frames of a run that ends before frame f. `run` is the frame of the
--- run's first header, and `whole` is the first frame at whose end the page was finished. There is
--- no event without such a frame before f.
+-- run's first header, and `finished` is the first frame at whose end the page was finished. There
+-- is no event without such a frame before f.
 abbrev pub trusted : Option ℕ → Option ℕ → ℕ → List Event
-trusted (Some from) (Some whole) f = if nat_lt whole f then Trusted from (f - 1) ∷ [] else []
-trusted run whole f = []
+trusted (Some from) (Some finished) f = if nat_lt finished f then Trusted from (f - 1) ∷ [] else []
+trusted run finished f = []
 
 -- The event for the trusted frames that end because frame f is no longer trusted. If subtitles were
 -- rejected, it excludes the last frames with an unfinished page.
 abbrev pub trusted_up_to : List CheckStep → Option ℕ → List Event
 trusted_up_to past None = []
-trusted_up_to past (Some f) = trusted (run_of past) (first_correct_of past)
+trusted_up_to past (Some f) = trusted (run_of past) (first_finished_of past)
     (unwrap_or (back_frame_of past) f)
 
 -- The first frame that is not trusted at the end of the file: the first frame with the unfinished
@@ -192,7 +192,7 @@ events_reported_at_step past (Emits e) = trusted_up_to past (invalidated_by past
     e ∷ []
 events_reported_at_step past (Closes left more) =
     if list_any is_emitted past || more
-    then trusted (run_of past) (first_correct_of past) (first_untrusted_at_close past left)
+    then trusted (run_of past) (first_finished_of past) (first_untrusted_at_close past left)
     else []
 events_reported_at_step past m = []
 

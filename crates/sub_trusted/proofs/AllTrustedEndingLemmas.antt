@@ -71,7 +71,7 @@ use Rattle.sub_trusted.specs.TrustedFrames.{rising_part}
 use Rattle.sub_rules.specs.Trusted.{run_of}
 use Rattle.sub_rules.specs.Trusted.{first_unfinished_of, has_no_active_faults, reports_order_fault}
 use Rattle.sub_rules.specs.Trusted.{reports_no_event, events_reported_after}
-use Rattle.sub_rules.specs.Trusted.{events_reported_at_step, trusted, first_correct_of}
+use Rattle.sub_rules.specs.Trusted.{events_reported_at_step, trusted, first_finished_of}
 use Rattle.std.specs.Option.{option_or}
 
 run_is_reported_if_condition : (c : Bool) (run whole : Option ℕ) (x from w : ℕ) → c ≡ true → run ≡
@@ -79,8 +79,8 @@ run_is_reported_if_condition : (c : Bool) (run whole : Option ℕ) (x from w : �
     → whole ≡ Some w
     → w < x
     → Contains (if c then trusted run whole x else []) (Trusted from (x - 1))
-run_is_reported_if_condition c run whole x from w is run_eq first_correct_eq l =
-    rw is (trusted_frames_contain_run run whole x from w run_eq first_correct_eq l)
+run_is_reported_if_condition c run whole x from w is run_eq first_finished_eq l =
+    rw is (trusted_frames_contain_run run whole x from w run_eq first_finished_eq l)
 
 header_events_have_no_order_fault : (g : Criteria) (frames : Transmission) (n : ℕ)
     → list_any is_order_fault (first_header_events g frames n) ≡ false
@@ -283,7 +283,7 @@ module _ (g : Criteria) (frames : Transmission) (a b i : ℕ)
   ending_frame_follows_stretch : (n : ℕ) (t : List CheckStep) → IsAfterEndEvents n t
       → FollowsStretch (suc n) (frame_at frames (suc n - 1) + 1)
       (Ends (frame_at frames n) (has n) (fault_free_at n) ∷ t)
-  unfolding run_of first_correct_of last_packet_frame first_unfinished_of late_run_start
+  unfolding run_of first_finished_of last_packet_frame first_unfinished_of late_run_start
       back_frame_of
       stays_fault_free
       reports_order_fault
@@ -291,7 +291,7 @@ module _ (g : Criteria) (frames : Transmission) (a b i : ℕ)
       let f : ℕ = frame_at frames n in
       let back : f ≡ frame_at frames (suc n - 1) = ap (frame_at frames) (omega arith) in
       let high = fits.high in
-      let whole : Option ℕ = if is_none (run_of t) then None else first_correct_of t in
+      let whole : Option ℕ = if is_none (run_of t) then None else first_finished_of t in
       record {
         rises = λ l. fin.follows.rises (omega arith);
         run = λ l.
@@ -317,7 +317,7 @@ module _ (g : Criteria) (frames : Transmission) (a b i : ℕ)
             receiver_state) [
               | inl before ↦
                   let (first, run, earlier) = correct_frame_is_in_run (run_of t)
-                  (first_correct_of t) w before in
+                  (first_finished_of t) w before in
                   let under = fin.follows.low first w run earlier in
                   omega arith
               | inr (none_open, now) ↦ omega arith
@@ -333,7 +333,7 @@ module _ (g : Criteria) (frames : Transmission) (a b i : ℕ)
               let (w, under, is) =
               finished_frame_is_correct whole (first_unfinished_of t) f (fin.own same (omega arith))
               (λ w before.
-              let (first, run, earlier) = correct_frame_is_in_run (run_of t) (first_correct_of t) w
+              let (first, run, earlier) = correct_frame_is_in_run (run_of t) (first_finished_of t) w
               before in
               let low = fin.follows.low first w run earlier in
               omega arith) in
@@ -398,7 +398,7 @@ module _ (g : Criteria) (frames : Transmission) (a b i : ℕ)
       ≡ true
       → IsReported (top g frames a b i fits) b
       (events_reported_after t (steps_of_closing g frames pes (length frames)))
-  unfolding events_reported_after events_reported_at_step run_of first_correct_of last_packet_frame
+  unfolding events_reported_after events_reported_at_step run_of first_finished_of last_packet_frame
       first_unfinished_of
       late_run_start back_frame_of stays_fault_free
       reports_order_fault
@@ -437,7 +437,8 @@ module _ (g : Criteria) (frames : Transmission) (a b i : ℕ)
         x - 1,
         low,
         omega arith,
-        run_is_reported_if_condition (list_any is_emitted t || more) (run_of t) (first_correct_of t)
+        run_is_reported_if_condition (list_any is_emitted t || more) (run_of t)
+            (first_finished_of t)
             x from w reported
             is whole
             (omega arith),

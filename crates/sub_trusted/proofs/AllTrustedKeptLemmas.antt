@@ -33,7 +33,7 @@ use Rattle.sub_rules.proofs.EndRuleLemmas.{end_events_fail_test}
 use Rattle.sub_rules.proofs.TrustedLemmas.{history_after}
 use Rattle.sub_rules.specs.Trusted.{CheckStep, back_frame_of, run_of, first_unfinished_of}
 use Rattle.sub_rules.specs.Trusted.{reports_order_fault, frame_if_finished}
-use Rattle.sub_rules.specs.Trusted.{first_correct_of}
+use Rattle.sub_rules.specs.Trusted.{first_finished_of}
 use Rattle.sub_rules.specs.declared.active_faults.ActiveFaults.{ActiveFaults}
 use Rattle.std.specs.Option.{option_or}
 
@@ -71,8 +71,8 @@ module _ (g : Criteria) (frames : Transmission) (a b i : ℕ)
   pub record FollowsRange (n p : ℕ) (t : List CheckStep) : Type 0 where
     pub rises : n ≤ i → has_risen t ≡ true
     pub run : i < n → (from : ℕ) × (from ≤ top) × (run_of t ≡ Some from)
-    pub low : (from w : ℕ) → run_of t ≡ Some from → first_correct_of t ≡ Some w → w < p
-    pub whole : i < n → b < p → (w : ℕ) × (w ≤ b) × (first_correct_of t ≡ Some w)
+    pub low : (from w : ℕ) → run_of t ≡ Some from → first_finished_of t ≡ Some w → w < p
+    pub whole : i < n → b < p → (w : ℕ) × (w ≤ b) × (first_finished_of t ≡ Some w)
     pub first_unfinished : i < n → b < p → (r : ℕ) → first_unfinished_of t ≡ Some r → b < r
     pub back : i < n → b + 1 < p → (r : ℕ) → back_frame_of t ≡ Some r → b < r
 
@@ -154,19 +154,19 @@ module _ (g : Criteria) (frames : Transmission) (a b i : ℕ)
     low = low;
     whole = λ l past.
         let (from, from_low, run) = follows.run l in
-        let now = looks.first_correct_eq (ap is_some run) in
+        let now = looks.first_finished_eq (ap is_some run) in
         elim (cases_lt b f) [
           | inl earlier ↦
               let (w, high, is) = follows.whole l earlier in (
                 w,
                 high,
-                now ∙ correct_frame_is_kept (first_correct_of t) (seen_run_start g frames m f) f w
+                now ∙ correct_frame_is_kept (first_finished_of t) (seen_run_start g frames m f) f w
                     is,
               )
           | inr not_before ↦
               let here : b ≡ f = omega arith in
               let (w, high, is) =
-              finished_frame_is_correct (first_correct_of t) (seen_run_start g frames m f) f
+              finished_frame_is_correct (first_finished_of t) (seen_run_start g frames m f) f
               (fits.finished m f (end l) here)
               (λ w whole. let under = follows.low from w run whole in omega arith) in
               (w, omega arith, now ∙ is)
@@ -177,12 +177,13 @@ module _ (g : Criteria) (frames : Transmission) (a b i : ℕ)
         (omega arith) is;
   }
     where
-      low : (from w : ℕ) → run_of u ≡ Some from → first_correct_of u ≡ Some w → w < q
+      low : (from w : ℕ) → run_of u ≡ Some from → first_finished_of u ≡ Some w → w < q
       low from w is whole =
           let run : run_of t ≡ Some from = sym looks.run_eq ∙ is in
-          elim (correct_frame_continues_or_begins (first_correct_of t) (seen_run_start g frames m f)
+          elim (correct_frame_continues_or_begins (first_finished_of t)
+          (seen_run_start g frames m f)
           f w
-          (sym (looks.first_correct_eq (ap is_some run)) ∙ whole)) [
+          (sym (looks.first_finished_eq (ap is_some run)) ∙ whole)) [
             | inl before ↦ let under = follows.low from w run before in omega arith
             | inr (none, here) ↦ omega arith
           ]

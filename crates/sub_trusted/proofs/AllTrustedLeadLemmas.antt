@@ -19,23 +19,23 @@ use Rattle.sub_rules.specs.Trusted.{CheckStep, with_pes_number, back_frame_of, i
 use Rattle.sub_rules.specs.Trusted.{current_pes, run_of}
 use Rattle.sub_rules.specs.Trusted.{events_reported_after, events_reported_at_step, trusted}
 use Rattle.sub_rules.specs.Trusted.{trusted_up_to}
-use Rattle.sub_rules.specs.Trusted.{first_correct_of}
+use Rattle.sub_rules.specs.Trusted.{first_finished_of}
 
 -- If frame w of a run is the first at whose end the page was finished, and w is before frame x, the
 -- run's frames before x are reported as trusted.
 pub trusted_frames_contain_run : (run whole : Option ℕ) (x from w : ℕ) → run ≡ Some from → whole ≡
     Some w → w < x
     → Contains (trusted run whole x) (Trusted from (x - 1))
-trusted_frames_contain_run run whole x from w run_eq first_correct_eq l =
-    rw (run_eq, first_correct_eq, lt-ltb w x l) (0, omega arith, refl)
+trusted_frames_contain_run run whole x from w run_eq first_finished_eq l =
+    rw (run_eq, first_finished_eq, lt-ltb w x l) (0, omega arith, refl)
 
 trusted_frames_up_to_contain_run : (t : List CheckStep) (d : Option ℕ) (x from w : ℕ) → d ≡ Some x →
     run_of t ≡ Some from
-    → first_correct_of t ≡ Some w
+    → first_finished_of t ≡ Some w
     → w < frame_after_going_back t x
     → Contains (trusted_up_to t d) (Trusted from (frame_after_going_back t x - 1))
 trusted_frames_up_to_contain_run t d x from w is run whole l =
-    rw is (trusted_frames_contain_run (run_of t) (first_correct_of t) (frame_after_going_back t x)
+    rw is (trusted_frames_contain_run (run_of t) (first_finished_of t) (frame_after_going_back t x)
     from w run whole l)
 
 absent_first_option_gives_second : (d rest : Option ℕ) (x : ℕ) → d ≡ None → option_or d rest ≡ Some
@@ -54,11 +54,11 @@ pub emitted_events_report_run : (t : List CheckStep) (es : List Event) (x from w
     first_invalidated_frame t es
     ≡ Some x
     → run_of t ≡ Some from
-    → first_correct_of t ≡ Some w
+    → first_finished_of t ≡ Some w
     → w < frame_after_going_back t x
     → Contains (events_reported_after t (map Emits es))
     (Trusted from (frame_after_going_back t x - 1))
-unfolding events_reported_after events_reported_at_step run_of first_correct_of back_frame_of
+unfolding events_reported_after events_reported_at_step run_of first_finished_of back_frame_of
 emitted_events_report_run t [] x from w is run whole l = absurd (none-some x is)
 emitted_events_report_run t (e ∷ es) x from w is run whole l =
     go

@@ -40,7 +40,7 @@ use Rattle.std.specs.List.{list_any}
 use Rattle.sub_rules.specs.Trusted.{CheckStep, back_frame_of, is_emitted, last_packet_frame, run_of}
 use Rattle.sub_rules.specs.Trusted.{first_unfinished_of}
 use Rattle.sub_rules.specs.Trusted.{reports_no_event, events_reported_after}
-use Rattle.sub_rules.specs.Trusted.{events_reported_at_step, first_correct_of}
+use Rattle.sub_rules.specs.Trusted.{events_reported_at_step, first_finished_of}
 
 no_events_announce_nothing : (reported : List Event) → reported ≡ []
     → announced_events no_run reported ++ run_ending_events (skipped_run_after_events no_run
@@ -57,7 +57,7 @@ silent_closing_reports_nothing : (g : Criteria) (frames : Transmission) (pes n :
     ≡
     false
     → events_reported_after t (steps_of_closing g frames pes n) ≡ []
-unfolding events_reported_after events_reported_at_step run_of first_correct_of last_packet_frame
+unfolding events_reported_after events_reported_at_step run_of first_finished_of last_packet_frame
     first_unfinished_of
     back_frame_of
 silent_closing_reports_nothing g frames pes n t e = grind (arith, nat_tests)

@@ -27,7 +27,7 @@ use Rattle.sub_trusted.proofs.TrustedFrameLemmas.{rising_frame_count}
 use Rattle.sub_rules.specs.Trusted.{CheckStep, back_frame_of, last_packet_frame, late_run_start}
 use Rattle.sub_rules.specs.Trusted.{run_of}
 use Rattle.sub_rules.specs.Trusted.{first_unfinished_of}
-use Rattle.sub_rules.specs.Trusted.{stays_fault_free, reports_order_fault, first_correct_of}
+use Rattle.sub_rules.specs.Trusted.{stays_fault_free, reports_order_fault, first_finished_of}
 use Rattle.std.proofs.lemmas.Bool.Decides.{nat_tests}
 
 module _ (g : Criteria) (frames : Transmission) (a b i : ℕ)
@@ -51,7 +51,7 @@ module _ (g : Criteria) (frames : Transmission) (a b i : ℕ)
   following_ignores_packet_number : (n p pes : ℕ) (t : List CheckStep) → FollowsRange g frames a b i
       fits n p t
       → FollowsRange g frames a b i fits n p (AtPes pes ∷ t)
-  unfolding run_of first_correct_of first_unfinished_of back_frame_of reports_order_fault
+  unfolding run_of first_finished_of first_unfinished_of back_frame_of reports_order_fault
   following_ignores_packet_number n p pes t follows = grind (arith, nat_tests)
 
   position_ignores_packet_number : (n pes : ℕ) (t : List CheckStep) → FollowsAfterFrames n t →
@@ -102,7 +102,7 @@ module _ (g : Criteria) (frames : Transmission) (a b i : ℕ)
   }
 
   starts : FollowsAfterFrames 0 []
-  unfolding run_of first_correct_of last_packet_frame first_unfinished_of late_run_start
+  unfolding run_of first_finished_of last_packet_frame first_unfinished_of late_run_start
       back_frame_of
       stays_fault_free
   starts = grind (arith, nat_tests)

@@ -62,7 +62,7 @@ use Rattle.sub_rules.proofs.TrustedLemmas.{history_after}
 use Rattle.sub_rules.specs.Trusted.{CheckStep, back_frame_of, last_packet_frame, late_run_start}
 use Rattle.sub_rules.specs.Trusted.{run_of}
 use Rattle.sub_rules.specs.Trusted.{first_unfinished_of}
-use Rattle.sub_rules.specs.Trusted.{stays_fault_free, reports_order_fault, first_correct_of}
+use Rattle.sub_rules.specs.Trusted.{stays_fault_free, reports_order_fault, first_finished_of}
 
 packet_fault_is_no_order_fault : (frame k : ℕ) (r : PacketRule) → is_order_fault
     (Reported (packet_fault r frame k)) ≡ false
@@ -301,7 +301,7 @@ module _ (g : Criteria) (frames : Transmission) (a b i : ℕ)
       → GapFramesFollow n (gap_length frames n) t
       → LeadsToReport (FollowsInOpenFrame n []) (Begins (frame_at frames n) ∷ t)
       (steps_before g (run_start_before_end n))
-  unfolding run_of first_correct_of last_packet_frame first_unfinished_of late_run_start
+  unfolding run_of first_finished_of last_packet_frame first_unfinished_of late_run_start
       back_frame_of
       stays_fault_free
       reports_order_fault

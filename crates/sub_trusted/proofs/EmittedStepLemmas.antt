@@ -20,7 +20,7 @@ use Rattle.sub_rules.specs.Trusted.{late_run_start}
 use Rattle.sub_rules.specs.Trusted.{current_pes, run_of, first_unfinished_of, stays_fault_free}
 use Rattle.sub_rules.specs.Trusted.{reports_order_fault, events_reported_after}
 use Rattle.sub_rules.specs.Trusted.{events_reported_at_step, trusted, trusted_up_to}
-use Rattle.sub_rules.specs.Trusted.{first_correct_of}
+use Rattle.sub_rules.specs.Trusted.{first_finished_of}
 
 -- No step so far reports that frame numbers do not increase.
 abbrev pub has_risen : List CheckStep → Bool
@@ -58,7 +58,7 @@ is_order_fault e = reports_order_fault (Emits e)
 -- then the events `es`.
 pub record AreEmitted (t u : List CheckStep) (es : List Event) : Type 0 where
   pub run_eq : run_of u ≡ kept (run_of t) (first_invalidated_frame t es)
-  pub first_correct_eq : first_correct_of u ≡ first_correct_of t
+  pub first_finished_eq : first_finished_of u ≡ first_finished_of t
   pub last_is : last_packet_frame u ≡ last_packet_frame t
   pub first_unfinished_eq : first_unfinished_of u ≡ first_unfinished_of t
   pub late_eq : late_run_start u ≡ late_run_start t
@@ -84,8 +84,8 @@ emitted_event_keeps_invalidation t e (x ∷ es) = rw (
 
 pub emits_steps_emit_events : (t : List CheckStep) (es : List Event) → AreEmitted t
     (history_after t (map Emits es)) es
-unfolding history_after run_of first_correct_of last_packet_frame first_unfinished_of late_run_start
-    back_frame_of
+unfolding history_after run_of first_finished_of last_packet_frame first_unfinished_of
+    late_run_start back_frame_of
     stays_fault_free is_order_fault
 emits_steps_emit_events t [] = grind (arith, nat_tests)
 emits_steps_emit_events t (e ∷ es) = grind (
@@ -140,11 +140,11 @@ module _ (P : ℕ → ℕ → Type 0) where
       → ((x from w : ℕ)
       → first_invalidated_frame t es ≡ Some x
       → run_of t ≡ Some from
-      → first_correct_of t ≡ Some w
+      → first_finished_of t ≡ Some w
       → w < frame_after_going_back t x
       → P from (frame_after_going_back t x - 1))
       → HoldsForEachTrusted P (events_reported_after t (map Emits es))
-  unfolding events_reported_after events_reported_at_step run_of first_correct_of back_frame_of
+  unfolding events_reported_after events_reported_at_step run_of first_finished_of back_frame_of
   emitted_events_have_property t [] each h = All-nil (HoldsIfTrusted P)
   emitted_events_have_property t (e ∷ es) each h =
       let d : Option ℕ = invalidated_by t e in
@@ -165,7 +165,7 @@ module _ (P : ℕ → ℕ → Type 0) where
           → HoldsForEachTrusted P (trusted_up_to t d)
       before None is = All-nil (HoldsIfTrusted P)
       before (Some x) is =
-          trusted_frames_have_property (run_of t) (first_correct_of t) (frame_after_going_back t x)
+          trusted_frames_have_property (run_of t) (first_finished_of t) (frame_after_going_back t x)
           (λ from w run whole l. let all = h x from w in grind arith)
 
   -- The trusted frames that the steps report have the property P, and the state afterwards has the
@@ -213,7 +213,7 @@ module _ (P : ℕ → ℕ → Type 0) where
       → ((x from w : ℕ)
       → first_invalidated_frame t es ≡ Some x
       → run_of t ≡ Some from
-      → first_correct_of t ≡ Some w
+      → first_finished_of t ≡ Some w
       → w < frame_after_going_back t x
       → P from (frame_after_going_back t x - 1))
       → ((u : List CheckStep) → AreEmitted t u es → S u)

@@ -23,16 +23,16 @@ use Rattle.sub_rules.specs.Trusted.{run_of}
 use Rattle.sub_rules.specs.Trusted.{first_unfinished_of}
 use Rattle.sub_rules.specs.Trusted.{stays_fault_free, reports_order_fault, events_reported_at_step}
 use Rattle.sub_rules.specs.Trusted.{frame_if_finished}
-use Rattle.sub_rules.specs.Trusted.{first_correct_of}
+use Rattle.sub_rules.specs.Trusted.{first_finished_of}
 
 module _ (g : Criteria) (frames : Transmission) where
   -- The values that decide about trusted frames after the steps `u` are those after the steps `t`
   -- and then the first steps at the end of frame f, after n frames of the transmission.
   pub record ChecksFrameEnd (n f : ℕ) (t u : List CheckStep) : Type 0 where
     pub run_eq : run_of u ≡ run_of t
-    pub first_correct_eq :
+    pub first_finished_eq :
         is_some (run_of t) ≡ true
-        → first_correct_of u ≡ option_or (first_correct_of t)
+        → first_finished_of u ≡ option_or (first_finished_of t)
         (frame_if_finished f (seen_run_start g frames n f))
     pub last_is : last_packet_frame u ≡ last_packet_frame t
     pub rises_is : has_risen u ≡ has_risen t
@@ -65,7 +65,7 @@ module _ (g : Criteria) (frames : Transmission) where
       → IsWrongSince i f u
       → T u (map Emits (events_at_end g frames i n f)))
       → T t (steps_at_end g frames i n f)
-  unfolding events_reported_at_step run_of first_correct_of last_packet_frame first_unfinished_of
+  unfolding events_reported_at_step run_of first_finished_of last_packet_frame first_unfinished_of
       late_run_start
       back_frame_of
       stays_fault_free reports_order_fault

@@ -30,7 +30,7 @@ use Rattle.sub_rules.specs.Trusted.{CheckStep, back_frame_of, last_packet_frame,
 use Rattle.sub_rules.specs.Trusted.{run_of}
 use Rattle.sub_rules.specs.Trusted.{first_unfinished_of}
 use Rattle.sub_rules.specs.Trusted.{has_no_active_faults, stays_fault_free, reports_order_fault}
-use Rattle.sub_rules.specs.Trusted.{frame_if_finished, first_correct_of}
+use Rattle.sub_rules.specs.Trusted.{frame_if_finished, first_finished_of}
 
 pub run_needs_rising_frames : (b : Bool) (run : Option ℕ) (from : ℕ) → (b ≡ false → run ≡ None) →
     run ≡ Some from
@@ -53,7 +53,7 @@ correct_frame_continues_or_begins whole first_unfinished f w e = grind (arith, n
 pub record SeesNoLateness (t : List CheckStep) : Type 0 where
   pub first_unfinished : first_unfinished_of t ≡ None
   pub late : late_run_start t ≡ None
-  pub whole : is_some (run_of t) ≡ true → is_some (first_correct_of t) ≡ true
+  pub whole : is_some (run_of t) ≡ true → is_some (first_finished_of t) ≡ true
 
 pub finished_frame_gives_correct_frame : (whole first_unfinished : Option ℕ) (f : ℕ) →
     first_unfinished ≡ None
@@ -254,7 +254,7 @@ module _ (g : Criteria) (frames : Transmission) (base : ℕ) where
   pub record Keeps (n x : ℕ) (t : List CheckStep) : Type 0 where
     pub run : (from : ℕ) → run_of t ≡ Some from → IsRun g frames n from
     pub ends : (from : ℕ) → run_of t ≡ Some from → EndsFaultFree g frames n from x
-    pub whole : (from w : ℕ) → run_of t ≡ Some from → first_correct_of t ≡ Some w → IsCorrectFrom g
+    pub whole : (from w : ℕ) → run_of t ≡ Some from → first_finished_of t ≡ Some w → IsCorrectFrom g
         frames from w
     pub above : (from : ℕ) → run_of t ≡ Some from → IsAfterFrames g frames base from
     pub falls : has_risen t ≡ false → run_of t ≡ None
@@ -272,7 +272,7 @@ module _ (g : Criteria) (frames : Transmission) (base : ℕ) where
       → late ≤ end_frame frames + 1
       → (from w : ℕ)
       → run_of t ≡ Some from
-      → first_correct_of t ≡ Some w
+      → first_finished_of t ≡ Some w
       → w < y
       → IsTrustedBetween g frames base late from (y - 1)
   tracked_run_passes_before_frame late n x y t keeps may after until from w run whole l =
@@ -311,7 +311,7 @@ module _ (g : Criteria) (frames : Transmission) (base : ℕ) where
     run = λ from is. keeps.run from (was from is);
     ends = λ from is. keeps.ends from (was from is);
     whole = λ from w is whole. keeps.whole from w (was from is)
-        (sym emitted.first_correct_eq ∙
+        (sym emitted.first_finished_eq ∙
         whole);
     above = λ from is. keeps.above from (was from is);
     falls = falls;
@@ -330,10 +330,10 @@ module _ (g : Criteria) (frames : Transmission) (base : ℕ) where
       run_existed_before_events there = let run_eq = emitted.run_eq in grind
           (arith, nat_tests)
 
-      correct_frame_exists_after_events : is_some (first_correct_of t) ≡ true → is_some
-          (first_correct_of u) ≡ true
+      correct_frame_exists_after_events : is_some (first_finished_of t) ≡ true → is_some
+          (first_finished_of u) ≡ true
       correct_frame_exists_after_events
-          whole = let first_correct_eq = emitted.first_correct_eq in grind
+          whole = let first_finished_eq = emitted.first_finished_eq in grind
           (arith, nat_tests)
 
       was : (from : ℕ) → run_of u ≡ Some from → run_of t ≡ Some from
@@ -433,7 +433,7 @@ module _ (g : Criteria) (frames : Transmission) (base : ℕ) where
 
   pub ended_frames_ignore_packet_number : (n pes : ℕ) (t : List CheckStep) → HasEndedFrames n t →
       HasEndedFrames n (AtPes pes ∷ t)
-  unfolding run_of first_correct_of last_packet_frame first_unfinished_of late_run_start
+  unfolding run_of first_finished_of last_packet_frame first_unfinished_of late_run_start
       back_frame_of
       stays_fault_free
       reports_order_fault
@@ -464,7 +464,7 @@ module _ (g : Criteria) (frames : Transmission) (base : ℕ) where
   pub begun_frame_ignores_packet_number : (n pes : ℕ) (packets : List (List ℕ)) (t : List CheckStep)
       → HasBegunNextFrame n packets t
       → HasBegunNextFrame n packets (AtPes pes ∷ t)
-  unfolding run_of first_correct_of last_packet_frame first_unfinished_of late_run_start
+  unfolding run_of first_finished_of last_packet_frame first_unfinished_of late_run_start
       back_frame_of
       stays_fault_free
       reports_order_fault

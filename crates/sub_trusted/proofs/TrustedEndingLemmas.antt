@@ -46,7 +46,7 @@ use Rattle.sub_rules.specs.Trusted.{run_of}
 use Rattle.sub_rules.specs.Trusted.{first_unfinished_of}
 use Rattle.sub_rules.specs.Trusted.{has_no_active_faults, stays_fault_free, reports_order_fault}
 use Rattle.sub_rules.specs.Trusted.{events_reported_at_step, frame_if_finished}
-use Rattle.sub_rules.specs.Trusted.{first_correct_of}
+use Rattle.sub_rules.specs.Trusted.{first_finished_of}
 
 -- If the run has a first frame with a finished page, it is the current frame or was found before.
 correct_frame_is_new_or_kept : (run whole first_unfinished : Option ℕ) (f w : ℕ)
@@ -75,7 +75,7 @@ module _ (g : Criteria) (frames : Transmission) (base : ℕ) where
 
   ended : (n : ℕ) (t : List CheckStep) → n < length frames → IsAfterEndStep n t
       → HasEndedFrames g frames base (suc n) (step n ∷ t)
-  unfolding run_of first_correct_of last_packet_frame first_unfinished_of late_run_start
+  unfolding run_of first_finished_of last_packet_frame first_unfinished_of late_run_start
       back_frame_of
       stays_fault_free
       reports_order_fault
@@ -94,7 +94,7 @@ module _ (g : Criteria) (frames : Transmission) (base : ℕ) where
             late = none.late;
             whole = λ there.
                 finished_frame_gives_correct_frame
-                (if is_none (run_of t) then None else first_correct_of t)
+                (if is_none (run_of t) then None else first_finished_of t)
                 (first_unfinished_of t)
                 (frame_at frames n) none.first_unfinished;
           };
@@ -148,7 +148,7 @@ module _ (g : Criteria) (frames : Transmission) (base : ℕ) where
           ]
 
       correct_frame_is_known_after_end : (from w : ℕ) → run_of (step n ∷ t) ≡ Some from
-          → first_correct_of (step n ∷ t) ≡ Some w
+          → first_finished_of (step n ∷ t) ≡ Some w
           → IsCorrectFrom g frames from w
       correct_frame_is_known_after_end from w is whole =
           let (clean, none, was) = kept from is in
@@ -156,7 +156,8 @@ module _ (g : Criteria) (frames : Transmission) (base : ℕ) where
           in
           let back : frame_at frames (suc n - 1) ≡ frame_at frames n =
           ap (frame_at frames) (omega arith) in
-          elim (correct_frame_is_new_or_kept (run_of t) (first_correct_of t) (first_unfinished_of t)
+          elim (correct_frame_is_new_or_kept (run_of t) (first_finished_of t)
+          (first_unfinished_of t)
           (frame_at frames n) w whole) [
             | inl (first_unfinished, here) ↦
                 subst (IsCorrectFrom g frames from) here (record {

@@ -47,7 +47,7 @@ use Rattle.sub_rules.specs.Trusted.{late_run_start}
 use Rattle.sub_rules.specs.Trusted.{run_of, first_unfinished_of, stays_fault_free}
 use Rattle.sub_rules.specs.Trusted.{reports_order_fault, reports_no_event}
 use Rattle.sub_rules.specs.Trusted.{events_reported_after, events_reported_at_step, trusted}
-use Rattle.sub_rules.specs.Trusted.{first_correct_of}
+use Rattle.sub_rules.specs.Trusted.{first_finished_of}
 use Rattle.std.specs.List.{list_any}
 
 -- The first frame that is not trusted at the end of a file: the last frame, if unread bytes follow,
@@ -140,7 +140,7 @@ module _ (g : Criteria) (frames : Transmission) (base : ℕ) where
   closing : (pes : ℕ) (t : List CheckStep) → HasEndedFrames g frames base (length frames) t
       → HoldsForEachTrusted IsTrustedAtClose
       (events_reported_after t (steps_of_closing g frames pes (length frames)))
-  unfolding events_reported_after events_reported_at_step run_of first_correct_of last_packet_frame
+  unfolding events_reported_after events_reported_at_step run_of first_finished_of last_packet_frame
       first_unfinished_of
       late_run_start back_frame_of stays_fault_free
       reports_order_fault
@@ -178,12 +178,12 @@ module _ (g : Criteria) (frames : Transmission) (base : ℕ) where
           at top
 
       last : (b : Bool) → HoldsForEachTrusted IsTrustedAtClose
-          (if b then trusted (run_of t) (first_correct_of t) (first_untrusted_at_close t
+          (if b then trusted (run_of t) (first_finished_of t) (first_untrusted_at_close t
           (is_some g.unread))
           else [])
       last false = All-nil (HoldsIfTrusted IsTrustedAtClose)
       last true =
-          trusted_frames_have_property IsTrustedAtClose (run_of t) (first_correct_of t)
+          trusted_frames_have_property IsTrustedAtClose (run_of t) (first_finished_of t)
           (first_untrusted_at_close t (is_some g.unread))
           (λ from w run whole l.
           let high = low from run in
@@ -239,7 +239,7 @@ module _ (g : Criteria) (frames : Transmission) (base : ℕ) where
 
 module _ (g : Criteria) (frames : Transmission) where
   pub start : HasEndedFrames g frames 0 0 []
-  unfolding run_of first_correct_of last_packet_frame first_unfinished_of late_run_start
+  unfolding run_of first_finished_of last_packet_frame first_unfinished_of late_run_start
       back_frame_of
       stays_fault_free
   start = grind (arith, nat_tests)

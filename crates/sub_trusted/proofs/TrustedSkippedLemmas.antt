@@ -47,7 +47,7 @@ use Rattle.sub_rules.specs.Trusted.{CheckStep, back_frame_of, last_packet_frame,
 use Rattle.sub_rules.specs.Trusted.{run_of}
 use Rattle.sub_rules.specs.Trusted.{first_unfinished_of}
 use Rattle.sub_rules.specs.Trusted.{stays_fault_free, reports_order_fault, events_reported_after}
-use Rattle.sub_rules.specs.Trusted.{events_reported_at_step, first_correct_of}
+use Rattle.sub_rules.specs.Trusted.{events_reported_at_step, first_finished_of}
 
 before_all : (g : Criteria) (earlier later : List PesPacket) (u : UnreadReason)
     → joined_after g.within (sent_by_pes_packets g earlier) (frames_of later)
@@ -154,7 +154,7 @@ module _ (g : Criteria) (earlier : List PesPacket) (u : UnreadReason) (later : L
     back_frame_is_unchanged = (emits_steps_emit_events now es).back_frames_agree
 
     keeps : (k x : ℕ) → Keeps g frames n k x v
-    unfolding run_of first_correct_of last_packet_frame first_unfinished_of late_run_start
+    unfolding run_of first_finished_of last_packet_frame first_unfinished_of late_run_start
         stays_fault_free
         reports_order_fault
     keeps k x = record {

@@ -69,7 +69,7 @@ use Rattle.sub_rules.specs.Trusted.{CheckStep, back_frame_of, last_packet_frame,
 use Rattle.sub_rules.specs.Trusted.{run_of}
 use Rattle.sub_rules.specs.Trusted.{first_unfinished_of}
 use Rattle.sub_rules.specs.Trusted.{has_no_active_faults, stays_fault_free, reports_order_fault}
-use Rattle.sub_rules.specs.Trusted.{events_reported_at_step, first_correct_of}
+use Rattle.sub_rules.specs.Trusted.{events_reported_at_step, first_finished_of}
 
 module _ (g : Criteria) (frames : Transmission) (base : ℕ) where
   -- The guarantees hold for trusted frames after the first `base` frames of the transmission and,
@@ -87,7 +87,7 @@ module _ (g : Criteria) (frames : Transmission) (base : ℕ) where
       → MayEndBefore g frames (end_frame frames) n x y
       → (from w : ℕ)
       → run_of t ≡ Some from
-      → first_correct_of t ≡ Some w
+      → first_finished_of t ≡ Some w
       → w < y
       → IsTrustedBeforeEnd from (y - 1)
   tracked_run_is_trusted n x y t keeps may =
@@ -105,9 +105,9 @@ module _ (g : Criteria) (frames : Transmission) (base : ℕ) where
     ends = λ from is. keeps.ends from (was from is);
     whole = λ from w is whole.
         let run = was from is in
-        elim (correct_frame_continues_or_begins (first_correct_of t) (seen_run_start g frames m f) f
-        w
-        (sym (looks.first_correct_eq (ap is_some run)) ∙ whole)) [
+        elim (correct_frame_continues_or_begins (first_finished_of t) (seen_run_start g frames m f)
+        f w
+        (sym (looks.first_finished_eq (ap is_some run)) ∙ whole)) [
           | inl before ↦ keeps.whole from w run before
           | inr (none, here) ↦
               let (l, end, rises) = low from run in
@@ -122,8 +122,8 @@ module _ (g : Criteria) (frames : Transmission) (base : ℕ) where
           first_unfinished = looks.first_unfinished_eq ∙ none;
           late = looks.late_eq ∙ rw e refl;
           whole = λ there.
-              ap is_some (looks.first_correct_eq (sym (ap is_some looks.run_eq) ∙ there))
-              ∙ finished_frame_gives_correct_frame (first_correct_of t) (seen_run_start g frames m
+              ap is_some (looks.first_finished_eq (sym (ap is_some looks.run_eq) ∙ there))
+              ∙ finished_frame_gives_correct_frame (first_finished_of t) (seen_run_start g frames m
               f) f none;
         };
     plain = λ e. looks.plain e ∙ keeps.plain e;
@@ -392,7 +392,7 @@ module _ (g : Criteria) (frames : Transmission) (base : ℕ) where
   pub begins : (n : ℕ) (t : List CheckStep) → n < length frames
       → HasEndedGapFrames g frames base n (gap_length frames n) t
       → HasBegunNextFrame g frames base n [] (Begins (frame_at frames n) ∷ t)
-  unfolding run_of first_correct_of last_packet_frame first_unfinished_of late_run_start
+  unfolding run_of first_finished_of last_packet_frame first_unfinished_of late_run_start
       back_frame_of
       stays_fault_free
       reports_order_fault
@@ -439,7 +439,7 @@ module _ (g : Criteria) (frames : Transmission) (base : ℕ) where
       → HasBegunNextFrame g frames base n []
       (GoesBack (first_unfinished_before g frames n (frame_at frames n))
       ∷ t)
-  unfolding run_of first_correct_of last_packet_frame first_unfinished_of late_run_start
+  unfolding run_of first_finished_of last_packet_frame first_unfinished_of late_run_start
       back_frame_of
       stays_fault_free
       reports_order_fault

@@ -53,11 +53,11 @@ struct Streams {
 }
 
 impl Streams {
-    // Returns the folder in the place of a closed stream; `Nothing` if no stream is closed.
+    // Returns the folder in the place of a closed stream; `NothingFound` if no stream is closed.
     fn found(&self) -> LookupResult {
         match (self.input.found, self.output.found) {
-            (LookupResult::Nothing, LookupResult::Nothing) => self.errors.found,
-            (LookupResult::Nothing, found) | (found, _) => found,
+            (LookupResult::NothingFound, LookupResult::NothingFound) => self.errors.found,
+            (LookupResult::NothingFound, found) | (found, _) => found,
         }
     }
 }

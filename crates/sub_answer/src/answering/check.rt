@@ -177,7 +177,7 @@ pub fn print_accepted<K: Sink>(accepted: Accepted, out: &mut K) -> Status
 {
     let mut line = Line::new();
     push_number(&mut line, b"accepted ", accepted.frames);
-    push_number(&mut line, b" frames ", accepted.transmissions);
+    push_number(&mut line, b" frames ", accepted.headers);
     push_text(&mut line, b" transmissions\n");
     print_done(line.as_slice(), out)
 }
