@@ -1,9 +1,9 @@
 //! The trait of sources, the input devices, and functions that read from them.
 
-ghost use Rattle.std.specs.Prelude.{◌≡◌, ◌≢◌, ℕ, ◌+◌, ◌<◌, ◌≤◌, List, [], length, take, Option, Ok};
+ghost use Rattle.std.specs.Prelude.{◌≡◌, ℕ, ◌+◌, ◌<◌, ◌≤◌, List, length, take, Option};
 ghost use Rattle.std.specs.Prelude.{IfOk, OnErr, Some, false, is_ok, true};
 ghost use Rattle.std.specs.Io.{ReadsAtMost};
-ghost use Rattle.std.specs.Io.KnownBytes.{Consumes, IsAtEnd, Keeps};
+ghost use Rattle.std.specs.Io.KnownBytes.{Consumes, IsAtEnd};
 ghost use Rattle.sub_io.specs.Calls.{FillsByPulls, call_answer, unrestricted_call};
 ghost use Rattle.sub_io.specs.Device.{CanFail, CountsFailure, Fills, SkipsOver, Pulls};
 ghost use Rattle.sub_io.specs.Device.{FillsFromKnown};
@@ -11,7 +11,8 @@ ghost use Rattle.sub_io.specs.Borrowed.{AreBorrowedPrefix, PullsBorrowed, no_bor
 ghost use Rattle.sub_io.specs.Reading.{AreBytes, AreNextBytes, IfKnown};
 
 /// The error of a failed call of a source or sink. A failed `pull` or `push` has transferred no
-/// bytes. A failed `fill`, `put_all` or `flush` may have transferred some bytes before its failure.
+/// bytes. A failed `fill`, `put_all`, `flush` or `store` may have transferred some bytes before its
+/// failure.
 #[derive(Clone, Copy, Debug, PartialEq, Eq)]
 pub struct Failed;
 
@@ -46,7 +47,7 @@ pub trait Source {
         ensures borrowed { PullsBorrowed (borrowed self.old) (borrowed self.new) to.new result }
         ensures count { CountsFailure (failure_count self.old) result (failure_count self.new) };
 
-    /// Returns the number of failed calls of `pull` and `read_ahead`.
+    /// Returns the number of failed calls of `pull`.
     fn failures(&self) -> u64
         ensures { result ≡ failure_count self.now };
 
@@ -57,21 +58,6 @@ pub trait Source {
         ensures borrowed { AreBorrowedPrefix result.now (borrowed self.now) }
     {
         &[]
-    }
-
-    /// Lets the source read bytes into a buffer of its own, from which they can be borrowed.
-    /// Consumes no bytes. By default it does nothing.
-    ///
-    /// # Errors
-    ///
-    /// Returns `Failed` if the underlying device fails.
-    fn read_ahead(&mut self) -> Result<(), Failed>
-        requires { CanFail (failure_count self.old) }
-        ensures bytes { Keeps (remaining self.old) (remaining self.new) }
-        ensures ready { borrowed self.old ≢ [] → (self.new ≡ self.old) × (result ≡ Ok tt) }
-        ensures count { CountsFailure (failure_count self.old) result (failure_count self.new) }
-    {
-        Ok(())
     }
 
     /// Consumes `count` buffered bytes, as a pull does, and returns `true`. If fewer bytes can be
