@@ -222,8 +222,9 @@ pending_item_bytes (pending_item.Rest gap_marker_before fault) bytes = gap_marke
 abbrev pub IsRefusedAtStart : List ℕ → PesFault → Type 0
 IsRefusedAtStart bytes fault = (6 ≤ length bytes) × (size_at (take 6 bytes) ≡ Err fault)
 
--- The pending items agree with the stored bytes: a pending PES packet is at their front, or they do
--- not begin with a PES packet and the part has ended the stream.
+-- The pending items agree with the stored bytes. A pending PES packet is at the front of these
+-- bytes. If the rest is pending, they do not begin with a PES packet and the part has ended the
+-- stream. If nothing or only a gap marker is pending, they may be any bytes.
 abbrev pub IsPendingFor : PendingItem → PartState → List ℕ → Type 0
 IsPendingFor pending_item.Nothing part bytes = ⊤
 IsPendingFor pending_item.GapMarker part bytes = ⊤

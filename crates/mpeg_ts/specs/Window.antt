@@ -21,8 +21,9 @@ buffered_and_left w bytes = w.buffered ++ take w.left bytes
 abbrev pub known_bytes_left : WindowValue → Option (List ℕ) → Option (List ℕ)
 known_bytes_left w known_bytes = option_map (take w.left) known_bytes
 
--- No byte is requested after the first `count` bytes from the first buffered byte on, for any
--- predicate that is false for fewer bytes.
+-- `Requests` holds for each predicate that is false for fewer than `count` bytes from the first
+-- buffered byte on. So after these `count` bytes only bytes that the source itself has buffered are
+-- requested, or bytes after its end.
 pub record RequestsUpTo
     {D : Type 0} (IsPull : D → ℕ → Option ℕ → D → Type 0) (borrowed : D → List ℕ)
     (remaining : D → Option (List ℕ))

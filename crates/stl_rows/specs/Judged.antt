@@ -84,8 +84,8 @@ has_any_subtitle [] = false
 has_any_subtitle (j ∷ js) = true
 
 -- A transmission can be checked against the reliable subtitles of the file: the file was read to
--- its end, and it has at least one reliable subtitle, without overlap between the reliable
--- subtitles.
+-- its end, and it has at least one reliable subtitle, none of which starts before the TCO of an
+-- earlier one.
 abbrev pub can_judge : Drawing → List ℕ → Bool
 can_judge drawing file =
     let judged = (reliable_subtitles_of drawing file).judged in

@@ -25,7 +25,7 @@ AreInOrder records =
     → j < length records
     → (slice_index_or records i d).tco ≤ (slice_index_or records j d).tci
 
--- The subtitles are valid, do not overlap, and can all be drawn.
+-- The subtitles are valid, do not overlap, are in the order of their times, and can all be drawn.
 pub record IsProgramme (drawing : Drawing) (records : List SubtitleValue) : Type 0 where
   pub each : All IsSubtitle records
   pub in_order : AreInOrder records

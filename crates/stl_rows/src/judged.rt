@@ -120,7 +120,7 @@ impl<'a> Judging<'a> {
         self.programme
     }
 
-    /// Returns whether the file has an unreliable subtitle.
+    /// Returns whether the file has an unreliable subtitle within the scope.
     pub fn has_unreliable_subtitle(&self) -> bool
         ensures { result ≡ has_unreliable_subtitle self.now }
     {

@@ -46,8 +46,9 @@ pub(crate) fn is_overdue(
         )
 }
 
-// Returns whether the page was unfinished in all frames of the subtitle that ends. `tci` is its
-// first frame.
+// Returns whether a subtitle ends whose page was unfinished in all its frames, or, if it began
+// before the first frame, in all frames from the first on. `tci` is the first frame of the subtitle
+// that ends, if one ends.
 fn is_missed(tci: Option<u32>, first: u32, first_unfinished: u32) -> bool
     ensures { result ≡ is_missed tci first first_unfinished }
 {

@@ -8,7 +8,7 @@ use Rattle.ttx_pes.specs.Outcome.{PesOutcome, ReadsPackets, ends, fails, gives}
 use Rattle.ttx_pes.specs.PesGrammar.{PesValue}
 use Rattle.ttx_pes.specs.Reader.{FailsAfterValidPackets, FailsWithinPacket, TakesValidPesPackets}
 use Rattle.ttx_pes.specs.Reader.{TakesValidPesPacket}
-use Rattle.ttx_pes.specs.Reader.{ConsumesRefusedPacket}
+use Rattle.ttx_pes.specs.Reader.{ConsumesRefusedBytes}
 use Rattle.ttx_pes.specs.declared.fault.PesFault.{PesFault}
 use Rattle.ttx_pes.specs.declared.fault.PesFault.TheVariants.{Read}
 use Rattle.sub_rules.specs.PesPackets.{FailsAtPesPacket}
@@ -59,8 +59,8 @@ keeping_preserves_valid_packet old mid new v kept t = grind
 
 keeping_preserves_refusal : (old mid new : Option (List ℕ)) (f : PesFault)
     → Keeps old mid
-    → ConsumesRefusedPacket mid new f
-    → ConsumesRefusedPacket old new f
+    → ConsumesRefusedBytes mid new f
+    → ConsumesRefusedBytes old new f
 keeping_preserves_refusal old mid new f kept t = grind
     (arith, nat_tests, keeping_then_consuming_consumes)
 

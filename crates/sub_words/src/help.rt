@@ -5,8 +5,8 @@ ghost use Rattle.sub_words.specs.Help as specs;
 
 use crate::command::is_command;
 
-/// Returns whether arguments request help: the program's name is followed by a word for help, alone
-/// or together with the name of a command.
+/// Returns whether arguments request help: the program's name is followed by `help`, `--help` or
+/// `-h`, alone or before the name of a command, or by the name of a command and `--help` or `-h`.
 ///
 /// No other arguments request help. So for all other arguments that do not request the version,
 /// status 0 is the result of a command.

@@ -51,7 +51,8 @@ corrected_data_bits word =
     else (if nat_lt 23 (wrong_bit_position word) then None
     else Some (data_bits (with_bit_flipped word (wrong_bit_position word))))
 
--- The data bits of the three bytes of a Hamming 24/18 word.
+-- The data bits of the three bytes of a Hamming 24/18 word, with one wrong bit corrected. `None` if
+-- the word cannot be corrected.
 abbrev pub triplet : ℕ → ℕ → ℕ → Option ℕ
 triplet first second third = corrected_data_bits (first + second * 0x100 + third * 0x1_0000)
 

@@ -32,8 +32,8 @@ IsAsRequested options (Stream packets multiplex) =
     × (unrequested_followed_pids multiplex ≡ [])
 IsAsRequested options _ = ⊤
 
--- More packets of a stream were processed, with the same packet size and the same requested
--- options.
+-- Two states of reading a stream have the same packet size and the same requested options, and
+-- follow the same PIDs that were not requested.
 pub record KeepsSizeAndOptions (packets : PacketsInStep) (multiplex : Multiplex)
     (after : PacketsInStep)
     (reported : Multiplex) : Type 0 where

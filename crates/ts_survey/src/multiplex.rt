@@ -158,7 +158,7 @@ impl Multiplex {
         self.pids.set(pid, state);
     }
 
-    // Follows the pictures of a PID.
+    // Follows the pictures of a PID, unless it is followed or `CAPACITY` PIDs are followed already.
     fn add_video(&mut self, pid: u16)
         ensures requested { KeepsRequested self.old self.new }
     {
@@ -491,7 +491,8 @@ impl Multiplex {
         }
     }
 
-    /// Prints all pending lines, since no more data is available for now.
+    /// Prints the pending lines about PES packets, since no more data is available for now.
+    /// Irregular PCRs and gap markers stay pending.
     pub fn flush(&mut self, text: &mut Text)
         ensures requested { KeepsRequested self.old self.new }
     {

@@ -306,7 +306,7 @@ impl Recording {
         }
     }
 
-    // Prints all pending lines, since no more data is available for now.
+    // Prints the pending lines about PES packets, since no more data is available for now.
     #[tactic(auto, using(crate::proofs::ListedLemmas::what_goes_on))]
     fn flush(&mut self, text: &mut Text)
         ensures kind { KeepsKind self.old.kind self.new.kind }

@@ -14,7 +14,7 @@ use Rattle.ttx_pes.specs.PesGrammar.{PesValue, IsValidPesPacket}
 use Rattle.ttx_pes.specs.Reading.{max_pes_packets, size_at, value_at, packet_at, answer_at}
 use Rattle.ttx_pes.specs.Reading.{rest_after}
 use Rattle.ttx_pes.specs.Reading.{is_format_fault}
-use Rattle.ttx_pes.specs.Reader.{TakesValidPesPacket, ConsumesRefusedPacket, ReportsPacket}
+use Rattle.ttx_pes.specs.Reader.{TakesValidPesPacket, ConsumesRefusedBytes, ReportsPacket}
 use Rattle.ttx_pes.specs.Comparing.{TakesDataField}
 use Rattle.ttx_pes.specs.Accepting.{SettlesPacket}
 use Rattle.ttx_pes.proofs.ReadingLemmas.{full_reader_answers_too_many, packet_decides_answer}
@@ -74,7 +74,7 @@ settled_value_is_answer given old new taken bytes r h ne reported =
 -- are rejected for that fault.
 pub settled_fault_refuses_packet : (old new : Option (List ℕ)) (taken : List ℕ) (f : PesFault)
     → SettlesPacket old new taken (Err f)
-    → ConsumesRefusedPacket old new f
+    → ConsumesRefusedBytes old new f
 settled_fault_refuses_packet old new taken f h = grind (arith, nat_tests, append-nil taken)
 
 -- If the consumed bytes determine a value, they are a valid PES packet with that value.

@@ -7,7 +7,7 @@ use Rattle.ttx_pes.specs.Fault.{is_read_fault}
 use Rattle.ttx_pes.specs.PesGrammar.{PesValue}
 use Rattle.ttx_pes.specs.PesPackets.{pes_packets_after}
 use Rattle.ttx_pes.specs.Reading.{is_format_fault}
-use Rattle.ttx_pes.specs.Reader.{FailsWithinPacket, TakesValidPesPacket, ConsumesRefusedPacket}
+use Rattle.ttx_pes.specs.Reader.{FailsWithinPacket, TakesValidPesPacket, ConsumesRefusedBytes}
 
 -- The values of the PES packets of a file, then the end of the file or a fault.
 pub data PesOutcome : Type 0 where
@@ -34,7 +34,7 @@ abbrev pub ReadsPackets : Bool → Option (List ℕ) → PesOutcome → Option (
 ReadsPackets failed known ends left = failed ≡ false
 ReadsPackets failed known (fails f) left =
     (is_read_fault f ≡ failed) × (failed ≡ true → FailsWithinPacket known left)
-    × (is_format_fault f ≡ true → ConsumesRefusedPacket known left f)
+    × (is_format_fault f ≡ true → ConsumesRefusedBytes known left f)
 ReadsPackets failed known (gives v more) left =
     (following : Option (List ℕ)) × TakesValidPesPacket known following v
     × ReadsPackets failed following more left

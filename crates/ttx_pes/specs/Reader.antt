@@ -56,7 +56,7 @@ pub record FailsWithinPacket (old new : Option (List ℕ)) : Type 0 where
   pub begun : IsIncompletePesPacket bytes
 
 -- The consumed bytes, without those that follow, are rejected for the format fault f.
-pub record ConsumesRefusedPacket (old new : Option (List ℕ)) (f : PesFault) : Type 0 where
+pub record ConsumesRefusedBytes (old new : Option (List ℕ)) (f : PesFault) : Type 0 where
   pub bytes : List ℕ
   pub consumed : Consumes old new bytes
   pub refused : packet_at bytes ≡ Err f
@@ -81,7 +81,7 @@ pub record ReportsPacket
       → before ≡ Reading given
       → IfKnown old (λ bytes. OnOk answer (new ≡ Some (rest_after bytes)))
   -- After a format fault, the consumed bytes have that fault, if the bytes of the source are known.
-  pub refused : IfErr answer (λ fault. is_format_fault fault ≡ true → ConsumesRefusedPacket old new
+  pub refused : IfErr answer (λ fault. is_format_fault fault ≡ true → ConsumesRefusedBytes old new
       fault)
   pub packet_limit_refuses_packet : IfErr answer (λ fault. fault ≡ TooMany → before ≡ Reading
       max_pes_packets)
