@@ -11,7 +11,8 @@ use Rattle.mpeg_ts.specs.TransportPacket.{packet_header, payload}
 -- ---- events of a PID
 
 -- An event of a PID: a usable transport packet, an unusable transport packet, or a loss. A loss
--- means that so many consecutive bytes were skipped that packets of the PID may be missing.
+-- means that so many consecutive bytes were skipped that packets of the PID may be missing although
+-- its continuity_counter goes on.
 pub data PidEvent : Type 0 where
   Valid : List ℕ → PidEvent
   Wrong : PidEvent

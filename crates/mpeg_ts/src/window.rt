@@ -66,7 +66,7 @@ impl Window {
         self.left
     }
 
-    // Counts bytes that were skipped in the source's buffer.
+    // Subtracts bytes that were skipped in the source's buffer from those that may still be read.
     #[inline(always)]
     pub(crate) fn count_skipped_bytes(&mut self, count: u64)
         requires { count ≤ self.old.left }

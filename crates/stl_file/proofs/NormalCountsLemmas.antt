@@ -1,4 +1,5 @@
--- Both passes of `normal` over the blocks of a file count the same blocks and subtitles.
+-- The first pass of `normal` adds each subtitle and the blocks of its normal form to the counts TNS
+-- and TNB. The second pass writes these blocks.
 use Rattle.std.proofs.Common.{◌≡◌, ℕ, true, false, Bool, cond, List, length, arith, length-append}
 use Rattle.std.proofs.Common.{Option, Some, Result, Ok, Err, ◌+◌, ◌≤◌, is_ok}
 use Rattle.std.proofs.lemmas.Bool.Decides.{nat_tests}

@@ -46,7 +46,8 @@ first_block_checks b =
     ∷ (fault.EmptyTime, not (nat_lt (frame_from_bytes (tci b)) (frame_from_bytes (tco b))))
     ∷ []
 
--- The subtitle that starts with the block b, with the text of that block.
+-- The subtitle that starts with the block b, with the text of that block; or the first fault of
+-- `first_block_checks`.
 unfoldable pub subtitle_of_first_block : List ℕ → Result SubtitleValue StlFault
 subtitle_of_first_block b =
     result_of_checks (first_block_checks b) (Ok (record {

@@ -101,7 +101,7 @@ abbrev pub are_all_kept : KeptRecords → Bool
 are_all_kept k = has_no_bits k.after_unreliable_bits && not k.is_before_unreliable
 
 -- A transmission can be checked against the kept subtitles: no fault was reported, or there is at
--- least one kept subtitle and the kept subtitles do not overlap.
+-- least one kept subtitle, and none starts before the TCO of an earlier one.
 abbrev pub is_checkable : KeptRecords → Bool
 is_checkable k = are_all_kept k || (has_any_subtitle (all_kept k) && are_in_order (all_kept k))
 

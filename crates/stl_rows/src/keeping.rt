@@ -153,7 +153,7 @@ impl<A: Allocator + Copy> KeptSubtitles<A> {
     }
 
     // Returns whether a transmission can be checked against the kept subtitles: all subtitles of
-    // the file are kept, or at least one is, and the kept subtitles do not overlap.
+    // the file are kept, or at least one is, and none starts before the TCO of an earlier one.
     fn is_checkable(&self) -> bool
         ensures { result ≡ is_checkable self.now }
     {

@@ -1,5 +1,5 @@
--- If a check was answered with files in memory, its status is 0 exactly if their bytes are
--- accepted.
+-- If a check was answered with files in memory, and neither the output failed nor memory ran out,
+-- its status is 0 exactly if their bytes are accepted.
 use Rattle.std.proofs.lemmas.Bool.Decides.{nat_tests}
 use Rattle.std.proofs.Common.{arith}
 use Rattle.std.proofs.Common.{◌≡◌, ◌≢◌, ◌↔◌, ◌∙◌, ap, sym, subst, ℕ, true, false, List}

@@ -1,4 +1,5 @@
--- A greater `within` does not change the contents of the files.
+-- Files that a check accepts are also accepted with any greater `within`, unless a source fails or
+-- memory cannot be allocated.
 use Rattle.std.proofs.Common.{◌≡◌, false, refl, Result, Ok, Err, IsOk}
 use Rattle.sub_io.specs.Device.{failed}
 use Rattle.sub_rules.specs.Fault.{is_failure}

@@ -1,4 +1,5 @@
--- The device receives every event until it stops the check, even if reports could not be flushed.
+-- The device receives every event until the check stops, and none afterwards. The check also stops
+-- if reports cannot be flushed.
 use Rattle.std.proofs.Common.{◌≡◌, ◌∙◌, Bool, true, false, List, [], ◌∷◌, refl, sym, subst}
 use Rattle.std.proofs.lemmas.Bool.{true≢false}
 use Rattle.sub_io.proofs.ReportingLemmas.{Reports-none, Reports-trans, ReportsPrefix-first}
@@ -83,7 +84,7 @@ module _ {D : Type 0} {g : _} (IsReported : D → Event → D → Type 0) where
       let p = reported_events_are_received old new some.items some.reported in
       (p.same, record { items = take p.cut.0 _; reported = p.cut.2 })
 
-pub flushing_stopped_device_keeps_it : {A D : Type 0} {IsReported : D → A → D → Type 0}
+pub flush_stops_device_if_it_fails : {A D : Type 0} {IsReported : D → A → D → Type 0}
     {has_stopped has_pending_reports : D → Bool} {buffered : D → ℕ}
     {IsFlushed : D → Bool → D → Type 0}
     → FlushKeepsReports IsReported has_stopped has_pending_reports buffered IsFlushed
@@ -91,9 +92,9 @@ pub flushing_stopped_device_keeps_it : {A D : Type 0} {IsReported : D → A → 
     → FlushesOnlyIfPending has_pending_reports IsFlushed old ok new
     → has_stopped old ≡ false
     → has_stopped new ≡ not ok
-flushing_stopped_device_keeps_it {A} {D} {IsReported} {has_stopped} stays old new ok (inl same)
+flush_stops_device_if_it_fails {A} {D} {IsReported} {has_stopped} stays old new ok (inl same)
     continues =
     ap has_stopped same.1 ∙ continues ∙ sym (ap not same.0)
-flushing_stopped_device_keeps_it {A} {D} {IsReported} {has_stopped} stays old new ok (inr on)
+flush_stops_device_if_it_fails {A} {D} {IsReported} {has_stopped} stays old new ok (inr on)
     continues =
     stays.stopped old new ok on.1

@@ -11,7 +11,7 @@ use Rattle.ttx_packet.specs.PageHeader.{header, decoded_header}
 use Rattle.ttx_packet.specs.Parity.{is_odd}
 use Rattle.ttx_page.specs.Page.{blank, blank_row}
 use Rattle.sub_rules.specs.PacketTests.{are_code_words, breaks, is_word_below, packet_rules}
-use Rattle.ttx_packet.specs.RowPacket.{first_even_parity_byte}
+use Rattle.ttx_packet.specs.RowPacket.{first_even_parity_column}
 use Rattle.ttx_page.specs.Differing.{differing_column_count}
 use Rattle.sub_rules.specs.Events.{first_cell, is_gap, is_incomplete, is_late, active_faults_at}
 use Rattle.sub_rules.specs.Events.{first_wrong_cell_after}
@@ -47,7 +47,7 @@ refused good =
 clean : HasNoReceiverFault (criteria_of later_subtitle (options_with_bound 1) None)
     transmission_damaged_first 900001
     900002
-unfolding are_code_words is_word_below first_even_parity_byte breaks differing_column_count is_gap
+unfolding are_code_words is_word_below first_even_parity_column breaks differing_column_count is_gap
     packet_rules active_faults_at is_late first_wrong_cell_after first_cell is_incomplete
     kind address header decoded_header decoded_nibble is_near is_odd count_ones ones_in due blank
     blank_row drawn drawn_by page_of_placed placed_fault_kinds prepared_by_layout

@@ -23,7 +23,7 @@ use Rattle.sub_rules.specs.Events.{first_unfinished_in_frames, first_unfinished_
 use Rattle.sub_rules.specs.Events.{unfinished_run_start, was_undecided}
 use Rattle.sub_rules.specs.Events.{first_wrong_cell_after}
 use Rattle.sub_rules.specs.Events.{first_cell, is_gap, is_incomplete, latest_frame, closing_events}
-use Rattle.ttx_packet.specs.RowPacket.{first_even_parity_byte}
+use Rattle.ttx_packet.specs.RowPacket.{first_even_parity_column}
 use Rattle.ttx_page.specs.PacketKind.{kind}
 use Rattle.ttx_page.specs.Receiver.{State, Step, StepAt}
 use Rattle.ttx_page.specs.Screen.{Display, ShowsAt}
@@ -138,7 +138,7 @@ unfolding events events_of_first_frames frame_events order_events gap_events gap
     is_silent latest_frame was_undecided
     closing_events is_pending unfinished_run_start first_unfinished_in_gap
     first_unfinished_in_frames
-    are_code_words is_word_below first_even_parity_byte kind address
+    are_code_words is_word_below first_even_parity_column kind address
     header decoded_header decoded_nibble is_near is_odd count_ones ones_in
     due blank blank_row sub_set
 no_end_is_good = good_by_events _ _ _ refl refl (omega arith) refl refl

@@ -32,7 +32,7 @@ impl WrittenBytes {
         WrittenBytes {}
     }
 
-    /// Appends the bytes of one call to the record.
+    /// Returns this record with the bytes of one more call at its end.
     pub fn and(&self, more: &WrittenChunk<'_>) -> WrittenBytes
         ensures { result.bytes ≡ self.now.bytes ++ more.now.bytes.now }
     {

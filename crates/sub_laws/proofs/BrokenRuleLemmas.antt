@@ -18,7 +18,7 @@ use Rattle.ttx_packet.specs.PacketAddress.{HasExactAddress, IsPacket, PacketAddr
 use Rattle.ttx_packet.specs.PageHeader.{HasExactHeader, c4, c11, header}
 use Rattle.ttx_packet.specs.PageId.{PageIdValue}
 use Rattle.ttx_packet.specs.Parity.{is_odd}
-use Rattle.ttx_packet.specs.RowPacket.{HasOddParityText, first_even_parity_byte, text_byte}
+use Rattle.ttx_packet.specs.RowPacket.{HasOddParityText, first_even_parity_column, text_byte}
 use Rattle.ttx_packet.specs.declared.header.Header.{Header}
 use Rattle.ttx_packet.proofs.OneBitLemmas.{first_below_satisfies_test}
 use Rattle.ttx_page.specs.Differing.{differing_column_count, row_difference}
@@ -143,9 +143,9 @@ control_test_is_exact w before p k is = (
   λ rule. refl,
 )
 
-pub parity_test_of_text_is_exact : (p : List ℕ) → Refutes (is_some (first_even_parity_byte p))
+pub parity_test_of_text_is_exact : (p : List ℕ) → Refutes (is_some (first_even_parity_column p))
     (HasOddParityText p)
-unfolding first_even_parity_byte
+unfolding first_even_parity_column
 parity_test_of_text_is_exact p = go (first_below 40 (λ column. not (is_odd (text_byte p column))))
     refl
   where
@@ -167,7 +167,7 @@ parity_test_of_text_is_exact p = go (first_below 40 (λ column. not (is_odd (tex
     )
 
 pub row_has_odd_parity : (p : List ℕ) (k : PacketKind)
-    → Refutes (is_page_row k && is_some (first_even_parity_byte p))
+    → Refutes (is_page_row k && is_some (first_even_parity_column p))
     ((row : ℕ) → k ≡ Row row → HasOddParityText p)
 row_has_odd_parity p k = grind (arith, nat_tests, parity_test_of_text_is_exact)
 
@@ -330,7 +330,7 @@ module _ (w : Watched) (before : List (List ℕ)) (p : List ℕ) where
       subst (λ b. Refutes b (KeepsRule rule.Parity w before p))
       (grind (arith, nat_tests))
       (opened (is_open_after (kind w.page) before)
-      (is_page_row (kind w.page p) && is_some (first_even_parity_byte p))
+      (is_page_row (kind w.page p) && is_some (first_even_parity_column p))
       ((row : ℕ) → kind w.page p ≡ Row row → HasOddParityText p) (λ t. row_has_odd_parity p
       (kind w.page p)))
   rule_test_is_exact rule.RowChanged comparable = grind

@@ -1,5 +1,6 @@
--- Receivers that start and stop anywhere in a range of frames get a header in time, and then have
--- the text that the packets of the range send.
+-- A receiver that starts anywhere in a range of frames and listens for the repeat bound gets a
+-- header of the page. After a header it has the text that the packets of the range send, apart from
+-- cells that noise or loss excuses.
 use Rattle.std.proofs.lemmas.Bool.Decides.{nat_tests}
 use Rattle.std.proofs.Common.{◌≡◌, ℕ, ◌+◌, ◌≤◌, ◌&&◌, Bool, true, false, List, [], ◌∷◌}
 use Rattle.std.proofs.Common.{◌++◌}

@@ -201,8 +201,8 @@ pub fn law_of_may_keep()
 {}
 
 /// A transmission that is good if repeats may have C4 (erase page) clear, and in which every header
-/// has C4 set, is good if each header must have C4 set. So if `within` is 0, all guarantees of a
-/// good transmission hold for it.
+/// has C4 set, is good if each header must have C4 set. So if `within` is 0 and the subtitles are
+/// valid, all guarantees of a good transmission hold for it.
 pub fn law_of_erasing_headers()
     ensures { LawOfErasingHeaders }
 {}

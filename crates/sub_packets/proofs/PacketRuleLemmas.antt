@@ -7,7 +7,7 @@ use Rattle.std.proofs.Common.{refl, sym, ap, ◌∙◌, arith}
 use Rattle.std.specs.Bool.{Decides}
 use Rattle.ttx_packet.specs.PacketAddress.{HasExactAddress, address}
 use Rattle.ttx_packet.specs.PageHeader.{HasExactHeader, c11, header}
-use Rattle.ttx_packet.specs.RowPacket.{first_even_parity_byte}
+use Rattle.ttx_packet.specs.RowPacket.{first_even_parity_column}
 use Rattle.ttx_packet.specs.declared.header.Header.{Header}
 use Rattle.ttx_page.specs.Differing.{row_difference}
 use Rattle.ttx_page.specs.PacketKind.{kind}
@@ -104,7 +104,7 @@ module _ (w : Watched) (heard : List (List ℕ)) (p : List ℕ) where
   pub row_breaks_row_rules_only : (y : ℕ) (o : Option (List ℕ)) → kind w.page p ≡ Row y
       → o ≡ first_packet_of_row w.page (text_span w.keeps (kind w.page) heard) y
       → rule_set (λ r. breaks r w heard p) (drop 3 packet_rules)
-      ≡ 2 * cond (is_open_after (kind w.page) heard && is_some (first_even_parity_byte p)) 1 0
+      ≡ 2 * cond (is_open_after (kind w.page) heard && is_some (first_even_parity_column p)) 1 0
       + 4 * cond
       (is_open_after (kind w.page) heard && is_some o
       && not (row_difference (row_or_blank o) (codes_of p) == 0))

@@ -3,7 +3,7 @@ ghost use Rattle.std.specs.Prelude.{◌≡◌, ℕ, ◌-◌, ◌<◌, ◌≤◌,
 ghost use Rattle.std.specs.Prelude.{not, slice_index_or};
 ghost use Rattle.ttx_packet.specs.PacketAddress.{address};
 ghost use Rattle.ttx_packet.specs.PageHeader.{header};
-ghost use Rattle.ttx_packet.specs.RowPacket.{first_even_parity_byte};
+ghost use Rattle.ttx_packet.specs.RowPacket.{first_even_parity_column};
 ghost use Rattle.ttx_page.specs.Differing.{row_difference};
 ghost use Rattle.ttx_page.specs.Page.{IsRow, row_at};
 ghost use Rattle.ttx_page.specs.PacketKind.{kind};
@@ -100,7 +100,7 @@ impl Listener {
 
     // Returns whether the page is open and the row has a byte with even parity.
     fn breaks_parity(&self, packet: &Packet) -> bool
-        ensures { result ≡ (self.now.is_open && is_some (first_even_parity_byte packet.now)) }
+        ensures { result ≡ (self.now.is_open && is_some (first_even_parity_column packet.now)) }
     {
         self.is_open && has_even_byte(packet)
     }

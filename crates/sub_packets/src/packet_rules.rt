@@ -3,7 +3,7 @@ ghost use Rattle.std.specs.Prelude.{◌≡◌, ◌&&◌, Bool, not, Option, is_s
 ghost use Rattle.std.specs.Option.{option_or};
 ghost use Rattle.ttx_packet.specs.PacketAddress.{IsPacket, address};
 ghost use Rattle.ttx_packet.specs.PageHeader.{c4, c11, header, is_flag_set};
-ghost use Rattle.ttx_packet.specs.RowPacket.{first_even_parity_byte};
+ghost use Rattle.ttx_packet.specs.RowPacket.{first_even_parity_column};
 ghost use Rattle.ttx_packet.specs.declared.header.Header.{Header};
 ghost use Rattle.ttx_page.specs.Page.{AreCodes};
 ghost use Rattle.ttx_page.specs.PacketKind.{begins_text};
@@ -182,7 +182,7 @@ pub(crate) fn is_enhancement(page: PageId, packet: &Packet) -> bool
 
 /// Returns whether one of the 40 text bytes of a packet has even parity.
 pub(crate) fn has_even_byte(packet: &Packet) -> bool
-    ensures { result ≡ is_some (first_even_parity_byte packet.now) }
+    ensures { result ≡ is_some (first_even_parity_column packet.now) }
 {
     packet.first_even_parity_column().is_some()
 }

@@ -298,7 +298,7 @@ abbrev pub previous_end_frame : Transmission → ℕ → ℕ → ℕ
 previous_end_frame frames i f =
     if nat_lt (latest_frame frames i + 1) f then f - 1 else frame_at frames (i - 1)
 
--- The active faults at the end before frame f ends; none before the first end.
+-- The active faults at the last frame end before frame f ends; none before the first end.
 unfoldable pub active_faults_before : Criteria → Transmission → ℕ → ℕ → ActiveFaults
 active_faults_before g frames zero f = no_active_faults
 active_faults_before g frames (suc i) f = active_faults_at g frames (suc i)

@@ -7,7 +7,7 @@ use Rattle.ttx_packet.specs.Hamming84.{code_word}
 use Rattle.ttx_packet.specs.PacketAddress.{PacketAddress, address}
 use Rattle.ttx_packet.specs.PageHeader.{c4, c5, c6, c7, c10, c11, header}
 use Rattle.ttx_packet.specs.PageId.{PageIdValue}
-use Rattle.ttx_packet.specs.RowPacket.{first_even_parity_byte}
+use Rattle.ttx_packet.specs.RowPacket.{first_even_parity_column}
 use Rattle.ttx_packet.specs.declared.header.Header.{Header}
 use Rattle.ttx_page.specs.Differing.{row_difference}
 use Rattle.ttx_page.specs.PacketKind.{is_row, is_page_row, kind}
@@ -123,7 +123,7 @@ breaks rule.Mode w before p =
 breaks rule.Control w before p = is_wrong_header w before (kind w.page p)
 breaks rule.Parity w before p =
     is_open_after (kind w.page) before && is_page_row (kind w.page p)
-    && is_some (first_even_parity_byte p)
+    && is_some (first_even_parity_column p)
 breaks rule.RowChanged w before p =
     is_open_after (kind w.page) before
     && has_different_row w.page (text_span w.keeps (kind w.page) before) p (kind w.page p)

@@ -372,7 +372,7 @@ module _ (g : Criteria) (frames : Transmission) (base : ℕ) where
       let long = gap_length-is frames n some in
       record { some = some; last = last; rises = rises; up = up; long = omega arith }
 
-  -- If a run continues, no fault is active at the end before frame f.
+  -- If a run goes on, no fault was active at the last frame end before frame f.
   pub no_faults_before : (n f from : ℕ) (t : List CheckStep) → n < length frames → Keeps n f t
       → run_of t ≡ Some from
       → RunFacts g frames n

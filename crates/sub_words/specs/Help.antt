@@ -18,8 +18,8 @@ abbrev pub is_help_of : Text → Text → Bool
 is_help_of first second =
     if is_command first then is_help_flag second else is_help_word first && is_command second
 
--- The arguments request help: the program's name is followed by a word for help, alone or together
--- with the name of a command.
+-- The arguments request help: the program's name is followed by `help`, `--help` or `-h`, alone or
+-- before the name of a command, or by the name of a command and `--help` or `-h`.
 unfoldable pub requests_help : List Text → Bool
 requests_help (program ∷ word ∷ []) = is_help_word word
 requests_help (program ∷ first ∷ second ∷ []) = is_help_of first second

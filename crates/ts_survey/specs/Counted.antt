@@ -80,7 +80,8 @@ ReadsNoMoreOfStream _ _ = ⊤
 -- ---- the counts at the end of the stream
 
 -- All packets of the stream were counted, each once, and all bytes that belong to no packet: those
--- before the stream, between packets, and after the last packet.
+-- before the stream, between packets, and after the last packet. A packet takes up its whole
+-- distance of 188, 192 or 204 bytes.
 pub record CountsStream (received : List ℕ) (packets : PacketsInStep) : Type 0 where
   pub skipped_before : ℕ
   pub within : skipped_before ≤ length received

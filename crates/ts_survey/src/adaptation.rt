@@ -9,8 +9,8 @@ ghost use Rattle.ts_survey.specs.Adaptation.{timestamp_at};
 
 use mpeg_ts::{PACKET, has_adaptation_field, has_payload, is_unusable, payload_of};
 
-/// Returns random_access_indicator of a transport packet: a picture that can be shown alone begins
-/// in it.
+/// Returns random_access_indicator of a transport packet, or false if it has none: the next PES
+/// packet that begins in this packet or later starts with a picture that can be shown alone.
 pub fn has_random_access_indicator(packet: &[u8; PACKET]) -> bool
     ensures { result ≡ has_random_access_indicator packet.now }
 {

@@ -288,7 +288,8 @@ impl Carrier {
         self.report_end(text);
     }
 
-    // Prints how many packets the PID had, and how many PES packets and gap markers resulted.
+    // Prints the line `end`: the numbers of PES packets and gap markers, of gap markers, of packets
+    // and of scrambled packets, the fault, whether the last PES packet is cut, and the last PTS.
     fn report_end(&self, text: &mut Text) {
         let given = &self.pid_packets_state.to;
         text.put(b"end");

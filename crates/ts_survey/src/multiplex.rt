@@ -603,7 +603,8 @@ fn may_be_followed(state: &PidState) -> bool {
 }
 
 // Returns whether a PID with pictures belongs to the programme of a PID with Teletext: the last PMT
-// that names the Teletext names the pictures too, or a later PMT with the same PCR_PID does.
+// that names the pictures is the last that names the Teletext, or a later one, and has the same
+// PCR_PID. A later one belongs to it only if its PCR_PID is not 1FFF.
 fn shares_programme(video: &PidState, teletext: &PidState) -> bool {
     let is_same_pmt = video.named == teletext.named && teletext.named != 0;
     let is_later_pmt = video.named > teletext.named && teletext.clock_pid != NULL_PID;

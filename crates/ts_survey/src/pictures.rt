@@ -338,7 +338,7 @@ fn is_finished(group_progress: GroupProgress) -> bool {
     }
 }
 
-// Returns whether a packet is known to be the next packet of its PID.
+// Returns whether a packet's continuity_counter goes on, or the packet is the first of its PID.
 fn follows(link: PacketLink) -> bool {
     match link {
         PacketLink::Next => true,

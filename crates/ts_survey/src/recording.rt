@@ -335,7 +335,7 @@ impl Recording {
     }
 
     // Prints all remaining lines except the last. Returns the number of bytes that belong to no
-    // packet, and the number of packets.
+    // transport packet, and the number of transport packets; both are 0 for a file of PES packets.
     fn report_remaining_lines(&mut self, text: &mut Text) -> (u64, u64)
         ensures skipped { result.0 ≡ skipped_count_of_recording self.old }
         ensures packets { result.1 ≡ stream_packet_count self.old.kind }

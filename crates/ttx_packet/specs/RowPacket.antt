@@ -14,8 +14,8 @@ abbrev pub HasOddParityText : List ℕ → Type 0
 HasOddParityText packet = (column : ℕ) → column < 40 → IsTrue (is_odd (text_byte packet column))
 
 -- The column of the first of the 40 data bytes with even parity. `None` if all have odd parity.
-unfoldable pub first_even_parity_byte : List ℕ → Option ℕ
-first_even_parity_byte packet = first_below 40 (λ column. not (is_odd (text_byte packet column)))
+unfoldable pub first_even_parity_column : List ℕ → Option ℕ
+first_even_parity_column packet = first_below 40 (λ column. not (is_odd (text_byte packet column)))
 
 -- The packet X/Y of row Y with these 40 character codes in odd parity.
 unfoldable pub row_packet : ℕ → ℕ → List ℕ → List ℕ

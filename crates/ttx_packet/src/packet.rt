@@ -8,7 +8,8 @@ ghost use Rattle.ttx_packet.specs.Hamming84.{code_word};
 ghost use Rattle.ttx_packet.specs.Laws.{IsEncodedHeader, IsEncodedRow};
 ghost use Rattle.ttx_packet.specs.PageHeader.{bit, header_packet, is_flag_set, nibble};
 ghost use Rattle.ttx_packet.specs.PageHeader.{encodable_header};
-ghost use Rattle.ttx_packet.specs.RowPacket.{HasOddParityText, first_even_parity_byte, row_packet};
+ghost use Rattle.ttx_packet.specs.RowPacket.{HasOddParityText, first_even_parity_column};
+ghost use Rattle.ttx_packet.specs.RowPacket.{row_packet};
 
 use crate::bit_order::mirrored;
 use crate::control::Control;
@@ -147,7 +148,7 @@ impl Packet {
     /// Returns the column, 0 to 39, of the first data byte with even parity, or `None` if all data
     /// bytes have odd parity.
     pub fn first_even_parity_column(&self) -> Option<u8>
-        ensures value { result ≡ first_even_parity_byte self.now }
+        ensures value { result ≡ first_even_parity_column self.now }
         ensures odd { IsNone result ↔ HasOddParityText self.now }
     {
         let (blocks, rest) = self.data().as_chunks::<16>();

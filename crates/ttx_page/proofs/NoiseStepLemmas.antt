@@ -13,7 +13,7 @@ use Rattle.ttx_packet.specs.OneBit.{AreNear}
 use Rattle.ttx_packet.specs.Parity.{character_code, is_odd}
 use Rattle.ttx_packet.specs.PageHeader.{HasExactCodeWords}
 use Rattle.ttx_packet.specs.PageId.{PageIdValue}
-use Rattle.ttx_packet.specs.RowPacket.{HasOddParityText, first_even_parity_byte, text_byte}
+use Rattle.ttx_packet.specs.RowPacket.{HasOddParityText, first_even_parity_column, text_byte}
 use Rattle.ttx_packet.proofs.OneBitLemmas.{first_below_satisfies_test}
 use Rattle.ttx_packet.proofs.ParityLemmas.{single_error_breaks_parity}
 use Rattle.ttx_packet.proofs.NearPacketLemmas.{address-near, header-near}
@@ -76,13 +76,13 @@ abbrev pub LosesByteAt : List ℕ → Option (List ℕ) → ℕ → ℕ → Type
 LosesByteAt sent arrival row column = LosesOrCorruptsByte sent arrival column
 
 even_parity_byte_exists : (packet : List ℕ)
-    → is_some (first_even_parity_byte packet) ≡ true
+    → is_some (first_even_parity_column packet) ≡ true
     → (column : ℕ) × (column < 40) × (is_odd (text_byte packet column) ≡ false)
-unfolding first_even_parity_byte
-even_parity_byte_exists packet some = go (first_even_parity_byte packet) refl some
+unfolding first_even_parity_column
+even_parity_byte_exists packet some = go (first_even_parity_column packet) refl some
   where
     go : (o : Option ℕ)
-        → first_even_parity_byte packet ≡ o
+        → first_even_parity_column packet ≡ o
         → is_some o ≡ true
         → (column : ℕ) × (column < 40) × (is_odd (text_byte packet column) ≡ false)
     go None e h = grind arith

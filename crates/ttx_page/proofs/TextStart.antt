@@ -186,8 +186,8 @@ module _ (keeps : Bool) (w : PageIdValue) (before heard : List (List ℕ)) (pack
           (codes_survive_packet no_begin) (codes_while_open up no_begin));
     }
 
--- If each packet of `more` may follow the packets before it, the received packets and `more`
--- together send the same text as all packets.
+-- If the packets `heard` send only rows of the text of `before ++ heard`, and each packet of `more`
+-- may follow the packets before it, `heard ++ more` sends only rows of the text of all packets.
 pub sends-joined : (keeps : Bool) (w : PageIdValue) (before heard more : List (List ℕ))
     → SendsOnlyRowsOfText keeps w heard (kept keeps w (before ++ heard))
     → ((k : ℕ)

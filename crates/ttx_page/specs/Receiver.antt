@@ -6,7 +6,7 @@ use Rattle.std.specs.Prelude.{if◌then◌else◌, ◌&&◌, is_some, IsTrue, Is
 use Rattle.ttx_packet.specs.Parity.{character_code, is_odd}
 use Rattle.ttx_packet.specs.PageHeader.{c4}
 use Rattle.ttx_packet.specs.PageId.{PageIdValue}
-use Rattle.ttx_packet.specs.RowPacket.{text_byte, first_even_parity_byte}
+use Rattle.ttx_packet.specs.RowPacket.{text_byte, first_even_parity_column}
 use Rattle.ttx_page.specs.declared.packet_kind.PacketKind.{PacketKind}
 use Rattle.ttx_page.specs.declared.packet_kind.PacketKind.TheVariants.{ThisPage, EndsPage, Row}
 use Rattle.ttx_page.specs.declared.packet_kind.PacketKind.TheVariants.{Other}
@@ -84,8 +84,8 @@ AtEvenParityBytes CodeChange w old packet new =
     → IsFalse (is_odd (text_byte packet column))
     → CodeChange (cell old.page row column) (cell new.page row column)
 
--- For a byte of even parity, the receiver stores the code that `leaves` returns for the old code:
--- the old code itself, if it keeps cells, or a space, if it blanks them.
+-- For a byte of even parity in a row that it stores, the receiver stores the code that `leaves`
+-- returns for the old code: the old code itself, if it keeps cells, or a space, if it blanks them.
 abbrev pub StoresForEvenParity : (ℕ → ℕ) → PageIdValue → State → List ℕ → State → Type 0
 StoresForEvenParity leaves w old packet new =
     AtEvenParityBytes (λ was is. is ≡ leaves was) w old packet new
@@ -112,7 +112,7 @@ pub data ReceiverClass : Type 0 where
 -- even parity.
 abbrev pub is_row_with_even_parity : PageIdValue → List ℕ → Bool
 is_row_with_even_parity w packet = is_page_row (kind w packet)
-    && is_some (first_even_parity_byte packet)
+    && is_some (first_even_parity_column packet)
 
 -- A receiver of this class, tuned to page w, drops the packet.
 abbrev pub drops : ReceiverClass → PageIdValue → List ℕ → Bool

@@ -77,8 +77,8 @@ LawOfKeepingReceivers =
     → HearsBy class w old packets new
     → HearsRepeats class false w old packets new
 
--- If a receiver to which the law of repeats applies has received a header of its page, and the page
--- is not open, the decoded page is on its screen. The receiver may start in any state.
+-- If packets with a header of its page reach a receiver in any state to which the law of repeats
+-- applies, and the page is not open after them, the decoded page is on its screen.
 abbrev pub LawOfRepeatScreen : Type 0
 LawOfRepeatScreen =
     (class : ReceiverClass) (anew : Bool) (w : PageIdValue) (packets : List (List ℕ))

@@ -74,8 +74,9 @@ ShowsBy class w old packets new =
 abbrev pub Shows : PageIdValue → Display → List (List ℕ) → Display → Type 0
 Shows w old packets new = ShowsBy Storing w old packets new
 
--- If a receiver has received a header of its page, and the page is not open, the decoded page is on
--- its screen. So what is proved about the decoded page is then also true for the screen.
+-- If packets with a header of its page reach a receiver in any state, and the page is not open
+-- after them, the decoded page is on its screen. So what is proved about the decoded page is then
+-- also true for the screen.
 abbrev pub LawOfScreen : Type 0
 LawOfScreen =
     (class : ReceiverClass) (w : PageIdValue) (packets : List (List ℕ)) (old new : Display)

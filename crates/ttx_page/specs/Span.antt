@@ -38,8 +38,8 @@ abbrev pub has_no_page_end : {A : Type 0} → (A → PacketKind) → List A → 
 has_no_page_end kind_of items =
     not (list_any (λ x. ends_page (kind_of x)) (after_last_header kind_of items))
 
--- The page is open after these items: they contain a header of the page, and no later header ends
--- the page.
+-- The items contain a header of the page, and no later header ends the page. So the page is open
+-- after them, whatever was before.
 abbrev pub is_open_after : {A : Type 0} → (A → PacketKind) → List A → Bool
 is_open_after kind_of items = has_page_header kind_of items && has_no_page_end kind_of items
 

@@ -63,8 +63,8 @@ pub fn law_of_recovery()
     ensures { LawOfRecovery }
 {}
 
-/// If a receiver has received a header of its page, and the page is not open, the decoded page is
-/// on its screen. The receiver may start in any state.
+/// If packets with a header of its page reach a receiver in any state, and the page is not open
+/// after them, the decoded page is on its screen.
 #[tactic(auto, using(crate::proofs::ScreenLaws::law_of_screen))]
 pub fn law_of_screen()
     ensures { LawOfScreen }
@@ -92,8 +92,8 @@ pub fn law_of_kept_text()
     ensures { LawOfKeptText }
 {}
 
-/// If a receiver to which the law of repeats applies has received a header of its page, and the
-/// page is not open, the decoded page is on its screen. The receiver may start in any state.
+/// If packets with a header of its page reach a receiver in any state to which the law of repeats
+/// applies, and the page is not open after them, the decoded page is on its screen.
 #[tactic(auto, using(crate::proofs::ScreenLaws::law_of_repeat_screen))]
 pub fn law_of_repeat_screen()
     ensures { LawOfRepeatScreen }

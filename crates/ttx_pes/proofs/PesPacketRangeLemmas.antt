@@ -1,4 +1,5 @@
--- PES packets are skipped, counted and limited one by one.
+-- To skip, count or take n + 1 PES packets is to do so with the first packet, and then with n
+-- packets of the bytes after it.
 use Rattle.std.proofs.Common.{◌≡◌, ℕ, zero, suc, ◌<◌, ◌≤◌, List, ◌++◌, length, take, drop}
 use Rattle.std.proofs.Common.{Some, None, Result, Ok, Err, refl, sym, ap, ◌∙◌, cond, inl, inr}
 use Rattle.std.proofs.Common.{arith}

@@ -178,7 +178,8 @@ impl BufferedPacket {
     }
 
     // Replaces the parsed fields by those of a new packet, given its bytes from byte 6 on. Returns
-    // whether its data field equals that of the packet in the buffer `before`.
+    // whether its data field equals that of the packet in the buffer `before`. After a fault the
+    // parsed fields are unspecified.
     #[inline(always)]
     #[tactic(auto, unfolding(crate::specs::Reading::value_at))]
     pub(crate) fn take(&mut self, before: &PacketBuffer, body: &[u8]) -> Result<bool, PesFault>

@@ -1,5 +1,6 @@
--- The bytes of a part that is found complete begin with a PES packet, whether its contents are
--- valid or not.
+-- If `find_packet` finds a complete PES packet, the collected bytes begin with it, whether its
+-- contents are valid or not. If it finds a wrong start code or length, they begin with no PES
+-- packet.
 use Rattle.std.proofs.Common.{◌∙◌}
 use Rattle.mpeg_ts.proofs.ReadyLemmas.{found_packet_is_pes_packet, found_fault_is_refused}
 use Rattle.mpeg_ts.proofs.part_bytes.find_packet.Goals as goal

@@ -1,5 +1,5 @@
--- The PES file is checked against the programme of the subtitle file, and the result agrees with
--- both files.
+-- If their bytes are known, `check_files` accepts two files exactly if they are accepted with the
+-- options, unless a source fails or memory cannot be allocated.
 use Rattle.std.proofs.lemmas.Bool.Decides.{nat_tests}
 use Rattle.std.proofs.Common.{arith}
 use Rattle.stl_rows.specs.Layout.{drawing_within}

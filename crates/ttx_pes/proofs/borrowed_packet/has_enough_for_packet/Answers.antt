@@ -1,4 +1,5 @@
--- `has_enough_for_packet` agrees with its definition, which depends on the first six bytes.
+-- `has_enough_for_packet` agrees with its definition, which depends only on the number of bytes and
+-- on the first six.
 use Rattle.std.proofs.Common.{◌≡◌, ◌≤◌, ◌∙◌, Err, Ok, ap, length, rules, take}
 use Rattle.ttx_pes.specs.Reading.{size_at}
 use Rattle.ttx_pes.proofs.BorrowedPacketLemmas.{size_decides_whether_enough}

@@ -6,8 +6,8 @@ use Rattle.std.proofs.lemmas.List.{get_or-drop}
 use Rattle.ttx_packet.specs.Lanes.{has_even_parity, even_parity_flags}
 use Rattle.ttx_packet.proofs.BlockLemmas.{block_is_chunk, zero_mask_extends_search}
 use Rattle.ttx_packet.proofs.BlockLemmas.{nonzero_mask_gives_first}
-use Rattle.ttx_packet.proofs.RowPacketLemmas.{first_even_parity_byte-at}
-use Rattle.ttx_packet.proofs.RowPacketLemmas.{first_even_parity_byte-none}
+use Rattle.ttx_packet.proofs.RowPacketLemmas.{first_even_parity_column-at}
+use Rattle.ttx_packet.proofs.RowPacketLemmas.{first_even_parity_column-none}
 use Rattle.ttx_packet.proofs.packet.Packet.first_even_parity_column.Goals as goal
 
 pub loop-i-preserved : goal.loop-i-preserved
@@ -35,11 +35,11 @@ returns-then-mask-ne0 c =
     nonzero_mask_gives_first has_even_parity xs (16 * i) c.find_even_parity_bytes-mask.result 0
     (omega arith) mask c.if-mask-ne0.true
     (λ k l. ap not (c.loop-i.invariant k l)) in
-    let first = first_even_parity_byte-at c.args.self.now _ (omega (arith, found.0)) found.1 in
+    let first = first_even_parity_column-at c.args.self.now _ (omega (arith, found.0)) found.1 in
     record { value = first.value; odd = first.odd }
 
 pub returns-then-not-is_odd : goal.returns-then-not-is_odd
-returns-then-not-is_odd c = grind (arith, nat_tests, get_or-drop, first_even_parity_byte-at)
+returns-then-not-is_odd c = grind (arith, nat_tests, get_or-drop, first_even_parity_column-at)
 
 pub returns : goal.returns
-returns c = grind (arith, nat_tests, first_even_parity_byte-none)
+returns c = grind (arith, nat_tests, first_even_parity_column-none)
