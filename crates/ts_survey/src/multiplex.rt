@@ -553,10 +553,11 @@ impl TakesPackets for Multiplex {
         if pid == NULL_PID {
             return;
         }
-        self.pids.update_pid_state(pid, packet, number);
-        let state = self.pids.get(pid);
+        let begins_unit = begins(packet);
+        let is_followed = self.pids.update_pid_state(pid, packet, number);
         // Most packets of a recording begin no payload unit and belong to no followed PID.
-        if begins(packet) || is_followed(&state) {
+        if begins_unit || is_followed {
+            let state = self.pids.get(pid);
             self.read_and_process(pid, &state, packet, text);
         }
         if number >= self.next_settle_packet {
@@ -587,13 +588,6 @@ fn note_pcr_for_carrier(
     if pids.get(carrier.pid()).clock_pid == clock_pid {
         carrier.note_pcr(irregular_pcr, pids, text);
     }
-}
-
-// Returns whether the sections, the clock, the pictures or the PES packets of a PID are followed.
-// One test replaces four, since the function runs for each packet of a recording.
-#[inline(always)]
-fn is_followed(state: &PidState) -> bool {
-    state.table & state.clock & state.video & state.carrier != NO_INDEX
 }
 
 // Returns whether a PES packet may show that a PID has Teletext or pictures. A PID with other data
