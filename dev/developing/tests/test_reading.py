@@ -162,12 +162,13 @@ class ReceivedPages(Case):
         polish, mosaic = page((22, b"\x0b\x0bkt\x7e\x0a\x0a")), page((22, b"\x0b\x11a"))
         for name, rows, word in (("both can", [ONE], "english"),
                                  ("one can", [ONE, polish], "polish"),
-                                 ("none can", [polish, mosaic], "english")):
+                                 ("one can most", [polish, mosaic], "polish"),
+                                 ("none can", [mosaic], "english")):
             sent, pages = store_pages(choose_header_option(0, []), [
                 ShownPage(at, at + 1, item, "") for at, item in enumerate(rows)])
             self.check(f"{name}: option", (sent.options[0].word, len(sent.options)), (word, 2))
-            self.check(f"{name}: stored", [isinstance(item.stored, str) for item in pages],
-                       [name == "none can"] * len(rows))
+            self.check(f"{name}: stored", [item.is_written for item in pages],
+                       [item != mosaic for item in rows])
 
     def test_lists_pages_whose_characters_no_option_decides(self) -> None:
         pounds, start = page((22, b"\x0b#5")), "the characters of 1 subtitle: C12 to C14 of the " \
