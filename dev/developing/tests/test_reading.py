@@ -160,10 +160,9 @@ class ReceivedPages(Case):
 
     def test_takes_the_undecided_option_that_can_store_all_pages(self) -> None:
         polish, mosaic = page((22, b"\x0b\x0bkt\x7e\x0a\x0a")), page((22, b"\x0b\x11a"))
-        for name, rows, word in (("both can", [ONE], "english"),
-                                 ("one can", [ONE, polish], "polish"),
-                                 ("one can most", [polish, mosaic], "polish"),
-                                 ("none can", [mosaic], "english")):
+        for name, rows, word in (
+                ("both can", [ONE], "english"), ("one can", [ONE, polish], "polish"),
+                ("one can most", [polish, mosaic], "polish"), ("none can", [mosaic], "english")):
             sent, pages = store_pages(choose_header_option(0, []), [
                 ShownPage(at, at + 1, item, "") for at, item in enumerate(rows)])
             self.check(f"{name}: option", (sent.options[0].word, len(sent.options)), (word, 2))

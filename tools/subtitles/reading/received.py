@@ -68,12 +68,10 @@ class Reading(NamedTuple):
 
     @property
     def first(self) -> int:
-        """Return the first frame."""
         return self.timeline.frames[0]
 
     @property
     def last(self) -> int:
-        """Return the last frame."""
         return self.timeline.last
 
     def format_text(self, page: ShownPage) -> str:
@@ -254,10 +252,13 @@ def read_pages(packets: Packets, request: Request, clock: Clock | None,
 def store_pages(sent: SentOption, pages: Sequence[ShownPage]) -> tuple[SentOption, list[ShownPage]]:
     """Store the pages by the first of the national options that can store the most of them. Return
     the options, beginning with this one, and the pages."""
-    stored = {option: [page._replace(stored=store_page(page.rows, option)) for page in pages]
-              for option in sent.options}
+    stored: dict[NationalOption, list[ShownPage]] = {}
+    for option in sent.options:
+        stored[option] = [page._replace(stored=store_page(page.rows, option)) for page in pages]
+        if all(page.is_written for page in stored[option]):
+            break
     best = max(stored, key=lambda option: sum(page.is_written for page in stored[option]))
-    return sent._replace(options=[best, *(item for item in stored if item != best)]), stored[best]
+    return sent._replace(options=[best, *(item for item in sent.options if item != best)]), stored[best]
 
 
 def find_beginning(packets: Packets, pes: Range, inside: Range | None, origin: int) \
