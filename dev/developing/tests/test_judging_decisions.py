@@ -70,25 +70,6 @@ class Results(Case):
 
 
 class Folders(Case):
-    def test_pairs_files_by_name_in_any_case(self) -> None:
-        for files, expected in (
-                (["a.stl", "a.ts"], ["a"]), (["a.STL", "A.pes"], ["a"]), (["a.stl"], ["a?"]),
-                (["a.ts"], ["a?"]), (["a.stl", "a.ts", "a.pes"], ["a?"]),
-                (["a.stl", "A.stl", "a.ts", "A.ts"], ["A", "a"]),
-                (["a.stl", "A.stl", "a.ts"], ["A?", "a"]),
-                (["a.stl", "b.ts", "b.stl", "c.ts"], ["a?", "b", "c?"]),
-                (["a.txt", "b.stl", "b.ts"], ["b"]), (["a.stl", "a.x.ts"], ["a?", "a.x?"]),
-                (["a.x.stl", "a.x.ts", "a.y.stl"], ["a.x", "a.y?"])):
-            name = "-".join(files)
-            folder = self.path(name)
-            os.mkdir(folder)
-            for file in files:
-                self.write(f"{name}/{file}", b"")
-            items = find_folder_pairs(folder, make_default_options())
-            result = [item.name + "?" * (item.request is None) for item in items]
-            self.must(name, [element.lower() if expected == ["a"] else element
-                             for element in result] == expected,
-                      result)
 
     def test_pairs_only_regular_files(self) -> None:
         for number, (first, second, is_pair) in enumerate([
