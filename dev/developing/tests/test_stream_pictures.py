@@ -237,6 +237,16 @@ class DepartureFaults(Case):
             self.check(f"back at {behind}", [item.ticks for item in find_departures(
                 pair, TimedPart(1000, 2000, Clock(0, GIVEN)))], both)
 
+    def test_expects_pictures_up_to_the_last_teletext(self) -> None:
+        for last, expected in ((2484, []), (2485, ["00:01:38:24"])):
+            lines = [*make_lead_survey_lines([]), f"steps {VIDEO} 3600 501 3600 501",
+                     f"steps {VIDEO} -3600 2480 3600 2476",
+                     f"end {PID} 9 0 9 0 0 0 {TICKS * last}"]
+            desync = find_desync(survey_extra_lines(lines), PID,
+                                 TimedPart(1000, 2490, Clock(0, GIVEN)), 0, 1, (),
+                                 [TICKS * 2480])
+            self.check(str(last), [fault.time for fault in desync.faults], expected)
+
     def test_notes_a_missing_usual_step(self) -> None:
         chance = random.Random(1)
         steps = [(chance.randrange(-9, 9), frame) for frame in range(500, 2500, SECOND)]
@@ -281,6 +291,22 @@ class Pairs(Case):
                     f"from {format_frame(places[0])} {last}, subtitles are {count} "
                     f"{'early' if frames > 0 else 'late'} for viewers: the video's timestamps jump"
                     in item for item in judged_pair.said), judged_pair.said)
+
+
+    def test_refuses_a_jump_of_video_and_pcr_just_before_the_end(self) -> None:
+        times = subtitle_times(5)
+        stl = write_programme(self, times)
+        pes = schedule_pes(self, stl, "--every", "1")
+        begin, tco = decode_pts(pes[0]) // TICKS - 25, times[-1][1]
+        for is_late, word in ((True, "refused"), (False, "accepted")):
+            programme = Programme({TELETEXT_PID: pes}, TICKS * begin, is_pcr_late=is_late,
+                                  later=[(tco - 5 - begin, 4 * TICKS)])
+            path = self.write("one.ts", multiplex_programmes([programme], tco + 3 - begin).data)
+            judged_pair = judge_files(self, stl, path, "--origin", "0")
+            self.check(f"{is_late}", judged_pair.word, word)
+            self.check(f"{is_late}, places", [fault.time for fault in
+                                              judged_pair.verdict.named_faults],
+                       [format_frame(tco - 5)] * is_late)
 
 
 class AnnouncedJumps(Case):

@@ -8,6 +8,7 @@ import statistics
 from typing import Callable, Iterable, Mapping, NamedTuple, Sequence
 
 from ..common.times import CLOCK, TICKS, subtract_pts, wrap_pts
+from .packets import PCRStep
 from .steps import (
     ALIKE_TICKS, MAX_REORDER_TICKS, MIN_PICTURES, UnusualStep, find_clock_steps, may_keep_delay)
 
@@ -18,10 +19,10 @@ from .steps import (
 # drift: viewers see later subtitles early or late. If the lead stays the same, pictures were lost,
 # or both clocks were reset. If the lead changes without a step, the multiplexer changes its delay.
 #
-# A step that lost pictures do not explain is enough, if the Teletext PTS do not jump too (see
-# steps.py). So is the only step, or pair of steps away and back, that they may explain, if a few
-# leads show that the pictures moved: these leads are usual only if they are moved back by the step.
-# The other leads are compared without these steps.
+# A step that lost pictures do not explain, by its size or since the PCR makes it too, is enough if
+# the Teletext PTS do not jump (see steps.py). So is the only step, or pair of steps away and back,
+# that they may explain, if a few leads show that the pictures moved: these leads are usual only if
+# they are moved back by the step. The other leads are compared without these steps.
 #
 # Leads vary, because a multiplexer sends Teletext before or after a picture. So the mean leads
 # before and after a step are compared, with their standard error. Where steps are close together,
@@ -32,6 +33,7 @@ SAMPLE_SIZE = 30  # number of leads to compare on each side of a step
 MIN_LEADS = 20  # minimum number of leads on each side of a step to compare their extremes
 SIGNIFICANT_ERRORS = 2.5  # number of standard errors that a difference of means must exceed
 MIN_RATIO = 15  # how much more likely leads must be if pictures moved than if they did not
+NEAR_PCR_TICKS = 90_000  # the longest time from a step of the video to the same step of the PCR
 NEAR_SIZE = 5  # number of leads next to a step that must not show another delay than those before
 # A lead that changes steadily may mean that two clocks drift apart. A multiplexer changes its delay
 # in another way.
@@ -103,6 +105,24 @@ def separate_clock_jumps(leads: Sequence[VideoLead], unusual: Sequence[UnusualSt
             rest = [step for step in rest if step not in steps]
             leads = steady
     return ClockJumps(departures, leads, rest)
+
+
+def mark_pcr_jumps(unusual: Sequence[UnusualStep], leads: Sequence[VideoLead],
+                   pcr_steps: Sequence[PCRStep]) -> list[UnusualStep]:
+    """Set `has_pcr` of the unusual steps at which the PCR jumps as far, although no TS packet is
+    missing and the Teletext PTS do not jump forwards."""
+    jumps = [(item.before, item.ticks - item.usual * item.packets // max(item.usual_packets, 1))
+             for item in pcr_steps
+             if item.counters == "whole" and item.before is not None and item.after is not None
+             and (item.ticks < 0 or subtract_pts(item.before, item.after) < item.ticks)]
+    numbers, result = [lead.number for lead in leads], list[UnusualStep]()
+    for step in unusual:
+        lead = leads[max(bisect.bisect_left(numbers, step.number) - 1, 0)]
+        sent = wrap_pts(lead.pts + (step.number - lead.number) * step.usual)
+        result.append(step._replace(has_pcr=any(
+            abs(ticks - step.ticks) < TICKS // 2 and abs(subtract_pts(sent, pts)) < NEAR_PCR_TICKS
+            for pts, ticks in jumps)))
+    return result
 
 
 def have_moved(leads: Sequence[VideoLead], steps: Sequence[UnusualStep],
