@@ -48,9 +48,12 @@ def make_video_leads(leads: Sequence[float], steps: Mapping[int, float] = {}, fi
 
 
 class PictureDepartures(Case):
-    def measure_step_ticks(self, leads: Sequence[VideoLead]) -> list[int | None] | None:
-        """Return the size of each jump in ticks, or `None` if the intervals are irregular."""
-        departures = locate_departures(leads)
+    def measure_step_ticks(self, leads: Sequence[VideoLead],
+                           ahead: Sequence[int] = (9, 9)) -> list[int | None] | None:
+        """Return the size of each jump in ticks, or `None` if the intervals are irregular. The PTS
+        are `ahead` of the PCR by these frames, at first and from the 40th lead on."""
+        departures = locate_departures(leads, (), [
+            (lead.pts, TICKS * ahead[at >= 40]) for at, lead in enumerate(leads) if ahead])
         return None if departures is None else [departure.ticks for departure in departures]
 
     def test_finds_steps_of_the_pictures_against_the_teletext(self) -> None:
@@ -84,8 +87,11 @@ class PictureDepartures(Case):
                 make_video_leads([6.0] * 40 + [6.0 - 50] * 40, {40: 50 + lost})), [50 * TICKS])
         self.check("none lost, but few leads that vary", self.measure_step_ticks(
             make_video_leads([6.0, 7, 6, 7, 6] * 8 + [8.0] * 2, {40: -1})), [-TICKS])
-        self.check("50 lost alone",
-                   self.measure_step_ticks(make_video_leads([6.0] * 80, {40: 50})), [])
+        for lost, ahead, expected in (
+                (50, (9, 9), []), (50, (9, 11), [None]), (50, (), [None]), (25, (), [None]),
+                (24, (9, 11), []), (24, (), [])):
+            self.check(f"{lost} lost alone, {ahead}", self.measure_step_ticks(
+                make_video_leads([6.0] * 80, {40: lost}), ahead), expected)
 
     def test_finds_a_steady_change(self) -> None:
         grows = make_video_leads([6 + 0.02 * at for at in range(100)])

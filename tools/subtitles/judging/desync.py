@@ -81,7 +81,7 @@ def locate_video_departures(survey: Survey, video: int, leads: Sequence[VideoLea
         return None
     unusual = mark_pcr_jumps(find_unusual_steps(ranges, count), leads, packets.pcr_steps)
     jumps = separate_clock_jumps(leads, unusual, count, has_own_clock)
-    places = locate_departures(jumps.leads, jumps.steps)
+    places = locate_departures(jumps.leads, jumps.steps, packets.samples)
     group = survey.videos.get(video) or Video()
     margin = measure_reordering(group.pictures, group.skipped, ranges,
                                 wrap_pts(leads[0].pts - leads[0].ticks), leads[0].number)

@@ -27,12 +27,15 @@ from .steps import (
 # Leads vary, because a multiplexer sends Teletext before or after a picture. So the mean leads
 # before and after a step are compared, with their standard error. Where steps are close together,
 # the leads between them show too little of how leads vary: those beyond the next steps count too.
-# If there are enough leads, their extremes are compared too.
+# If there are enough leads, their extremes are compared too. If many pictures are lost, leads may
+# stay the same by chance, since they come from other places of the groups of pictures than before:
+# then Teletext must keep its distance from the PCR too.
 
 SAMPLE_SIZE = 30  # number of leads to compare on each side of a step
 MIN_LEADS = 20  # minimum number of leads on each side of a step to compare their extremes
 SIGNIFICANT_ERRORS = 2.5  # number of standard errors that a difference of means must exceed
 MIN_RATIO = 15  # how much more likely leads must be if pictures moved than if they did not
+LONG_LOSS = 90_000  # ticks of lost pictures from which on the PCR must agree
 NEAR_PCR_TICKS = 90_000  # the longest time from a step of the video to the same step of the PCR
 NEAR_SIZE = 5  # number of leads next to a step that must not show another delay than those before
 # A lead that changes steadily may mean that two clocks drift apart. A multiplexer changes its delay
@@ -199,26 +202,27 @@ def leave_out_lost(step: int, mean_change: float, usual: int) -> int:
     return step - usual * round((step + mean_change) / usual)
 
 
-def locate_departures(leads: Sequence[VideoLead], unusual: Sequence[UnusualStep] = ()) \
-        -> list[Departure] | None:
+def locate_departures(leads: Sequence[VideoLead], unusual: Sequence[UnusualStep] = (),
+                      samples: Sequence[tuple[int, int]] = ()) -> list[Departure] | None:
     """Return the places where the delay between video and Teletext changes or may change. Return
     `None` if most decoding times are irregular. `unusual` has the unusual steps of the decoding
-    times, if `survey` prints steps."""
+    times, if `survey` prints steps, and `samples` some Teletext PTS, each with the ticks by which
+    it is ahead of the PCR."""
     steps = compute_steps(leads)
     ends = find_step_places(steps)
     if len(ends) * 2 > len(leads):
         return None
     inside = collect_steps(leads, unusual)
     departures = [*find_departures_at_edges(leads, inside),
-                  *find_departures_between_rows(leads, steps, ends, inside),
+                  *find_departures_between_rows(leads, steps, ends, inside, samples),
                   *find_departures_in_rows(leads, ends, inside)]
     first = leads[0].pts if leads else 0
     return sorted(departures, key=lambda departure: subtract_pts(first, departure.pts))
 
 
 def find_departures_between_rows(leads: Sequence[VideoLead], steps: Sequence[int],
-                                 ends: Sequence[int], inside: dict[int, list[UnusualStep]]) \
-        -> list[Departure]:
+                                 ends: Sequence[int], inside: dict[int, list[UnusualStep]],
+                                 samples: Sequence[tuple[int, int]]) -> list[Departure]:
     """Return the departures between rows of leads without a step. `ends` has the index after each
     row. Remove the unusual steps between these rows from `inside`, which has the unusual steps
     before each lead."""
@@ -239,8 +243,11 @@ def find_departures_between_rows(leads: Sequence[VideoLead], steps: Sequence[int
             # Where pictures are lost, the last lead may be that of Teletext long after its picture.
             left = measure_departure(before[:-1], after, ticks, (around[0][:-1], around[1]), usual)
         if left == 0 and (is_outside(all_ticks[row_end:begin], before)
-                          or not all(step.is_whole for step in here)):
-            left = None  # a short drift, a damaged PTS, or a step that no lost picture explains
+                          or not all(step.is_whole for step in here)
+                          or ticks >= LONG_LOSS and not keep_pcr_distance(
+                              samples, leads[row_end - 1].pts, leads[begin].pts)):
+            # a short drift, a damaged PTS, a step that no lost picture explains, or a long loss
+            left = None
         if any(abs(other + ticks) < ALIKE_TICKS for other in unclear):
             left = None  # pictures may come back
         unclear = [ticks] if left is None else []
@@ -258,6 +265,14 @@ def find_departures_between_rows(leads: Sequence[VideoLead], steps: Sequence[int
                 earlier, leads[begin], here, measure_least_change(before, after, around)))
         row_begin, row_end, ticks, total = begin, end, 0, total + (left or 0)
     return departures
+
+
+def keep_pcr_distance(samples: Sequence[tuple[int, int]], earlier: int, later: int) -> bool:
+    """Return whether Teletext is as far ahead of the PCR up to one PTS as from a later one on."""
+    before = [ticks for pts, ticks in samples if subtract_pts(pts, earlier) >= 0]
+    after = [ticks for pts, ticks in samples if subtract_pts(later, pts) >= 0]
+    change, error = compare_means(before, after) if before and after else (0, TICKS)
+    return abs(change) + error < TICKS / 2
 
 
 def find_departures_in_rows(leads: Sequence[VideoLead], ends: Sequence[int],
