@@ -32,6 +32,7 @@ from .steps import (
 # then Teletext must keep its distance from the PCR too.
 
 SAMPLE_SIZE = 30  # number of leads to compare on each side of a step
+SAMPLE_TICKS = 2_700_000  # the time for which PTS are compared with the PCR, before and after
 MIN_LEADS = 20  # minimum number of leads on each side of a step to compare their extremes
 SIGNIFICANT_ERRORS = 2.5  # number of standard errors that a difference of means must exceed
 MIN_RATIO = 15  # how much more likely leads must be if pictures moved than if they did not
@@ -269,8 +270,8 @@ def find_departures_between_rows(leads: Sequence[VideoLead], steps: Sequence[int
 
 def keep_pcr_distance(samples: Sequence[tuple[int, int]], earlier: int, later: int) -> bool:
     """Return whether Teletext is as far ahead of the PCR up to one PTS as from a later one on."""
-    before = [ticks for pts, ticks in samples if subtract_pts(pts, earlier) >= 0]
-    after = [ticks for pts, ticks in samples if subtract_pts(later, pts) >= 0]
+    before = [ticks for pts, ticks in samples if 0 <= subtract_pts(pts, earlier) < SAMPLE_TICKS]
+    after = [ticks for pts, ticks in samples if 0 <= subtract_pts(later, pts) < SAMPLE_TICKS]
     change, error = compare_means(before, after) if before and after else (0, TICKS)
     return abs(change) + error < TICKS / 2
 
