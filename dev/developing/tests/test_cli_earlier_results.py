@@ -67,7 +67,7 @@ class CurrentResults(Case):
         self.must("all words", names == {*OTHERS, "stl", "recording", "severity", "from_time",
                                          "to_time", "layout", "is_open", "may_keep",
                                          "pace_word", "kept_stl", "moved_stl", "is_reading",
-                                         "language"},
+                                         "language", "reference_call"},
                   names)  # see test_request_options for the last members
 
     def test_removes_the_earlier_results_of_a_pair(self) -> None:

@@ -615,7 +615,7 @@ class TwoRecordings(Case):
             call = self.tool("qc", "--reference", "a.ts", *args)
             self.must(name, call.status == status and len(call.told) == 1, call)
         self.check("no reference", self.tool("qc", "a.ts", "b.ts").status, 2)
-        for args, tried in (("--pid 7 --same-start", " --same-start"), ("--pid 7", ""),
-                            ("--page 777 --same-start", " --same-start --page 888")):
-            call = self.tool("qc", "--reference", "a.ts", "b.ts", *args.split())
-            self.must(args, call.told[-1].endswith(f"qc --reference a.ts b.ts{tried}"), call)
+        for words, tried in (("--pid 7 --same-start", " --same-start"), ("--pid 7", ""),
+                             ("--page 777 --same-start", " --same-start --page 888")):
+            call = self.tool("qc", "--reference", "a.ts", "b.ts", *words.split())
+            self.must(words, call.told[-1].endswith(f"qc --reference a.ts b.ts{tried}"), call)

@@ -258,7 +258,8 @@ def store_pages(sent: SentOption, pages: Sequence[ShownPage]) -> tuple[SentOptio
         if all(page.is_written for page in stored[option]):
             break
     best = max(stored, key=lambda option: sum(page.is_written for page in stored[option]))
-    return sent._replace(options=[best, *(item for item in sent.options if item != best)]), stored[best]
+    options = [best, *(option for option in sent.options if option != best)]
+    return sent._replace(options=options), stored[best]
 
 
 def find_beginning(packets: Packets, pes: Range, inside: Range | None, origin: int) \

@@ -229,7 +229,8 @@ def make_command(request: Request, command_paths: CommandPaths, *more: str) -> s
         if more[0] == "--pid" and request.pid is not None:
             more = ()  # no PID of --pid is right for both recordings
         elif more[0] in ("--origin", "--pes"):
-            arguments[4:] = () if request.start else ("--start", "TIME", "--reference-start", "TIME")
+            times = ("--start", "TIME", "--reference-start", "TIME")
+            arguments[4:] = () if request.start else times
             more = ()
     elif request.is_reading:
         arguments = [command_paths.get_tool_command("read"), str(request.recording),
