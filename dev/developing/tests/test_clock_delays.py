@@ -22,14 +22,9 @@ START_OFFSET = 25  # frames between the start of a recording and the first TCI
 FIRST_PTS, START_TIME = (BEGIN - START_OFFSET) * TICKS, format_frame(BEGIN - START_OFFSET)
 
 
-def make_even_times(count: int) -> list[tuple[int, int]]:
-    """Return the start and end frames of `count` subtitles that begin every five seconds."""
-    return [(FIRST_TCI + DISTANCE * at, FIRST_TCI + DISTANCE * at + DURATION)
-            for at in range(count)]
-
-
 class Delays(ProgrammeCase):
-    due, words = make_even_times(20), WORDS
+    due = [(FIRST_TCI + DISTANCE * at, FIRST_TCI + DISTANCE * at + DURATION) for at in range(20)]
+    words = WORDS
 
     def test_does_not_report_a_delay_if_all_received_cues_agree(self) -> None:
         every = self.write("all.pes", b"")
@@ -82,20 +77,6 @@ class Delays(ProgrammeCase):
             self.must(f"{second}: none is said", judged_pair.word == "refused" and
                       ("where the PTS go back" in judged_pair.told[0]) == (second < first),
                       judged_pair.told)
-
-    def test_each_printed_command_prints_the_same_answer(self) -> None:
-        sent = [(pts + 3_000_000_000 * (pts < self.due[10][0] * TICKS), packets)
-                for pts, packets in self.sent]
-        process = qc(self, self.stl, self.write("sent.pes", join_pes_packets(sent)), *WORDS,
-                     "--breaks", "1", "-o", "out")
-        lines = split_output_lines(process)
-        calls = [line[2:] for line in lines if line.startswith("+ ") and " check " in line]
-        self.must("two parts", process.status == 3 and len(calls) == 2, process)
-        for line in calls:
-            again = self.call(["sh", "-c", line])
-            printed = again.out.decode().splitlines()
-            at = lines.index(f"+ {line}") + 1
-            self.must(line, printed == lines[at:at + len(printed)], again)
 
 
 class FirstPictures(Case):

@@ -1,7 +1,7 @@
 """Test verdicts on pairs with unreadable packets or losses, and the sentences about them."""
 from __future__ import annotations
 
-from developing.pes import DATA, GAP_MARKER, UNIT, decode_pts, encode_pts
+from developing.pes import DATA, GAP_MARKER, decode_pts
 from subtitles.common.times import TICKS, format_frame
 from .bench import Case, get_example_path, read_example_file
 from .judged import JudgedPair, ProgrammeCase, judge_files
@@ -15,16 +15,11 @@ STORY, HELLO = get_example_path("story.stl"), get_example_path("hello.stl")
 ACCENT = get_example_path("accent.stl")
 UNREAD = "none of the recording was read, and --severity makes all faults warnings"
 EVERY_OPTION = ["--every", "40"]  # frames; allows the loss of two page transmissions
-BITS = {33: (6, 0xC0), 34: (7, 0x80), 35: (8, 1), 36: (13, 1), 37: (DATA - 1, 0x30),
-        38: (DATA + UNIT + 1, 1), 39: (DATA + UNIT + 3, 1), 40: (DATA + UNIT + 2, 0x0F)}
-NAMES = {33: "Flags", 34: "NoTime", 35: "HeaderLength", 36: "Time", 37: "DataId",
-         38: "UnitLength", 39: "Framing", 40: "LineOrder", 61: "OffFrame", 45: "Lost"}
+BITS = {33: (6, 0xC0), 37: (DATA - 1, 0x30)}
 
 
 def damage_packet(packet: bytes, number: int) -> bytes:
     """Return a PES packet with damage for which `check` reports this fault number."""
-    if number == 61:
-        return packet[:9] + encode_pts(decode_pts(packet) + 90) + packet[14:]
     at, bits = BITS[number]
     return packet[:at] + bytes([packet[at] ^ bits]) + packet[at + 1:]
 
@@ -39,25 +34,6 @@ class UnreadablePackets(ProgrammeCase):
     def judge_with_gaps(self, some: list[bytes], *args: str) -> JudgedPair:
         return judge_files(self, self.stl, self.write("one.pes", b"".join(some)), *EVERY_OPTION,
                            "--origin", str(ORIGIN), *args)
-
-    def test_judges_subtitles_after_unreadable_pes_packets(self) -> None:
-        runs = [(number, 5 * at + 1, 5 * at + 2) for at, number in enumerate([*BITS, 61])]
-        runs += [(33, 48, 48), (34, 49, 49), (45, 55, 56), (45, 60, 60)]
-        some = list(self.pes)
-        for number, first, last in runs:
-            for at in range(first, last + 1):
-                some[at] = GAP_MARKER if number == 45 else damage_packet(some[at], number)
-        judged = self.judge_with_gaps(some)
-        listed = [f"{word} {number} {NAMES[number]} pes {at}" for number, first, last in runs
-                  for word, at in (("refused", first), *[("ended", last)] * (last > first))]
-        self.check("list", [line for line in judged.listed if " pes " in line], listed)
-        self.check("faults", [(fault["number"], fault["pes"], fault["last_pes"])
-                              for fault in judged.result["faults"]
-                              if fault["pes"] is not None and fault["number"] in NAMES],
-                   [(number, first, last if last > first else None)
-                    for number, first, last in runs])
-        self.check("last line", judged.said[-1], "refused 33 Flags pes 1")
-        check_schema(self, judged.result)
 
     def test_all_frames_but_those_around_gap_markers_are_clean(self) -> None:
         some = [*self.pes[:22], GAP_MARKER, *self.pes[24:61], GAP_MARKER, *self.pes[62:]]
