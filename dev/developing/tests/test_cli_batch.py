@@ -383,14 +383,6 @@ class ForkedPairs(Case):
             self.check(f"{seconds} seconds", ([one for one in ("stop", "kill") if getattr(
                 calls[0], one).called], calls[1] in self.calls.overdue_processes), (ended, False))
 
-    def test_limits_the_time_by_the_size_of_the_files(self) -> None:
-        for sizes, expected in (((None, None), 60), ((0, 9_999_999), 60), ((1, 9_999_999), 61),
-                                ((0, 4_000_000_000), 460)):
-            found_files = {name: None if size is None else {"size": size, "modified": ""}
-                           for name, size in zip(("stl", "recording"), sizes)}
-            self.must(f"{sizes}", batch.compute_default_limit(found_files) == expected)
-        self.must("none of a process that is gone", batch.read_cpu_seconds("0") == 0.0)
-
     def test_a_crash_affects_only_its_own_pair(self) -> None:
         ends: dict[str, Callable[[], object]] = {
             "killed": lambda: signal.raise_signal(signal.SIGKILL), "no memory": os.abort,
