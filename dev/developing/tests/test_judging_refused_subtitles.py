@@ -188,29 +188,6 @@ class RefusedSubtitles(Case):
                                                                             len(bad)),
                       judged_pair.said)
 
-    def test_lists_refused_and_late_subtitles_in_the_report(self) -> None:
-        slow = self.write("slow.pes",
-                          join_pes_packets(make_delay(5, 3600 * 600, 3600 * 650)(self.sent)))
-        for number, (bad, pes) in enumerate((((3,), self.pes), ((3, 4, 9), slow))):
-            out, stl = self.path(f"out{number}"), self.write_stl(*bad)
-            self.judge(stl, pes, "-o", out)
-            for name in (f"{out}/one.html",):
-                page = self.read(name).decode()
-                tree.fromstring(page.partition("\n")[2])
-                names = re.findall(r' id="([^"]+)"', page)
-                links = set(re.findall(r'href="#([^"]+)"', page))
-                self.must(f"{bad} {name}: names", len(names) == len(set(names)), names)
-                self.must(f"{bad} {name}: links", links <= {*names, "n78"}, links - {*names})
-                rows = dict(re.findall(r'<tr id="s(\d+)" class="([^"]+)"', page))
-                self.must(f"{bad} {name}: all", len(rows) == 10, rows)
-                refused = {int(item) for item, kinds in rows.items() if "n50" in kinds}
-                self.must(f"{bad} {name}: refused", refused == set(bad), rows)
-                moved_rows = {int(item) for item, kinds in rows.items()
-                              if re.search(r"\bc\d", kinds)}
-                self.must(f"{bad} {name}: late", moved_rows == (
-                    {6} if len(bad) > 1 else set()), rows)
-                self.must(f"{bad} {name}: said", "other subtitles were judged: " in page)
-
     def test_draws_the_judged_subtitles_by_a_layout(self) -> None:
         self.blocks = [(begin, end, b"N\xc8umber %d" % number)
                        for number, (begin, end) in enumerate(subtitle_times(14), 1)]
