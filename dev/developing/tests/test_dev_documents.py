@@ -336,7 +336,6 @@ STATED: list[tuple[str, str, object]] = [
     ("manual/qc.md", "at least {} seconds, and five consecutive cues", BREAK_SECONDS),
     ("manual/qc.md", "A PTS may be a {} of a frame early, or almost three quarters of a",
      {4: "quarter"}[TICKS // EARLY_TICKS]),
-    ("MANUAL.md", "at least [{} seconds]", BREAK_SECONDS),
     ("manual/qc.md", "N, from 0 to {}, is the delay in frames", MAX_WITHIN),
     ("manual/reference.md", "or {:.0f} GB from a pipe", MAX_PIPED_BYTES / 1e9),
     ("manual/reference.md", "at most {:,} TTI blocks", (MAX_STL - 1024) // 128),
