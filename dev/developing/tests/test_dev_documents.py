@@ -430,7 +430,7 @@ STATED: list[tuple[str, str, object]] = [
      read_constant("ttx_pes/data_unit", "FRAMING_CODE")),
     ("manual/survey.md", "with the same PCR_PID (not {})", NO_PID),
     ("manual/survey.md", "and PCR_PID ({} if there is none)", NO_PID),
-    ("manual/read.md", "of {}. What was", join_statuses(
+    ("manual/read.md", "of {} that a page has", join_statuses(
         status for status in STATUS_ORDER if status != STATUSES[RELATIVE])),
     ("manual/read.md", "an adjoining subtitle in one or {} characters", NUMBER_WORDS[FEW_CELLS]),
     ("manual/streams.md", "A line begins in column 0 (JC {}), is", JUSTIFIED[0]),
