@@ -168,7 +168,8 @@ class Programme(NamedTuple):
 
     `pes` contains the PES packets of each Teletext PID. The PID `video` carries pictures from the
     PTS `first` on, and PCRs. Pictures of the frames `flagged` have a random_access_indicator.
-    `later` contains frames, each with the ticks by which pictures from this frame on are delayed.
+    `later` contains frames, each with the ticks by which pictures from this frame on are delayed,
+    and the PCR too if `is_pcr_late`.
     """
 
     pes: Mapping[int, Sequence[bytes]]
@@ -176,6 +177,7 @@ class Programme(NamedTuple):
     video: int = VIDEO_PID
     flagged: Collection[int] = (0, 12)
     later: Sequence[tuple[int, int]] = ()
+    is_pcr_late: bool = False
 
 
 def multiplex_programmes(programmes: Sequence[Programme], frames: int) -> StreamMaker:
@@ -196,7 +198,7 @@ def multiplex_programmes(programmes: Sequence[Programme], frames: int) -> Stream
             now = item.first + TICKS * frame
             later = sum(by for begin, by in item.later if begin <= frame)
             maker.pcr_pid = item.video
-            maker.put_pcr(now - PTS_AHEAD)
+            maker.put_pcr(now - PTS_AHEAD + later * item.is_pcr_late)
             maker.put(item.video, make_video_packet(now + later, make_mpeg_2_picture()),
                       frame in item.flagged)
             for pid, pes in rest.items():

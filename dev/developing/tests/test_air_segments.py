@@ -92,8 +92,10 @@ JUMP_CASES = {
     "where they overlap more": ("0..10:0 8..18:128", "-120 at 8"),
     "the TDT jumps back": ("0..10:600 !20..30:0", ""),
     "the TDT stands still": ("0..10:0 !100..110:0", ""),
-    "the TDT is a day ahead": ("0..10:0 !10..20:86410", ""),
-    "the TDT is almost a day ahead": ("0..10:0 !10..20:86409", "-86399 at 10"),
+    "set ahead by two days": ("0..10:0 172820..172830:20", "+172800 at 172820"),
+    "set back by two days": ("0..10:0 !10..20:172810", "-172800 at 10"),
+    "an old recording ends": ("0..10:-86400 !10..20:10", ""),
+    "a recording of the last day ends": ("0..10:-86399 !10..20:10", "-86399 at 10"),
     "no TDT for two segments": ("0..10:0 10..20 !20..30 30..40:150", "-120 at 20"),
     "no TDT for eight segments": (
         "0..10:0 " + " ".join(f"{at}..{at + 10}" for at in range(10, 90, 10)) + " !90..99:210", ""),

@@ -45,34 +45,38 @@ class Lists(Case):
         os.mkfifo(self.path("pipe"))
 
     def test_reads_each_line_of_a_list_or_reports_why_not(self) -> None:
-        lines = ("# none\n\n{0}/one.stl {0}/one.ts --every 50 # more\n"
-                 "{0}/two.stl {0}/one.ts\n"
-                 "{0}/one.stl {0}/one.ts\n\"\n{0}/one.stl\n{0}/one.stl {0}/folder\n"
-                 "{0}/none.stl {0}/one.ts\n{0}/one.stl {0}/pipe\n{0}/x.stl -\n"
-                 "{0}/x.stl /dev/null --within 2\n{0}/x.stl {0}/socket\n").format(self.folder)
         self.make_socket("socket")
-        items = read_pairs(self.write("list", lines.encode() + b"caf\xe9.stl x.ts"),
-                           make_default_options())
-        self.must("names", [item.name for item in items] == [
-            "one", "two", "one~2", "line 6", "line 7", "one~3", "none", "one~4", "line 11", "x",
-            "x~2", "caf%E9"],
-                  [item.name for item in items])
-        self.must("options", [item.request.every for item in items if item.request] ==
-                  [50, 250, 250])
-        reasons = [item.reason for item in items if item.reason]
-        for reason, words in zip(reasons, (
-                f"{self.path('list')}, line 6: a quote", f"{self.path('list')}, line 7: ",
-                f"{self.path('folder')} is a folder",
-                f"{self.path('none.stl')}: No such file or directory",
-                f"{self.path('pipe')} is a pipe",
-                f"{self.path('list')}, line 11: a list can't have ", "/dev/null is a device",
-                f"{self.path('socket')} is a socket", "caf\udce9.stl: No such file")):
-            self.must(words, reason.startswith(words), reason)
-        self.must("reasons", len(reasons) == 9, reasons)
-        self.must("a file", find_path_problem(self.path("one.stl")) is None)
-        self.must("no name of one", "null" in (find_path_problem("a\0") or ""))
+        here = f"{self.folder}/"
+        rows = (  # a line of the list, the name of its pair, the beginning of why it is not judged
+            ("# none", None, ""),
+            ("", None, ""),
+            (f"{here}one.stl {here}one.ts --every 50 # more", "one", ""),
+            (f"{here}two.stl {here}one.ts", "two", ""),
+            (f"{here}one.stl {here}one.ts", "one~2", ""),
+            ('"', "line 6", f"{here}list, line 6: a quote"),
+            (f"{here}one.stl", "line 7", f"{here}list, line 7: "),
+            (f"{here}one.stl {here}folder", "one~3", f"{here}folder is a folder"),
+            (f"{here}none.stl {here}one.ts", "none", f"{here}none.stl: No such file or directory"),
+            (f"{here}one.stl {here}pipe", "one~4", f"{here}pipe is a pipe"),
+            (f"{here}x.stl -", "line 11", f"{here}list, line 11: a list can't have "),
+            (f"{here}x.stl /dev/null --within 2", "x", "/dev/null is a device"),
+            (f"{here}x.stl {here}socket", "x~2", f"{here}socket is a socket"),
+            ("caf\udce9.stl x.ts", "caf%E9", "caf\udce9.stl: No such file"))
+        text = "\n".join(line for line, _, _ in rows).encode("utf-8", "surrogateescape")
+        items = read_pairs(self.write("list", text), make_default_options())
+        named = [row for row in rows if row[1]]
+        self.check("pairs", len(items), len(named))
+        for (line, name, reason), item in zip(named, items):
+            self.check(line, (item.name, (item.reason or "")[:len(reason) or None]), (name, reason))
+        self.check("every", [item.request.every for item in items if item.request], [50, 250, 250])
+
+    def test_finds_that_a_path_has_a_nul_byte(self) -> None:
+        self.check("a file", find_path_problem(self.path("one.stl")), None)
+        self.must("a NUL byte", "null" in (find_path_problem("a\0") or ""))
+
+    def test_rejects_a_list_without_pairs(self) -> None:
         for path in (self.write("empty", b"# none\n"), self.path("folder")):
-            with self.assertRaises(Stop):
+            with self.assertRaises(Stop, msg=path):
                 read_pairs(path, make_default_options())
 
     def test_protects_the_inputs_of_an_invalid_line(self) -> None:
@@ -378,14 +382,6 @@ class ForkedPairs(Case):
                 self.must("no row", not [*self.calls.collect_rows(0)])
             self.check(f"{seconds} seconds", ([one for one in ("stop", "kill") if getattr(
                 calls[0], one).called], calls[1] in self.calls.overdue_processes), (ended, False))
-
-    def test_limits_the_time_by_the_size_of_the_files(self) -> None:
-        for sizes, expected in (((None, None), 60), ((0, 9_999_999), 60), ((1, 9_999_999), 61),
-                                ((0, 4_000_000_000), 460)):
-            found_files = {name: None if size is None else {"size": size, "modified": ""}
-                           for name, size in zip(("stl", "recording"), sizes)}
-            self.must(f"{sizes}", batch.compute_default_limit(found_files) == expected)
-        self.must("none of a process that is gone", batch.read_cpu_seconds("0") == 0.0)
 
     def test_a_crash_affects_only_its_own_pair(self) -> None:
         ends: dict[str, Callable[[], object]] = {

@@ -67,7 +67,7 @@ class CurrentResults(Case):
         self.must("all words", names == {*OTHERS, "stl", "recording", "severity", "from_time",
                                          "to_time", "layout", "is_open", "may_keep",
                                          "pace_word", "kept_stl", "moved_stl", "is_reading",
-                                         "language"},
+                                         "language", "reference_call"},
                   names)  # see test_request_options for the last members
 
     def test_removes_the_earlier_results_of_a_pair(self) -> None:
@@ -215,20 +215,12 @@ class StoredResults(Case):
         names = [os.path.basename(path) for path, _ in read_results(self.folder)]
         self.must("names", names == ["a.json", "b.json"], names)
 
-    def test_rejects_a_result_with_another_status(self) -> None:
+    def test_reports_a_judging_process_without_a_result(self) -> None:
         path = self.path("one.json")
-        for verdict, ended, is_its in (("refused", 1, True), ("refused", 0, False),
-                                       ("accepted", 0, True), ("accepted", 2, False),
-                                       ("waived", 0, True), ("accepted", -9, False)):
-            self.write("one.json", json.dumps(make_result(verdict)).encode())
-            got = read_call_result(path, "one", ended, ["qc: first", "qc: last: more"])
-            self.must(f"{verdict} {ended}", (got["verdict"] == verdict) == is_its, got)
-            if not is_its:
-                self.must("why", got["reason"] == ("last: more" if ended >= 0 else
-                                                   "the process was killed"), got)
-        os.unlink(path)
-        self.must("none", read_call_result(path, "one", 2, [])["reason"] ==
-                  "the judging process wrote no result")
+        self.check("none", read_call_result(path, "one", 2, [])["reason"],
+                   "the judging process wrote no result")
+        self.check("killed", read_call_result(path, "one", -9, ["qc: last"])["reason"],
+                   "the process was killed")
 
     def test_replaces_only_results_and_empty_files(self) -> None:
         for data, expected in ((b"{", True), (b"", True), (b"GSI", False), (b" {", False),
@@ -454,7 +446,7 @@ class WatchedFolders(Case):
         os.mkdir(self.path("in"))
         watch, errors = FolderWatch(self.path("in"), 0), io.StringIO()
         with contextlib.redirect_stderr(errors):
-            for reason in ("first", "first", "second", "second", "first", "first"):
+            for reason in (*["first"] * 3, *["second"] * 3, *["first"] * 3):
                 self.must(reason, watch.find_ready_items([BatchItem("a", None, reason)]) == [])
         lines = [line.partition(": ")[2] for line in errors.getvalue().splitlines()]
         self.must("told", lines == ["first", "second", "first"], lines)

@@ -165,23 +165,6 @@ class Programs(CallCase):
                         line.startswith("accepted") for line in process.printed[-1:]), process)
                     self.assertTrue(all(line.startswith("qc: ") for line in process.told), process)
 
-    def test_ends_with_0_if_all_faults_are_waived(self) -> None:
-        program = self.fake_program(CONTROL, "1 faults", then="exit 1")
-        named = self.write("named", b"67 warning\n")
-        process = self.judge(program, "--severity", named, "--json", "one.json", "--csv", "one.csv",
-                             "--junit", "one.xml")
-        known = self.object()
-        line = f"waived: {CONTROL}; not checked: no_video, losses"
-        self.assertEqual((process.status, process.printed[-1]), (0, line), process)
-        self.assertEqual((known["verdict"], known["status"], known["line"]), ("waived", 0, line))
-        rows = list(csv.DictReader(self.text("one.csv").splitlines()))
-        self.assertEqual(rows[0]["verdict"], "waived")
-        suite = tree.fromstring(self.read("one.xml"))
-        self.assertEqual((suite.get("failures"), suite.get("errors")), ("0", "0"))
-        self.assertIn(line, "".join(suite.itertext()))
-        other = self.write("no", b"73 warning\n")
-        self.assertEqual(self.judge(program, "--severity", other).status, 1)
-
     def test_never_prints_accepted_without_a_clock(self) -> None:
         self.write("profile", b"--relative\n")
         program, line = self.fake_program(ACCEPTED), "relative 51 frames 2 transmissions"

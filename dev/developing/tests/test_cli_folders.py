@@ -2,13 +2,11 @@
 from __future__ import annotations
 
 import csv
-import errno
 import json
 import os
 import shutil
 import subprocess
 import xml.etree.ElementTree as tree
-from unittest import mock
 
 from subtitles.cli.single import lock_folder, lock_pair
 from subtitles.common.command_line import Stop
@@ -190,22 +188,6 @@ class Claims(Case):
             self.must(f"turn {turn}", os.listdir(folder) == [])
         with lock_pair(None, "one"), lock_folder(None):
             self.must("no folder", True)
-        open_locked: list[str] = []
-
-        def flock(handle: int, kind: int) -> None:
-            """Delete the lock file in the first call, and raise an error in the third."""
-            open_locked.append(os.readlink(f"/proc/self/fd/{handle}"))
-            if len(open_locked) == 1:
-                os.unlink(open_locked[0])
-            elif len(open_locked) == 3:
-                raise OSError(errno.ENOLCK, "No locks")
-
-        with mock.patch("fcntl.flock", flock):
-            for count in (2, 3):
-                with lock_pair(folder, "one"):
-                    self.must("its file", os.listdir(folder) == [".one.lock"]
-                              and len(open_locked) == count, open_locked)
-        self.must("nothing is left", os.listdir(folder) == [])
         with lock_pair(folder, "one"):  # another process replaced the lock file
             os.unlink(f"{folder}/.one.lock")
             self.write("claimed/here/.one.lock", b"another one's")

@@ -215,8 +215,10 @@ class Installation(Case):
         path = self.path(process.out.decode().strip())
         self.must("status", process.status == 0, process)
         before = self.read(path)
-        self.tool("dist", "--deb")
-        self.must("the same bytes again", self.read(path) == before)
+        os.remove(path)
+        process = self.tool("dist", "--deb")
+        self.must("the same bytes again", process.status == 0 and self.read(path) == before,
+                  process)
         process = self.call(["dpkg-deb", "-f", path, "Version", "Depends"])
         self.must("version, and what it needs", process.out.decode().splitlines() == [
             f"Version: {(read(os.path.join(TOP, 'VERSION')) or '').strip()}",

@@ -106,8 +106,8 @@ class Cues(Case):
             early = [word for word in words if " " in word]
             self.must(f"{shown} {pages} {received}", (found.begins, found.ends) == (
                 Counter(begins), Counter(ends)) and [
-                    line.partition(" 00:00:")[2][6:] for line in found.early] == [
-                        f"{word} early" for word in early] and [
+                    line.partition(" at ")[2] for line in found.early] == [
+                        f"00:00:04:00 {word} early" for word in early] and [
                             line.split()[2] for line in found.unseen] == [
                                 word for word in words if " " not in word], found)
 
@@ -150,6 +150,14 @@ class Cues(Case):
             found_words = propose_keeping(headers, keeping, is_alone).text
             self.must(f"{keeping} of {headers}, {is_alone}", bool(found_words) == (
                 keeping > 0 and headers < 21 and is_alone))
+
+    def test_lists_the_delays_and_the_headers_that_keep_the_page(self) -> None:
+        delays = Delays(Counter([2, 0, 2]), Counter([1]), ["x"], [])
+        self.check("delays", next(propose_lateness([delays], [])).lines[:2], [
+            "within, late (frames late:number of cues): in-cues 0:1, 2:2; out-cues 1:1",
+            "early, which no option accepts: x"])
+        self.check("headers", propose_keeping(59, 24, True).lines,
+                   ["keeping: C4 (erase page) is clear in 24 of 59 headers"])
 
     def test_ignores_delays_of_fewer_than_one_cue_in_twenty(self) -> None:
         self.check_rows(lambda delays: dict(remove_unusual(Counter(delays))), {

@@ -8,7 +8,6 @@ import io
 import itertools
 import json
 import os
-import re
 import signal
 from typing import Any, Sequence
 from unittest import mock
@@ -444,19 +443,6 @@ class Pages(Case):
         verdict.named_faults = [NamedFault("never sent", "a"), NamedFault("not shown", "b")]
         verdict.severity.severity_by_fault = {"not shown": "warning"}
         self.must("waived", [*report_page.list_waived(verdict)] == ["not shown: b"])
-
-    def test_has_unique_anchors_for_all_parts(self) -> None:
-        page = markup_text(report_page.make_report_page(self.several(), CommandPaths(
-            "tools/qc", self.bench.program)))
-        self.must("its date", page.count("2026-01-02 03:04:05 UTC") == 1)
-        self.must("parts", re.findall(r'<section class="part" id="part(\d)"><h2>Part (\d),', page)
-                  == [("1", "1"), ("2", "2"), ("3", "3")])
-        names = re.findall(' id="([^"]*)"', page)
-        self.must("anchors", len(names) == len(set(names)), names)
-        self.must("links", {*re.findall('href="#([^"]*)"', page)} <= {*names},
-                  {*re.findall('href="#([^"]*)"', page)} - {*names})
-        self.must("once", all(page.count(f'id="{name}"') == 1 for name in (
-            "part1", "part2-faults", "part3", "files")), names)
 
     def test_has_a_page_if_not_judged(self) -> None:
         verdict = self.several()

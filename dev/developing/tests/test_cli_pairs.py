@@ -8,7 +8,6 @@ import signal
 import subprocess
 from unittest import mock
 
-from subtitles.cli.single import lock_folder
 from subtitles.common.command_line import counted
 from subtitles.common.program import TOP
 from subtitles.formats.stl import MAX_STL
@@ -77,18 +76,6 @@ class Pairs(Case):
             self.must(f"the part of {name}",
                       (part["judged_file"] is not None) == is_copied
                       and (part["pid"], part["pes"]) == (257, "2-6"), part)
-
-
-class Batches(Case):
-    def test_refuses_a_folder_that_another_batch_writes(self) -> None:
-        self.write("list", f"{STORY} {RECORDING}\n".encode())
-        with lock_folder(self.path("out")):
-            self.must("refused", qc(self, "--batch", "list", "-o", "out") == CompletedCall(2, b"", [
-                "qc: another run of qc is judging a batch into out"]))
-
-    def test_prints_only_json_to_standard_output(self) -> None:
-        process = qc(self, STORY, RECORDING, "--json", "-")
-        self.must("alone", json.loads(process.out)["line"] == process.told[-1] == RELATIVE, process)
 
 
 class PipedRecordings(Case):

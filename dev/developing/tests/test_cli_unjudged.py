@@ -125,9 +125,12 @@ class UnjudgedPairs(Case):
             [begun] = calls.running_pairs.values()
             begun.pair_lock.close()
             self.check(f"{limit}", begun.limit, expected)
-        for size, expected in ((0, 60), (10**9, 160), (2 * 10**12, 3600)):
-            self.check(f"{size} bytes", batch.compute_default_limit({"recording": {"size": size}}),
-                       expected)
+        for sizes, expected in (((0, None), 60), ((1, 9_999_999), 61), ((0, 10**9), 160),
+                                ((0, 2 * 10**12), 3600)):
+            self.check(f"{sizes} bytes", batch.compute_default_limit({
+                name: size and {"size": size}
+                for name, size in zip(("stl", "recording"), sizes)}), expected)
+        self.check("a process that is gone", batch.read_cpu_seconds("0"), 0.0)
 
     def test_lists_the_folder_once_for_all_pairs(self) -> None:
         for name in ("one.7.txt", "two.1.txt"):
@@ -243,13 +246,6 @@ class UnjudgedPairs(Case):
                 self.must(f"{option} {name}", run_qc([*words, option, name]) == 2 and
                           before == self.read(name) and errors.getvalue().endswith(
                               f"{name} is also an input: give another name\n"), errors.getvalue())
-
-    def test_reports_omitted_faults_of_a_csv_file(self) -> None:
-        for count in range(3):
-            known = {**make_result(), "omitted": {**make_result()["omitted"], "faults": count}}
-            with contextlib.redirect_stderr(io.StringIO()) as errors:
-                self.must("itself", collection.load_for_csv(known) == known)
-            self.must(f"{count}", bool(errors.getvalue()) == bool(count), errors.getvalue())
 
     def test_refuses_each_name_of_an_input_as_an_output(self) -> None:
         path = self.write("input", b"")

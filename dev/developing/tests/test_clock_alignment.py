@@ -21,10 +21,7 @@ from subtitles.judging.part import belongs_to_part, find_lost_spans, find_record
 from subtitles.stream.gaps import LossPlace
 from subtitles.stream.packets import Packets, PageChange
 from .bench import Case
-from .judged import judge_files
 from .parts import make_part
-from .transmissions import join_pes_packets, make_delay, write_programme, schedule_pages
-from .test_clock_delays import make_even_times
 from .test_clock_tables import make_sent_packets
 
 TEXT, OTHER_TEXT = ((20, b"text"),), ((20, b"other"),)
@@ -306,31 +303,6 @@ class RepeatedProgrammes(Case):
             "three of the five are in the first airing": (((0, 4, 20), quarter), True),
             "no cue": ((range(40), ()), False),
             "half of six texts are in the first airing": (((0, 4, 20), range(0, 24, 4)), True)})
-
-
-class JudgedPairs(Case):
-    def test_refuses_or_reports_as_unclear_an_early_subtitle(self) -> None:
-        for count, word in ((6, "not judged"), (40, "refused")):
-            stl = write_programme(self, make_even_times(count), name=f"{count}.stl")
-            sends = schedule_pages(self, stl)
-            at = make_even_times(count)[3][0] * TICKS
-            path = self.write("one.pes", join_pes_packets(sorted(make_delay(-2, at, at)(sends))))
-            words = [stl, path, "--every", "25", "--no-complete", "--within", "3"]
-            rows: list[tuple[list[str], str]] = [
-                ([], word), (["--origin", "0"], "refused"), (["--late", "0:1/0:1"], "refused")]
-            for more, expected in rows:
-                item = judge_files(self, *words, *more)
-                self.must(f"{count} {more}", item.word == expected, item.said)
-                self.must(f"{count} {more}: named", expected != "refused" or "subtitle 4" in
-                          item.verdict.sentence and "2 frames early" in item.verdict.sentence,
-                          item.verdict.sentence)
-                self.must(f"{count} {more}: not all", not any(
-                    line.startswith("all subtitles are") for line in item.told), item.told)
-            item = judge_files(self, stl,
-                               self.write("two.pes",
-                                          join_pes_packets(make_delay(2, at, at)(sends))),
-                               *words[2:])
-            self.must(f"{count}: late", item.word == "accepted", item.said)
 
 
 # Ticks added to all PTS: none, or amounts that make the PTS wrap.

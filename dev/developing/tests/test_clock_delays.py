@@ -8,9 +8,9 @@ from developing.stl import make_box_line
 from subtitles.common.times import CLOCK, TICKS, format_frame
 from .bench import Case, get_example_path, read_example_file
 from .judged import JudgedPair, ProgrammeCase, judge_files
-from .streams import H_264, HEVC, MPEG_2, SLICES, make_mpeg_2_picture, add_pictures
+from .streams import H_264, HEVC, MPEG_2, add_pictures
 from .transmissions import (
-    SentPes, write_pipe, make_two_parts, join_pes_packets, make_delay, replace_pts, write_programme,
+    write_pipe, make_two_parts, join_pes_packets, make_delay, replace_pts, write_programme,
     schedule_pages)
 from .test_cli_pairs import TS, qc, split_output_lines
 
@@ -22,34 +22,9 @@ START_OFFSET = 25  # frames between the start of a recording and the first TCI
 FIRST_PTS, START_TIME = (BEGIN - START_OFFSET) * TICKS, format_frame(BEGIN - START_OFFSET)
 
 
-def make_even_times(count: int) -> list[tuple[int, int]]:
-    """Return the start and end frames of `count` subtitles that begin every five seconds."""
-    return [(FIRST_TCI + DISTANCE * at, FIRST_TCI + DISTANCE * at + DURATION)
-            for at in range(count)]
-
-
 class Delays(ProgrammeCase):
-    due, words = make_even_times(20), WORDS
-
-    def test_a_delay_is_refused_only_with_a_clock(self) -> None:
-        clock = "clock", "delay_frames"
-        for by, words in ((250, "250 frames late"), (2, "2 frames late"), (-1, "1 frame early"),
-                          (0, "")):
-            sent = make_delay(by)(self.sent)
-            judged_pair = self.judge(sent)
-            self.must(f"{by}",
-                      (judged_pair.verdict.word, judged_pair.verdict.status) == ("relative", 3)
-                      and judged_pair.parts("origin", "clock") == [(by * TICKS % CLOCK, {
-                          "origin": by * TICKS % CLOCK, "source": "recording",
-                          "delay_frames": None})], judged_pair.said)
-            judged_pair = self.judge(sent, "--origin", "0")
-            reported = [line for line in judged_pair.told if line.startswith("all subtitles")]
-            if by:
-                self.must(f"{by}: the sentence", judged_pair.verdict.sentence.startswith(
-                    f"Refused: all 20 subtitles appeared {words}"), judged_pair.verdict.sentence)
-            self.must(f"{by}: given", (judged_pair.word == "refused") == bool(by) and
-                      reported == [f"all subtitles are {words}"][:bool(by)] and
-                      judged_pair.result["parts"][0][clock[0]][clock[1]] == by, judged_pair.said)
+    due = [(FIRST_TCI + DISTANCE * at, FIRST_TCI + DISTANCE * at + DURATION) for at in range(20)]
+    words = WORDS
 
     def test_does_not_report_a_delay_if_all_received_cues_agree(self) -> None:
         every = self.write("all.pes", b"")
@@ -63,34 +38,6 @@ class Delays(ProgrammeCase):
             "late" in line for line in judged_pair.said if not line.startswith("refused 74 Late"))
                   and
             judged_pair.result["parts"][0]["clock"]["delay_frames"] in (0, None), judged_pair.said)
-
-    def test_reports_from_which_time_subtitles_are_late(self) -> None:
-        line = f"from {format_frame(self.due[10][0])} on, subtitles are "
-        at = self.due[10][0] * TICKS
-        for by, words in ((250, "10.00 s (250 frames) late"), (130, "5.20 s (130 frames) late"),
-                          (100, "4.00 s (100 frames) late"), (1, "0.04 s (1 frame) late")):
-            for origin in (0, 5000)[by < 250:]:
-                sent = [(pts + origin, packets) for pts, packets in make_delay(by, at)(self.sent)]
-                given = ["--origin", "5000"] * (origin > 0)
-                result = self.judge(sent, *given)
-                self.must(f"{by} {origin}", result.word == "refused" and
-                          result.told[0].startswith(line + words), result.said)
-                result = self.judge(sent, *given, "--breaks", "1")
-                self.must(f"{by} {origin}: a break", (
-                    result.word == "accepted" and " in 2 parts; " in result.said[-1]
-                    if by >= 125 else result.word == "not judged" and result.told[0] ==
-                    "no break found, but --breaks is 1"), result.said)
-        feed = write_pipe(self, join_pes_packets(make_delay(1, at)(self.sent)))
-        result = judge_files(self, self.stl, feed, *WORDS, "--origin", "0")
-        self.must("a feed", result.word == "refused" and
-                  result.told[0].startswith(f"{line}0.04 s (1 frame) late"), result.said)
-        both = make_delay(50, at, self.due[15][0] * TICKS - 1)(self.sent)
-        self.must("on time again", self.judge(both).told == [
-            line + "2.00 s (50 frames) late",
-            f"from {format_frame(self.due[15][0])} on, subtitles are on time"])
-        result = judge_files(self, self.stl, write_pipe(self, join_pes_packets(self.sent)), *WORDS,
-                             "--origin", "7200")
-        self.must("a feed that is early", result.told[0] == "all subtitles are 2 frames early")
 
     def test_judges_short_breaks_by_two_calls(self) -> None:
         middle = format_frame(self.due[10][0])
@@ -130,46 +77,6 @@ class Delays(ProgrammeCase):
             self.must(f"{second}: none is said", judged_pair.word == "refused" and
                       ("where the PTS go back" in judged_pair.told[0]) == (second < first),
                       judged_pair.told)
-
-    def test_each_printed_command_prints_the_same_answer(self) -> None:
-        sent = [(pts + 3_000_000_000 * (pts < self.due[10][0] * TICKS), packets)
-                for pts, packets in self.sent]
-        process = qc(self, self.stl, self.write("sent.pes", join_pes_packets(sent)), *WORDS,
-                     "--breaks", "1", "-o", "out")
-        lines = split_output_lines(process)
-        calls = [line[2:] for line in lines if line.startswith("+ ") and " check " in line]
-        self.must("two parts", process.status == 3 and len(calls) == 2, process)
-        for line in calls:
-            again = self.call(["sh", "-c", line])
-            printed = again.out.decode().splitlines()
-            at = lines.index(f"+ {line}") + 1
-            self.must(line, printed == lines[at:at + len(printed)], again)
-
-    def test_reports_errors_of_the_first_and_last_cue(self) -> None:
-        begin, end = (self.due[at][at] for at in (0, -1))
-        around = write_programme(self, [(begin - 1000, begin - 900), *self.due, (end + 3000, end
-                                                                              + 3100)], first=0,
-                                 name="sent.stl")
-        data = schedule_pages(self, around)
-
-        def at(frame: int, by: int) -> SentPes:
-            return sorted(make_delay(by, frame * TICKS, frame * TICKS)(data),
-                          key=lambda item: item[0])
-
-        def of(low: int, high: int) -> SentPes:
-            return [item for item in data if low <= item[0] // TICKS <= high]
-
-        for name, sent, expected in (
-                ("all", data, "accepted"),
-                ("late", at(begin, 8), f"refused 72 Content frame {format_frame(begin)} "),
-                ("early", at(begin, -8), f"refused 72 Content frame {format_frame(begin - 8)} "),
-                ("not erased", at(end, 9), f"refused 72 Content frame {format_frame(end)} "),
-                ("begins late", of(begin + 1, end + 500), "refused 63 Early "),
-                ("begins there", of(begin, end + 500), "accepted "),
-                ("ends there", of(begin - 500, end), "accepted "),
-                ("ends early", of(begin - 500, end - 1), "refused 74 Late ")):
-            result = self.judge(sent, "--origin", "0")
-            self.must(name, result.said[-1].startswith(expected), (expected, result.said))
 
 
 class FirstPictures(Case):
@@ -222,40 +129,6 @@ class FirstPictures(Case):
             (part["clock"]["source"], part["clock"]["origin"])
             for part in judged_pair.result["parts"]] ==
                   [("start", 1000), ("recording", 1000 + 4500 * TICKS)], judged_pair.said)
-
-    def test_is_not_judged_without_usable_pictures(self) -> None:
-        pes = read_example_file("story.pes")
-        half = add_pictures(replace_pts(pes, lambda _, pts: pts + 1800), FIRST_PTS).data
-        for path, words, is_typed in (
-                (self.write("half.ts", half), "half a frame", False),
-                (get_example_path("story.pes"), "has no pictures", True)):
-            result = judge_files(self, STORY, path, "--start", START_TIME)
-            self.must(words, result.word == "not judged" and words in result.told[0] and
-                      ("--origin T" in result.told[-1]) == is_typed and
-                      "--start" not in result.told[-1], result.told)
-        for ticks, way in ((12, "forward"), (-12, "back"), (1799, "forward"), (-1799, "back")):
-            data = add_pictures(replace_pts(pes, lambda _, pts: pts + ticks), FIRST_PTS).data
-            result = self.judge(data, "--start", START_TIME)
-            self.must(f"{ticks}", result.word == "accepted" and any(line.endswith(
-                f"shifted {way} by {abs(ticks)} ticks to agree with the Teletext PTS")
-                for line in result.said), result.said)
-
-    def test_is_not_judged_if_first_pictures_are_lost(self) -> None:
-        ts_packets = add_pictures(read_example_file("story.pes"), FIRST_PTS,
-                                  picture=make_mpeg_2_picture() + SLICES).packets
-        # Each stream has two tables, then three skipped pictures, then a group of 14 pictures. Each
-        # picture has two TS packets.
-        for at, words in ((2 + 2 * 2 + 1, ""), (2 + 2 * 3 + 1, "lost"), (2 + 2 * 10 + 1, "lost"),
-                          (2 + 2 * 16 + 1, "lost"), (2 + 2 * 18 + 1, "")):
-            lost = b"".join(ts_packets[:at] + ts_packets[at + 1:])
-            scrambled = bytes([*ts_packets[at][:3], ts_packets[at][3] | 0x80, *ts_packets[at][4:]])
-            for name, data, line in (
-                    ("lost", lost, "MPEG-2 of PID 0x200 lost 1 TS packet among its first pictures"),
-                    ("scrambled", b"".join([*ts_packets[:at], scrambled, *ts_packets[at + 1:]]),
-                     "MPEG-2 of PID 0x200 is scrambled")):
-                result = self.judge(data, "--start", START_TIME)
-                self.must(f"{at} {name}", result.word == ("not judged" if words else "accepted") and
-                          (line in "".join(result.said)) == bool(words), result.said)
 
     def test_reads_the_tcp_of_the_gsi_block(self) -> None:
         data = add_pictures(read_example_file("story.pes"), FIRST_PTS).data

@@ -1,4 +1,4 @@
-"""Test the messages about the origin, the first picture, and pages of the next programme."""
+"""Test the messages about the origin and the first picture."""
 from __future__ import annotations
 
 import itertools
@@ -6,7 +6,6 @@ import unittest
 from types import SimpleNamespace
 from typing import Any, Sequence
 
-from developing.pes import make_packet
 from subtitles.clock.alignment import EarlyCues
 from subtitles.clock.origin import (
     OriginEstimate, OriginSearch, format_breaks, compare_with_known_origin, format_part,
@@ -18,12 +17,9 @@ from subtitles.clock.stretches import Stretch
 from subtitles.common.times import CLOCK, TICKS
 from subtitles.request.request import ORIGIN_CHOICE, Selection, Unclear
 from subtitles.stream.packets import GapMarker, PacketRun, Packets, PageChange
-from subtitles.stream.receiver import read_national_option
 from subtitles.stream.survey import Survey
-from .judged import ProgrammeCase
 from .streams import HEVC, H_264, MPEG_2
 from .parts import make_example_request
-from .transmissions import SentPes, make_delay, write_programme, schedule_pages
 
 ORIGIN = CLOCK - 5 * TICKS
 
@@ -461,67 +457,3 @@ class FirstPictures(unittest.TestCase):
                 ([*long[:245], *long[246:251]], False, 1),
                 ([(CLOCK - frame + item) % CLOCK for item in (0, frame, 3 * frame)], False, 1)):
             self.assertEqual(count_skipped(pts, is_cut), count, (pts[:5], is_cut))
-
-
-# First TCI, interval between TCIs and duration in frames; number of subtitles.
-BEGIN, DISTANCE, LENGTH, COUNT = 900_000, 60, 40, 6
-OWN_TIMES = [(BEGIN + DISTANCE * at, BEGIN + DISTANCE * at + LENGTH) for at in range(COUNT)]
-LAST_TCO = OWN_TIMES[-1][1]  # last TCO of the programme
-OTHERS = [(LAST_TCO + DISTANCE * at, LAST_TCO + DISTANCE * at + LENGTH) for at in range(COUNT)]
-NEXT_PROGRAMME_LINE = "unknown: the page sent at the last TCO is the next programme's"
-OTHER_HEADER = make_packet(0, 0, [9, 8, 0, 8, 0, 8, 1, 0], b" " * 32)  # header of page 889
-
-
-class LastPages(ProgrammeCase):
-    due = OWN_TIMES
-
-    def send_planned_pages(self, times: list[tuple[int, int]], first: int = 1) -> SentPes:
-        return schedule_pages(self, write_programme(self, times, first=first, name="sent.stl"))
-
-    def test_names_the_page_at_the_last_tco(self) -> None:
-        stays = [*OWN_TIMES[:-1], (OWN_TIMES[-1][0], LAST_TCO + 30)]
-        again = self.send_planned_pages([(LAST_TCO, LAST_TCO + 30)], 1)
-        before = [item for item in self.sent if item[0] < LAST_TCO * TICKS]
-        following = self.send_planned_pages(OTHERS, 50)
-        after = make_delay(30)(following)
-        for name, sent, words in (
-                ("next", before + following, NEXT_PROGRAMME_LINE),
-                ("stays", self.send_planned_pages(stays), "not erased at "),
-                ("stays up to the next", [
-                    item for item in self.send_planned_pages(stays) if item[0] < after[0][0]]
-                 + after, "not erased at "),
-                ("an older one", before + again, "sent after its TCO, at ")):
-            for within in ("0", "1"):
-                result = self.judge(sent, "--within", within)
-                causes = result.lines("cause: ")
-                self.must(f"{name} {within}", result.word == "refused" and len(causes) == 1 and
-                          causes[0].startswith(f"subtitle {COUNT} at ") and words in causes[0],
-                          result.said)
-
-    def test_identifies_rows_of_a_closed_page(self) -> None:
-        for count in (1, COUNT):
-            begins = [begin * TICKS for begin, _ in OWN_TIMES[:count]]
-            sent = [(pts, [packets[0], OTHER_HEADER, *packets[1:]] if len(packets) > 2 and any(
-                begin <= pts < begin + LENGTH * TICKS for begin in begins) else packets)
-                    for pts, packets in self.sent]
-            causes = self.judge(sent).lines("cause: ")
-            self.must(f"{count}", len(causes) == count and all(line.endswith(
-                ": its rows came while page 888 was not open") for line in causes), causes)
-
-    def test_names_a_subtitle_that_stays_until_the_next(self) -> None:
-        write_programme(self, OWN_TIMES, text=b"The same")
-        sent = schedule_pages(self,
-                              write_programme(self,
-                                              [*OWN_TIMES[:2], (OWN_TIMES[2][0], OWN_TIMES[3][1]),
-                                               *OWN_TIMES[4:]],
-                                              text=b"The same", name="sent.stl"))
-        causes = self.judge(sent).lines("cause: ")
-        self.must("its cause", len(causes) == 1 and causes[0].startswith("subtitle 3 at ") and
-                  causes[0].endswith("it stays for 20 frames, until subtitle 4, which has the same "
-                                     "content"),
-                  causes)
-
-    def test_national_option_is_c12_to_c14(self) -> None:
-        for header, option in (([8, 8, 0, 8, 0, 8, 1, 0], 0), ([8, 8, 0, 0, 0, 4, 8, 15], 7),
-                               ([8, 8, 0, 0, 0, 0, 0, 8], 4), ([8, 8, 0, 0, 0, 0, 0, 1], 0)):
-            self.check(f"{header}", read_national_option(bytes(header)), option)

@@ -21,7 +21,6 @@ from subtitles.stream.packets import Packets
 from subtitles.stream.receiver import BLANK_PAGE, Rows, SpanIndex, Timeline
 from .. import DEV
 from .judged import JudgedPair, ProgrammeCase
-from .streams import Shape, find_teletext_places, make_multiplex
 from .transmissions import CLOSING, HEADER, PAGE, SentPes, make_numbered_row
 
 BEGIN = 900_000
@@ -84,31 +83,6 @@ class SenderFaults(ProgrammeCase):
                        ("wrong text", f"wrong text: {words}".removesuffix(": ")))
             text = "has the wrong text" + f" ({words})" * bool(words) + ": expected "
             self.must(f"{name}: sentence", text in judged.sentence, judged.sentence)
-
-    def test_reports_a_header_without_rows(self) -> None:
-        for frame, time in ((10, "10:00:00:10"), (330, "10:00:13:05")):
-            judged = self.judge_pages((frame, ()))
-            self.must(f"{frame}", self.causes(judged) == [(
-                "erased", frame // 100 + 1, f"erased: by a header without rows, at {time}")] and
-                "was erased before its TCO (by a header without rows, at" in
-                judged.verdict.sentence, judged.said)
-        sent = self.sent
-        at = next(number for number, (pts, _) in enumerate(sent) if pts == (BEGIN + 25) * TICKS)
-        pts, packets = sent[at]
-        sent[at:at + 1] = [(pts, packets[:1]), (pts + 2 * TICKS, packets[1:])]
-        judged = self.judge(sent)
-        self.must("rows later", [cause[0] for cause in self.causes(judged)] == ["unknown"] and
-                  "it disappears at 10:00:01:00" in self.causes(judged)[0][2], judged.said)
-
-    def test_names_a_subtitle_whose_transmissions_are_lost(self) -> None:
-        multiplex = make_multiplex(self.pes, Shape(100))
-        for frames, expected in (((200, 225), [("not received", 3)]), ((225,), [])):
-            missing = {find_teletext_places(multiplex, (BEGIN + frame) * TICKS)[0]
-                       for frame in frames}
-            judged = self.judge_stream(item
-                                       for at, item in enumerate(multiplex) if at not in missing)
-            names = [(item["name"], item["subtitle"]["number"]) for item in judged.result["causes"]]
-            self.must(f"{frames}", judged.word == "refused" and names == expected, judged.said)
 
     def test_the_manual_lists_each_cause(self) -> None:
         rows = read(os.path.join(TOP, "docs", "manual", "refusals.md")) or ""

@@ -13,7 +13,7 @@ from developing.pes import get_data_field, make_pes_packet, decode_pts, get_tele
 from subtitles.cli.main import make_parser
 from subtitles.cli.measure import (
     Delays, MeasuredRecording as ExpectedSubtitle, explain_omission, make_profile_lines, measure,
-    propose_pace, propose_repeat_limit)
+    propose_repeat_limit)
 from subtitles.common.program import TOP, read
 from subtitles.common.times import TICKS
 from subtitles.request.lines import read_profile, read_options
@@ -28,7 +28,6 @@ from .results import list_choice_errors
 from .transmissions import (
     ORIGIN, add_pauses, write_pipe, join_pes_packets, packets, write_programme, schedule_pages,
     write_subtitle_file, subtitle_times)
-from .test_judging_reasons import KEEPING_HEADER
 
 TS = get_example_path("story.stl"), get_example_path("recording.ts")
 PES = get_example_path("story.stl"), get_example_path("story.pes")
@@ -235,15 +234,6 @@ FIRST_TCI, DISTANCE, DURATION = 900_000, 100, 60
 LINES = ("Good evening.", "Here", "is the news of today", "Thank you, Anne.", "Yes", "No no no")
 
 
-EARLY_CUES = "# early, which no option accepts: "
-# The delays of in-cues and of out-cues in frames, by subtitle; the printed counts of both; and the
-# proposed options.
-MEASURED_DELAYS: dict[str, tuple[dict[int, int], dict[int, int], tuple[str, str], list[str]]] = {
-    "none": ({}, {}, ("0:11", "0:12"), []),
-    "begins": ({1: 3, 2: 1}, {}, ("0:9, 1:1, 3:1", "0:12"), [
-        "--within 3", "--late 0:9,1:1,3:1/0:12"]),
-    "ends": ({}, {at: 2 for at in range(12)}, ("0:11", "2:12"), ["--within 2", "--late 0:11/2:12"]),
-    "early": ({4: -3}, {5: -1}, ("0:10", "0:11"), [])}
 # The layouts that all subtitles show, and why one is not proposed.
 PROPOSED_LAYOUTS = {
     "before=0B0B08": "all would flash",
@@ -273,13 +263,6 @@ class Profiles(Case):
     def propose_options(self, *args: str) -> list[str]:
         return [line for line in self.profile(*args) if not line.startswith("#")]
 
-    def test_proposes_the_longest_pace_if_all_are_regular(self) -> None:
-        paces = [Pace(REGULAR, 1, 3), Pace(REGULAR, 2, 5), Pace(REGULAR, 1, 4)]
-        self.check_rows(lambda some: propose_pace(some).text, {
-            "three recordings": ((paces,), "--pace 4"), "one recording": ((paces[:1],), "--pace 2"),
-            "no recording": (([],), ""),
-            "one of four has pauses": (([*paces, Pace(PAUSED, 9, 9)],), "")})
-
     def test_proposes_the_longest_distance_of_repeats(self) -> None:
         several = [Repeats(9, 30, 5, 25), Repeats(8, 50, 7, 26), Repeats(3, 40, 9, None)]
         for some in itertools.permutations(several):
@@ -304,41 +287,6 @@ class Profiles(Case):
             "--late 0:3,1:4,2:4/0:12", "--layout after=0A"], result)
         again = judge_files(self, stl, pes, "--origin", "0", "--profile", self.path("profile"))
         self.must("accepted", again.word == "accepted", again.said)
-
-    def write_delayed(self, name: str, begins: dict[int, int], ends: dict[int, int]
-                      ) -> tuple[str, str]:
-        """Write a programme whose in-cues and out-cues have delays in frames, by subtitle."""
-        stl, moved = self.write_stl("one.stl"), []
-        for pts, packets in schedule_pages(self, stl):
-            number, rest = divmod(pts // TICKS - FIRST_TCI, DISTANCE)
-            by = begins.get(number, 0) if rest == 0 else ends.get(number, 0) \
-                if rest == DURATION else 0
-            moved.append((pts + by * TICKS, packets))
-        return stl, self.write(f"{name}.pes",
-                               join_pes_packets(sorted(moved, key=lambda item: item[0])))
-
-    def test_measures_delays_of_begins_and_ends_by_a_given_clock(self) -> None:
-        for name, (begins, ends, counts, proposed) in MEASURED_DELAYS.items():
-            lines = self.profile(*self.write_delayed(name, begins, ends), "--origin", "0")
-            self.must(f"{name}: counts", f"# within, late (frames late:number of cues): in-cues "
-                      f"{counts[0]}; out-cues {counts[1]}" in lines, lines)
-            self.check(f"{name}: proposed", [line for line in lines
-                                             if line.startswith(("--within", "--late"))], proposed)
-            self.check(f"{name}: early", any(line.startswith(EARLY_CUES) for line in lines),
-                       name == "early")
-
-    def test_names_early_cues_which_no_option_accepts(self) -> None:
-        lines = self.profile(*self.write_delayed("early", {4: -3}, {5: -1}), "--origin", "0")
-        early, = [line for line in lines if line.startswith(EARLY_CUES)]
-        for words in ("subtitle 5 (SN 4) at 10:00:16:00 begins 3 frames early; ",
-                      "subtitle 6 (SN 5) at 10:00:20:00 ends 1 frame early"):
-            self.must(words, words in early, early)
-
-    def test_proposes_no_delay_without_a_clock(self) -> None:
-        lines = self.profile(*self.write_delayed("begins", {1: 3, 2: 1}, {}), "--within", "3")
-        self.check("proposed", [line for line in lines if line.startswith(("--within", "--late"))],
-                   [])
-        self.must("reason", any("no clock was given" in line for line in lines), lines)
 
     def test_proposes_a_layout_unless_it_is_implausible(self) -> None:
         stl = self.write_stl("one.stl")
@@ -379,20 +327,6 @@ class Profiles(Case):
         self.must("rests", "# layout: 11 of 12 subtitles as they were sent; after=0A is based on "
                   "12, of which 11 were sent so" in lines, lines)
 
-    def test_proposes_keeping_if_headers_have_no_other_fault(self) -> None:
-        stl = self.write_stl("one.stl")
-        sent = schedule_pages(self, stl)
-        for name, changed, is_proposed in (("erase", None, False), ("keep", KEEPING_HEADER, True)):
-            pes = self.write("one.pes", join_pes_packets([
-                (pts, [changed if changed and at == 0
-                       and (pts // TICKS - FIRST_TCI) % DISTANCE in (25, 50) else item
-                       for at, item in enumerate(packets)]) for pts, packets in sent]))
-            lines = self.profile(stl, pes)
-            count = 24 if changed else 0
-            self.must(name, ("--keeping" in lines) == is_proposed and
-                      f"# keeping: C4 (erase page) is clear in {count} of 59 headers" in lines,
-                      lines)
-
     def test_measures_all_pairs_together(self) -> None:
         paths = []
         for number, every in enumerate((25, 50)):
@@ -431,6 +365,11 @@ class Profiles(Case):
                 result = [line for line in lines if not line.startswith("#")]
                 self.must(f"{changes}", {*result} == expected
                           and len(result) == len(expected), lines)
+        for words, is_known in (((), False), (("--start", "tcp"), True)):
+            lines = [*make_profile_lines([make_example_request("a.stl", "a.ts", *words)],
+                                         [expected_subtitle._replace(delays=[late])])]
+            self.check(f"{words}", ["--within 2" in lines, any(
+                "no clock was given for a.ts" in line for line in lines)], [is_known, not is_known])
 
     def test_refuses_wrong_arguments(self) -> None:
         stl = self.write_stl("one.stl")

@@ -1,8 +1,6 @@
 """Table-driven tests of how qc handles folders, watched pairs, subtitles and pages."""
 from __future__ import annotations
 
-import contextlib
-import io
 import itertools
 import os
 from dataclasses import replace
@@ -70,25 +68,6 @@ class Results(Case):
 
 
 class Folders(Case):
-    def test_pairs_files_by_name_in_any_case(self) -> None:
-        for files, expected in (
-                (["a.stl", "a.ts"], ["a"]), (["a.STL", "A.pes"], ["a"]), (["a.stl"], ["a?"]),
-                (["a.ts"], ["a?"]), (["a.stl", "a.ts", "a.pes"], ["a?"]),
-                (["a.stl", "A.stl", "a.ts", "A.ts"], ["A", "a"]),
-                (["a.stl", "A.stl", "a.ts"], ["A?", "a"]),
-                (["a.stl", "b.ts", "b.stl", "c.ts"], ["a?", "b", "c?"]),
-                (["a.txt", "b.stl", "b.ts"], ["b"]), (["a.stl", "a.x.ts"], ["a?", "a.x?"]),
-                (["a.x.stl", "a.x.ts", "a.y.stl"], ["a.x", "a.y?"])):
-            name = "-".join(files)
-            folder = self.path(name)
-            os.mkdir(folder)
-            for file in files:
-                self.write(f"{name}/{file}", b"")
-            items = find_folder_pairs(folder, make_default_options())
-            result = [item.name + "?" * (item.request is None) for item in items]
-            self.must(name, [element.lower() if expected == ["a"] else element
-                             for element in result] == expected,
-                      result)
 
     def test_pairs_only_regular_files(self) -> None:
         for number, (first, second, is_pair) in enumerate([
@@ -147,24 +126,6 @@ class Folders(Case):
         self.must("from when it was seen", [due(lambda: next(times)) for _ in range(3)] ==
                   [[], [], ["two"]])
         self.must("what was seen", isinstance(watch.seen["one"], FolderState))
-
-    def test_reports_an_incomplete_pair_once(self) -> None:
-        os.mkdir(self.path("in"))
-        watch = FolderWatch(self.path("in"), 0)
-
-        def errors(now: float) -> int:
-            with contextlib.redirect_stderr(io.StringIO()) as errors:
-                with mock.patch("time.monotonic", lambda: now):
-                    watch.find_ready_items(find_folder_pairs(self.path("in"),
-                                                             make_default_options()))
-            return len(errors.getvalue().splitlines())
-
-        self.write("in/one.stl", b"1")
-        self.must("alone", [errors(at) for at in range(4)] == [0, 1, 0, 0])
-        self.write("in/one.ts", b"1")
-        self.must("a pair", [errors(at) for at in range(4, 7)] == [0, 0, 0])
-        os.unlink(self.path("in/one.ts"))
-        self.must("alone once more", [errors(at) for at in range(7, 11)] == [0, 1, 0, 0])
 
 
 def subtitle(index: int, begin: int) -> Subtitle:

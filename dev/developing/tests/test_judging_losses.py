@@ -12,12 +12,12 @@ from unittest import mock
 
 from developing.pes import STUFFING_UNIT, make_pes_packet
 from subtitles.common.times import TICKS
-from subtitles.judging.timing import describe_missing_pcr, describe_unchecked_losses
-from subtitles.stream.pace import IRREGULAR, Pace
+from subtitles.judging.timing import (
+    describe_missing_pcr, describe_pace, describe_unchecked_losses)
+from subtitles.stream.pace import IRREGULAR, PAUSED, Pace, REGULAR, TOO_FEW
 from .stories import StoryCase
 from .streams import Packet, Shape, find_teletext_places, make_multiplex, remove_packets_at
-from .transmissions import (
-    CLOSING, HEADER, SentPes, write_programme, make_numbered_row, schedule_pages)
+from .transmissions import CLOSING, HEADER, SentPes, make_numbered_row, schedule_pages
 from .test_stream_pace import BEGIN, TIMES, fill_missing_frames
 
 WRONG = [HEADER, make_numbered_row(22, b"Wrong"), CLOSING]
@@ -29,10 +29,6 @@ SILENT_FILE = {"verdict": "refused", "line": "refused 79 Silent frame 10:00:12:0
 ANNOUNCED = "between 10:00:11:24 and 10:00:12:01: the interval between PES packets is unusually " \
     "long, and the stream announces a jump of the continuity counter"
 TOO_CLOSE = "not checked: a missing PES packet, at 1 place where PES packets are too close together"
-TOO_FEW = "not checked: missing PES packets, since there are too few PES packets to measure " \
-    "their interval"
-TOO_FEW_IN_STREAM = "not checked: losses of 1.4 s or more on this PID alone, since there are " \
-    "too few PES packets to measure their interval"
 UNNOTICED_JUMP = "not checked: losses on PID 0x101, at 1 place where the stream announces a " \
     "jump of the continuity counter"
 # The lost PES packets of a stream, and the number of TS packets in each.
@@ -90,22 +86,6 @@ class HiddenPages(StoryCase):
         self.check_answers("an additional PES packet", judged, {"pace": "2"})
         self.check("note", [note for note in judged.notes if note == TOO_CLOSE], [TOO_CLOSE])
 
-    def test_notes_a_loss_that_cannot_be_noticed_between_a_repeat_and_a_cue(self) -> None:
-        times = [(BEGIN + 60 * at, BEGIN + 60 * at + 47) for at in range(60)]
-        cues = {edge for both in times for edge in both}
-        sent = [item for item in schedule_pages(self, write_programme(self, times), every=1)
-                if item[0] // TICKS in cues or item[0] // TICKS % 25 == 0]
-        frames = [pts // TICKS for pts, _ in sent]
-        place = next(at for at in range(20, len(frames)) if frames[at] not in cues
-                     and frames[at + 1] - frames[at - 1] <= 25)
-        wrong = [*sent[:place], (sent[place][0], WRONG), *sent[place + 1:]]
-        for name, some, word in (("received", wrong, "refused"),
-                                 ("lost", sent[:place] + sent[place + 1:], "accepted")):
-            judged = self.judge(some, "--every", "25")
-            self.check_answers(name, judged, {"verdict": word, "pace": "25"})
-            self.must(f"{name}: note", any("not checked: a missing " in note
-                                           for note in judged.notes), judged.said)
-
     def test_finds_a_loss_that_an_announced_jump_hides(self) -> None:
         stream = self.make_stream_packets(self.send_wrong_page(), 3)
         self.check_answers("received", self.judge_stream(stream), REFUSED)
@@ -120,35 +100,6 @@ class HiddenPages(StoryCase):
         self.check_answers("one and two thirds of another", judged, {
             "verdict": "refused", "line": "refused 45 Lost pes 300"})
         self.check_answers("two", self.judge_stream(lost(stream, 6, True)), SILENT_STREAM)
-
-    def test_finds_a_loss_before_a_break_that_an_announced_jump_hides(self) -> None:
-        own, later, more = self.send_wrong_page(), (BEGIN + 730) * TICKS, 400 * TICKS
-        sent = [item for item in own if item[0] < later]
-        sent += [(later + at * TICKS, []) for at in range(400)]
-        sent += [(pts + more, packets) for pts, packets in own if pts >= later]
-        stream = self.make_stream_packets(sent, 3)
-        judged = self.judge_stream(lost(stream, 3, True), "--breaks", "1")
-        self.check_answers("before a break", judged, {"verdict": "lost", "losses judged": "True"})
-        self.must("line", ANNOUNCED in judged.told, judged.told)
-
-    def test_notes_that_too_few_pes_packets_reveal_no_loss(self) -> None:
-        sent = [item for at, item in enumerate(self.send_wrong_page()) if at % 12 == 0 or item[1]]
-        sent = [item for item in sent if item[0] // TICKS < BEGIN + 600]
-        self.must("fewer than 101", len(sent) < 101, len(sent))
-        place = [pts // TICKS for pts, _ in sent].index(WRONG_PAGE_FRAME)
-        for name, some, word in (("received", sent, "refused"),
-                                 ("lost", sent[:place] + sent[place + 1:], "accepted")):
-            judged = self.judge(some, "--to", "10:00:18:00")
-            self.check_answers(f"a file, {name}", judged, {"verdict": word, "pace": "None"})
-            self.must(f"a file, {name}: note", TOO_FEW in judged.notes, judged.notes)
-        stream = self.make_stream_packets(sent, 4)
-        for name, packets, word in (
-                ("received", stream, "refused"), ("16 TS packets lost", lost(stream, 16),
-                                                  "accepted"),
-                ("4 TS packets lost, announced", lost(stream, 4, True), "lost")):
-            judged = self.judge_stream(packets, "--to", "10:00:18:00")
-            self.check_answers(f"a stream, {name}", judged, {"verdict": word})
-            self.must(f"a stream, {name}: note", TOO_FEW_IN_STREAM in judged.told, judged.told)
 
     def test_notes_a_possible_loss_at_an_announced_jump(self) -> None:
         sent = self.send_wrong_page(50)
@@ -177,6 +128,21 @@ class HiddenPages(StoryCase):
 
 
 class LossEvidence(unittest.TestCase):
+    def test_describes_what_would_not_be_noticed(self) -> None:
+        for is_stream, pace, words in (
+                (True, Pace(PAUSED, 1701), "losses of 0.6 s or more on this PID alone, since there "
+                 "is no PES packet for up to 1701 frames"),
+                (False, Pace(TOO_FEW), "missing PES packets, since there are too few PES packets "
+                 "to measure their interval"),
+                (True, Pace(REGULAR, 1, 3, 5), "losses of up to 0.08 s on this PID alone, at 5 "
+                 "places where PES packets are too close together"),
+                (True, Pace(REGULAR, 1, 3), "")):
+            recording: Any = SimpleNamespace(is_stream=is_stream, survey=mock.Mock(),
+                                             packets=SimpleNamespace(pid=5))
+            self.assertEqual(describe_unchecked_losses(pace, 15, recording), words)
+        self.assertEqual(describe_pace(Pace(REGULAR, 1, 3, is_dense=True), True), "pace: PES "
+                         "packets are at most 1 frame apart, with several in some frames: --pace 2")
+
     def test_reports_the_shortest_loss_that_would_not_be_noticed(self) -> None:
         recording: Any = SimpleNamespace(is_stream=True, packets=SimpleNamespace(pid=5),
                                          survey=mock.Mock())

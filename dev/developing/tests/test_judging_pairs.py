@@ -1,10 +1,10 @@
 """Test verdicts on pairs with unreadable packets or losses, and the sentences about them."""
 from __future__ import annotations
 
-from developing.pes import DATA, GAP_MARKER, UNIT, decode_pts, encode_pts, reverse_bits
+from developing.pes import DATA, GAP_MARKER, decode_pts
 from subtitles.common.times import TICKS, format_frame
 from .bench import Case, get_example_path, read_example_file
-from .judged import FEW, JudgedPair, ProgrammeCase, judge_files
+from .judged import JudgedPair, ProgrammeCase, judge_files
 from .results import check_schema
 from .stories import StoryCase, read_table
 from .transmissions import (
@@ -15,16 +15,11 @@ STORY, HELLO = get_example_path("story.stl"), get_example_path("hello.stl")
 ACCENT = get_example_path("accent.stl")
 UNREAD = "none of the recording was read, and --severity makes all faults warnings"
 EVERY_OPTION = ["--every", "40"]  # frames; allows the loss of two page transmissions
-BITS = {33: (6, 0xC0), 34: (7, 0x80), 35: (8, 1), 36: (13, 1), 37: (DATA - 1, 0x30),
-        38: (DATA + UNIT + 1, 1), 39: (DATA + UNIT + 3, 1), 40: (DATA + UNIT + 2, 0x0F)}
-NAMES = {33: "Flags", 34: "NoTime", 35: "HeaderLength", 36: "Time", 37: "DataId",
-         38: "UnitLength", 39: "Framing", 40: "LineOrder", 61: "OffFrame", 45: "Lost"}
+BITS = {33: (6, 0xC0), 37: (DATA - 1, 0x30)}
 
 
 def damage_packet(packet: bytes, number: int) -> bytes:
     """Return a PES packet with damage for which `check` reports this fault number."""
-    if number == 61:
-        return packet[:9] + encode_pts(decode_pts(packet) + 90) + packet[14:]
     at, bits = BITS[number]
     return packet[:at] + bytes([packet[at] ^ bits]) + packet[at + 1:]
 
@@ -39,25 +34,6 @@ class UnreadablePackets(ProgrammeCase):
     def judge_with_gaps(self, some: list[bytes], *args: str) -> JudgedPair:
         return judge_files(self, self.stl, self.write("one.pes", b"".join(some)), *EVERY_OPTION,
                            "--origin", str(ORIGIN), *args)
-
-    def test_judges_subtitles_after_unreadable_pes_packets(self) -> None:
-        runs = [(number, 5 * at + 1, 5 * at + 2) for at, number in enumerate([*BITS, 61])]
-        runs += [(33, 48, 48), (34, 49, 49), (45, 55, 56), (45, 60, 60)]
-        some = list(self.pes)
-        for number, first, last in runs:
-            for at in range(first, last + 1):
-                some[at] = GAP_MARKER if number == 45 else damage_packet(some[at], number)
-        judged = self.judge_with_gaps(some)
-        listed = [f"{word} {number} {NAMES[number]} pes {at}" for number, first, last in runs
-                  for word, at in (("refused", first), *[("ended", last)] * (last > first))]
-        self.check("list", [line for line in judged.listed if " pes " in line], listed)
-        self.check("faults", [(fault["number"], fault["pes"], fault["last_pes"])
-                              for fault in judged.result["faults"]
-                              if fault["pes"] is not None and fault["number"] in NAMES],
-                   [(number, first, last if last > first else None)
-                    for number, first, last in runs])
-        self.check("last line", judged.said[-1], "refused 33 Flags pes 1")
-        check_schema(self, judged.result)
 
     def test_all_frames_but_those_around_gap_markers_are_clean(self) -> None:
         some = [*self.pes[:22], GAP_MARKER, *self.pes[24:61], GAP_MARKER, *self.pes[62:]]
@@ -161,13 +137,6 @@ options      | verdict    | frames
 --pes second | accepted   | 6000
 --pes none   | not judged |
 """
-# All PES packets are sent later or earlier; the clock was given.
-DELAYS = """
-sent | delay | line
-+0   | 0     |
-+2   | 2     | all subtitles are 2 frames late
--1   | -1    | all subtitles are 1 frame early
-"""
 
 
 class Sentences(StoryCase):
@@ -187,33 +156,6 @@ class Sentences(StoryCase):
                    ("late", 7, "Number 52"))
         self.check("cause of the fault", fault["cause"],
                    {name: value for name, value in cause.items() if name != "part"})
-
-    def test_names_the_subtitle_whose_text_was_sent(self) -> None:
-        rows: list[tuple[int, list[str]]] = [(5, []), (1, []), (5, ["--from", "00:00:08:00"])]
-        for number, words in rows:
-            judged = self.judge(self.change(f"3 with the text of {number}"), *words)
-            text, name = f"Number {number + 49}", f"{number} {words}"
-            cause, = judged.result["causes"]
-            expected = {
-                "name": "another subtitle's text", "expected_text": "Number 52",
-                "decoded_text": text, "other_number": number + 49, "other_position": number,
-                "line": f"another subtitle's text at its time; received \"{text}\" of subtitle "
-                f"{number} (SN {number + 49})"}
-            self.check(name, {member: cause[member] for member in expected}, expected)
-            self.check(f"{name}: count", judged.result["cause_counts"]["another subtitle's text"],
-                       1)
-            self.must(f"{name}: line", "1 subtitle with a wrong page: 1 another subtitle's text"
-                      in judged.said, judged.said)
-
-    def test_names_no_cause_if_pes_packets_cannot_be_read(self) -> None:
-        broken_at = next(at for at, (pts, _) in enumerate(self.sent)
-                         if pts == ORIGIN + 300 * TICKS)
-        pes = list(self.pes)
-        pes[broken_at] = damage_packet(pes[broken_at], 37)
-        judged = judge_files(self, self.stl, self.write("one.pes", b"".join(pes)), *self.words)
-        self.check("causes", [cause["name"] for cause in judged.result["causes"]], ["unknown"])
-        self.must("line", "some of the PES packets at that time cannot be read"
-                  in "".join(judged.said), judged.said)
 
     def test_judges_no_pages_before_the_beginning_of_the_clock(self) -> None:
         pages = [(ORIGIN - at * TICKS, self.sent[-1][1]) for at in (200, 150, 100, 50)]
@@ -246,52 +188,6 @@ class Sentences(StoryCase):
                           if line.startswith(("try: ", "or: "))]
                 self.check(f"{name}: advice", [line[-2:] for line in advice], [["--pes", "I-J"]])
                 self.check(f"{name}: options of the call", {*words} <= {*advice[0]}, True)
-
-    def test_reports_the_delay_of_all_subtitles(self) -> None:
-        for row in read_table(DELAYS):
-            sent = [(pts + int(row["sent"]) * TICKS, packets) for pts, packets in [
-                (ORIGIN + 300 * TICKS, self.sent[-1][1]), *self.sent]]
-            judged, lines = self.judge(sent), [row["line"]] * bool(row["line"])
-            self.check_answers(row["sent"], judged, {"delay": row["delay"], "source": "given"})
-            self.check(f"{row['sent']}: clock", judged.parts("clock")[0][0]["origin"], ORIGIN)
-            self.check(f"{row['sent']}: lines", [line for line in judged.told
-                                                 if "all subtitles" in line], lines)
-            self.check(f"{row['sent']}: notes", judged.notes[:-1], lines)
-            self.must(f"{row['sent']}: last note", judged.notes[-1].endswith(FEW), judged.notes)
-
-
-class Hints(Case):
-    def check_hint(self, judged: JudgedPair, number: int, words: str, line: str) -> None:
-        """Check the only hint of a pair, and that it is printed before the last line."""
-        self.check("hints", judged.result["hints"], [f"{number}: {words}"])
-        self.check("printed", judged.said[-3::2], [f"{number}: {words}", line])
-
-    def test_names_the_options_that_have_a_character(self) -> None:
-        words = "use --option swedish, italian, french, spanish or czech, which have all the " \
-            "characters in the file"
-        judged = judge_files(self, ACCENT)
-        self.check_hint(judged, 50, words, "refused 50 Character block 1 at 6")
-        self.check("count", [line for line in judged.said if line.endswith(" faults")],
-                   ["1 faults"])
-        self.check("remedy", [fault["remedy"] for fault in judged.result["faults"]], [words])
-        self.must("sentence", any('"Café" (block 1), the national option lacks' in line
-                                  for line in judged.lines("Refused: ")), judged.said)
-
-    def test_names_the_byte_that_the_option_lacks(self) -> None:
-        stl = write_programme(self, subtitle_times(1), text=b"\xa35")
-        result = judge_files(self, stl, "--option", "german").result
-        self.check("hint", result["hints"][0][:28], "50: use --option english or ")
-        self.check("byte", [(fault["text_offset"], fault["byte"]) for fault in result["faults"]],
-                   [(0, "A3")])
-
-    def test_names_the_national_option_of_a_header(self) -> None:
-        data = bytearray(read_example_file("hello.pes"))
-        at = DATA + 4 + 2 + 7  # offset of C11 to C14 in the first header of the file
-        data[at:at + 1] = reverse_bits(b"\xd0")  # Hamming 8/4 code of 8, which selects German
-        judged = judge_files(self, HELLO, self.write("one.pes", data))
-        words = "the header is German, but --option is english"
-        self.check_hint(judged, 67, words, "refused 67 Control frame 10:00:00:00 packet 0")
-        self.check("meaning", judged.result["faults"][0]["meaning"], words)
 
 
 # The options --page, --option and --complete, and the verdict of the pair.

@@ -23,13 +23,11 @@ from subtitles.stream.packets import (
 from subtitles.stream.receiver import BLANK_PAGE, INITIAL_STATE, Rows, SpanIndex, Timeline
 from .bench import Case
 from .judged import JudgedPair, ProgrammeCase, judge_files
-from .streams import (
-    OLD, Shape, TELETEXT_PID, make_stream_with_video, make_planned_stream, make_multiplex,
-    join_packets, delete_between)
+from .streams import OLD, TELETEXT_PID, make_stream_with_video, make_planned_stream
 from .parts import make_answer, make_example_request, decode_packets
 from .transmissions import (
-    CLOSING, HEADER, PAGE, SentPes, write_pipe, join_pes_packets, write_programme,
-    make_numbered_row, schedule_pes, subtitle_times)
+    CLOSING, HEADER, PAGE, SentPes, write_pipe, join_pes_packets, make_numbered_row,
+    subtitle_times)
 
 
 WORDS = "--every", "100"
@@ -58,15 +56,6 @@ PES_HEADERS = {0: "not judged", 5: "not judged", 14: "not judged", 0x23: "not ju
 
 
 class Reasons(ProgrammeCase):
-    def test_reports_headers_that_never_erase(self) -> None:
-        judged = self.judge(change_all_packets(self.sent, 3, 8, 0), *WORDS)
-        words = "C4 (erase page) is clear in 49 of 49 headers"
-        self.check("verdict", judged.word, "refused")
-        self.check("sentence", judged.verdict.sentence.partition(" in all. ")[0],
-                   'Refused: at 00:00:04:00, subtitle 1, "Number 1", may appear over old text on '
-                   f"some receivers: {words}; 49 faults")
-        self.check("hints", judged.result["hints"], [f"67: {words}"])
-        self.check("other reasons", [line for line in judged.said if COMPLETED_LATER in line], [])
 
     def test_reports_why_a_decoded_page_is_refused(self) -> None:
         text = make_numbered_row(20, b"Text")
@@ -187,23 +176,6 @@ class Reasons(ProgrammeCase):
             "while they alternate": ((0, 5), 2), "all": ((0, 11), 2),
             "after the first two": ((2, 11), 0), "after they alternate": ((6, 11), 0)})
         self.check("no mismatch", [*explain_mismatch(sent("11", "12"), PAGE)], [])
-
-    def test_estimates_losses_by_the_pcr(self) -> None:
-        stl = write_programme(self, [(2000 + 25 * at, 2020 + 25 * at) for at in range(40)],
-                              name="long.stl")
-        multiplex = make_multiplex(schedule_pes(self, stl, "--every", "1"), Shape(4000, 1800))
-        for count, lost, words in (
-                (2, 2, "2 TS packets were lost"),
-                (16, 0, "0.64 s of TS packets are missing according to the PCR and the counters of "
-                 "other PIDs"),
-                (50, 2, "2.00 s of TS packets are missing according to the PCR (2 TS packets "
-                 "according to the counter)")):
-            path = self.write("one.ts", join_packets(delete_between(multiplex, 200, count)))
-            judged = judge_files(self, stl, path, "--origin", "0")
-            self.check(f"{count}: lost", [loss["lost_ts_packets"]
-                                          for loss in judged.result["losses"]], [lost])
-            self.must(f"{count}: line", any(line.endswith(f": {words}") for line in judged.told),
-                      judged.told)
 
     def test_merges_a_gap_marker_with_the_pcr_step_of_the_same_loss(self) -> None:
         far = 200_000
@@ -493,12 +465,6 @@ class RepeatsWithKeeping(ProgrammeCase):
             "faults"]} == {CONTENT} and [item["line"] for item in judged_pair.result["causes"]] ==
             [f"not repeated whole: row 22 {OMITTED_BY_REPEAT}"] and
             "(row 22 missing after a header" in judged_pair.verdict.sentence, judged_pair.said)
-
-    def test_refuses_a_changed_subcode_with_keeping(self) -> None:
-        judged_pair = self.judged("subcode", "--keeping")
-        self.must("by it", judged_pair.word == "refused" and judged_pair.result["hints"] == [
-            f"67: {CLEAR}, though the sub-code changes from 0000 to 0001"],
-                  judged_pair.said)
 
     def test_rows_of_the_next_frame_make_the_page_late(self) -> None:
         result = self.judged("", "--keeping", "--no-complete", frames=1)

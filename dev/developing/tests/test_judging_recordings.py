@@ -10,7 +10,7 @@ from developing.pes import make_pes_packet, decode_pts
 from subtitles.common.times import TICKS, format_frame, wrap_pts
 from subtitles.formats.stl import GSI
 from subtitles.results.schema import find_misfit
-from .bench import Case, get_example_path, read_example_file
+from .bench import Case, read_example_file
 from .judged import judge_files
 from .streams import (
     NEW, OLD, TELETEXT_PID, make_stream_with_video, make_stream_of_pids, make_planned_stream,
@@ -23,7 +23,6 @@ from .test_judging_pairs import ACCENT, HELLO, STORY, damage_packet
 
 
 TEXT_AT = 16  # offset of the text field in a TTI block
-STORY_PES = get_example_path("story.pes")
 
 
 class Recordings(Case):
@@ -185,7 +184,8 @@ class Recordings(Case):
             ([other, self.path("own.pes")], "the clock cannot be estimated: ", ["--origin T"]),
             ([STORY, item, "--origin", "900000000"],
              "so the recording contains no subtitle at its expected time", []),
-            ([STORY, self.path("own.pes"), "--start", "tcp"], "--start cannot be used with",
+            ([STORY, self.path("own.pes"), "--start", "tcp"], f"--start cannot be used with "
+             f"{self.path('own.pes')}: a file of Teletext PES packets has no pictures",
              ["--origin T"]),
             ([STORY, STORY], "is a subtitle file", []), ([STORY, "none.ts"], "No such file", []),
             (["none.stl", item], "none.stl does not exist or is not a file", []),
@@ -389,13 +389,3 @@ class Recordings(Case):
         row = page.partition('<tr id="s1-pause"')[2].partition("</tr>")[0]
         self.must("row", f"<td>{time}</td><td>{end}</td>" in row and row.startswith(' class="bad')
                   and 'href="#s1-pause"' in page and "Reasons, worst first</caption>" in page, page)
-
-    def test_a_wrong_text_that_comes_early_is_not_in_the_pause(self) -> None:
-        stl = bytearray(read_example_file("story.stl"))
-        stl[1288], stl[1304] = 3, 0x7A  # subtitle 3 has another letter, and begins 3 frames later
-        result = judge_files(self, self.write("one.stl", stl), STORY_PES, "--origin", "0").result
-        self.check("subtitles", [(row["verdict"], row["reason"], row["delay_in"])
-                                 for row in result["subtitles"]],
-                   [("right", None, 0), ("right", None, 0),
-                    ("wrong", "wrong text: 3 frames early", -3)])
-        self.check("causes", [cause["name"] for cause in result["causes"]], ["wrong text"])

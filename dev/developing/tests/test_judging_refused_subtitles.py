@@ -18,22 +18,19 @@ from subtitles.common.command_line import counted
 from subtitles.formats.stl import NamedSubtitle, Subtitle, SubtitleFile
 from subtitles.formats.teletext import OPTIONS, OPTION_BY_WORD, has_characters
 from subtitles.judging import subtitles
-from subtitles.judging.pair import PairJudge
 from subtitles.judging.subtitles import (
     RefusedSubtitle, SubtitleCounts, ValidSubtitles, draw_valid_pages, find_valid_subtitles,
     has_valid_subtitles)
-from subtitles.request.commands import OutputNames
 from subtitles.results.files import make_row
 from subtitles.stream.receiver import read_national_option
 from .bench import Case, read_example_file
 from .judged import JudgedPair, judge_files
-from .parts import make_answer, parse_single_fault
+from .parts import parse_single_fault
 from .transmissions import (
     ShownSubtitle, join_pes_packets, make_delay, replace_pts, packets, schedule_pages,
     subtitle_times)
 from .test_judging_pairs import UNREAD, damage_packet
 from .test_judging_reasons import KEEPING_HEADER
-from .test_judging_verdicts import make_part_verdict
 
 BAD = b"\xe6: no letter"
 REPLACE_ADVICE = "replace it (it needs other character sets, or packets X/26, which are " \
@@ -191,29 +188,6 @@ class RefusedSubtitles(Case):
                                                                             len(bad)),
                       judged_pair.said)
 
-    def test_lists_refused_and_late_subtitles_in_the_report(self) -> None:
-        slow = self.write("slow.pes",
-                          join_pes_packets(make_delay(5, 3600 * 600, 3600 * 650)(self.sent)))
-        for number, (bad, pes) in enumerate((((3,), self.pes), ((3, 4, 9), slow))):
-            out, stl = self.path(f"out{number}"), self.write_stl(*bad)
-            self.judge(stl, pes, "-o", out)
-            for name in (f"{out}/one.html",):
-                page = self.read(name).decode()
-                tree.fromstring(page.partition("\n")[2])
-                names = re.findall(r' id="([^"]+)"', page)
-                links = set(re.findall(r'href="#([^"]+)"', page))
-                self.must(f"{bad} {name}: names", len(names) == len(set(names)), names)
-                self.must(f"{bad} {name}: links", links <= {*names, "n78"}, links - {*names})
-                rows = dict(re.findall(r'<tr id="s(\d+)" class="([^"]+)"', page))
-                self.must(f"{bad} {name}: all", len(rows) == 10, rows)
-                refused = {int(item) for item, kinds in rows.items() if "n50" in kinds}
-                self.must(f"{bad} {name}: refused", refused == set(bad), rows)
-                moved_rows = {int(item) for item, kinds in rows.items()
-                              if re.search(r"\bc\d", kinds)}
-                self.must(f"{bad} {name}: late", moved_rows == (
-                    {6} if len(bad) > 1 else set()), rows)
-                self.must(f"{bad} {name}: said", "other subtitles were judged: " in page)
-
     def test_draws_the_judged_subtitles_by_a_layout(self) -> None:
         self.blocks = [(begin, end, b"N\xc8umber %d" % number)
                        for number, (begin, end) in enumerate(subtitle_times(14), 1)]
@@ -262,7 +236,7 @@ class RefusedSubtitles(Case):
             judged_pair = judge_files(self, self.write_stl(3), self.pes, *WORDS)
         self.must("a mistake", judged_pair.word == "not judged", judged_pair.said)
 
-    def test_lists_forty_of_many_refused_subtitles(self) -> None:
+    def test_looks_for_each_character_once(self) -> None:
         bad = range(19, 800, 19)
         file = SubtitleFile(self.write("many.stl", make_stl_of_blocks([
             (200 * at, 200 * at + 100, BAD if at in bad else b"Number %d" % at)
@@ -272,21 +246,6 @@ class RefusedSubtitles(Case):
             result = find_valid_subtitles(file, faults, "english")
         self.must("once", len(result.judged) == 758 and request.call_count <= 759 * len(OPTIONS),
                   request.call_count)
-        names, verdict, nothing = OutputNames("many", self.folder,
-                                              None), make_part_verdict([]), mock.Mock()
-        names.set_subtitle_file(self.path("many.stl"))
-        reported = PairJudge(verdict, nothing, names, nothing,
-                             False).find_valid_subtitles(make_answer(
-            [*(fault.line for fault in faults), "refused 60 Empty", "43 faults"],
-            path=self.path("all.txt")))
-        self.must("all are left out",
-                  verdict.valid_subtitles and len(verdict.valid_subtitles.judged) == 758 and
-                  verdict.valid_subtitles.skipped_positions == result.skipped_positions,
-                  verdict.valid_subtitles)
-        self.must("of the file",
-                  (reported.fault_count, reported.fault_numbers,
-                   reported.last_line) == (42, {50}, "42 faults"))
-        self.must("lines", [*result.format_lines()][40:] == ["undecided: 2 more subtitles"])
 
 
 class ExpectedPages(unittest.TestCase):

@@ -3,10 +3,8 @@ from __future__ import annotations
 
 import ctypes
 import itertools
-import json
 import re
 import unittest
-import xml.etree.ElementTree as tree
 from types import SimpleNamespace
 from typing import Any
 
@@ -166,8 +164,6 @@ class Sentences(unittest.TestCase):
 BEGIN = 900_000
 TIMES = [(BEGIN + 50 * at, BEGIN + 50 * at + 40) for at in range(6)]
 KEEPING_HEADER = make_packet(0, 0, [8, 8, 0, 0, 0, 8, 1, 0], b" " * 32)  # header without erase_page
-CONTROL, CONTENT = "67 Control frame 10:00:01:00 packet 0", \
-    "72 Content frame 10:00:04:00 row 22 column 14"
 
 
 def insert_two_faults(sent: SentPes) -> SentPes:
@@ -186,12 +182,8 @@ def get_first_row(packets: list[bytes]) -> bytes:
 class LeadingFaults(ProgrammeCase):
     due = TIMES
 
-    def setUp(self) -> None:
-        super().setUp()
-        self.told = self.judge(insert_two_faults(self.sent), "-o", self.path("out"))
-
     def test_the_result_of_a_pair_leads_with_the_visible_fault(self) -> None:
-        reported = self.told
+        reported = self.judge(insert_two_faults(self.sent), "-o", self.path("out"))
         lead = reported.result["worst_fault"]
         self.must("lead", reported.result["line"].startswith("refused 67 ") and
                   lead.startswith("refused 72 ")
@@ -200,17 +192,6 @@ class LeadingFaults(ProgrammeCase):
         page = self.read("out/one.html").decode()
         self.check("the report's rows", re.findall(r'<tr><td>(Subtitle|67) ', page), [
             "Subtitle", "67"])
-
-    def test_the_table_of_a_batch_leads_with_the_visible_fault(self) -> None:
-        self.write("list", f"{self.path('one.stl')} {self.path('one.pes')} --origin 0\n".encode())
-        process = self.tool("qc", "--batch", self.path("list"), "-o", self.path("many"), "--junit",
-                            self.path("many.xml"), "-p", self.bench.program)
-        known = json.loads(self.read("many/one.json"))
-        place = known["worst_fault"].removeprefix("refused ")
-        self.must("table", process.status == 1 and place in process.out.decode(), process)
-        self.must("page", place in self.read("many/index.html").decode())
-        failures = tree.fromstring(self.read("many.xml")).iter("failure")
-        self.must("junit", [failure.get("message") for failure in failures] == [known["sentence"]])
 
 
 # The frames of the received PES packets, by how much all subtitles are late, the fault and the
@@ -263,12 +244,6 @@ def make_header(c4: int = 8, c5: int = 8, c7: int = 1, c11: int = 8) -> bytes:
     return make_packet(0, 0, [8, 8, 0, c4, 0, c5, c7, c11], b" " * 32)
 
 
-def make_even_parity(letter: bytes, data: bytes) -> bytes:
-    """Give even parity to the last `letter` in a packet, if there is one."""
-    at = bytes(byte & 0x7F for byte in data).rfind(letter, 2) if letter else -1
-    return data if at < 0 else data[:at] + bytes([data[at] ^ 0x80]) + data[at + 1:]
-
-
 # Changed values in the header of a page, and what the sentence says of the page.
 HEADERS = {
     "c5=0": "hides the picture on some receivers: C6 (subtitle) is clear",
@@ -284,15 +259,12 @@ class NamedPlaces(ProgrammeCase):
     due, words = TIMES, ("--origin", "0", "--option", "german")
     shown = 'subtitle 3, "Number 3, \u00d6sl"'
 
-    def judge_with(self, frame: int, header: bytes, even: bytes = b"") -> JudgedPair:
-        """Judge a recording with this header at a frame.
-
-        The last letter `even` in each of its rows has even parity.
-        """
+    def judge_with(self, frame: int, header: bytes) -> JudgedPair:
+        """Judge a recording with this header at a frame."""
         self.stl = write_programme(self, TIMES, text=b"Number %d, \xc8Osl")
         sent = schedule_pages(self, self.stl, *self.words[2:])
-        changed = [(pts, [header, *(make_even_parity(even, item) for item in some[1:])]
-                    if pts == frame * TICKS % CLOCK else some) for pts, some in sent]
+        changed = [(pts, [header, *some[1:]] if pts == frame * TICKS % CLOCK else some)
+                   for pts, some in sent]
         self.must(f"{frame}: changed", changed != sent)
         return self.judge(changed)
 
@@ -306,14 +278,6 @@ class NamedPlaces(ProgrammeCase):
             sentence = self.judge_with(frame, header).sentence
             expected = f"Refused: at {page} {effect}"
             self.check(f"{values} at {frame}", sentence[:len(expected)], expected)
-
-    def test_names_the_character_that_has_even_parity(self) -> None:
-        for letter, words in ((b"\\", 'the character "\u00d6"'), (b"\x0b", "a byte (start box)")):
-            judged = self.judge_with(TIMES[2][0], make_header(), letter)
-            expected = f"Refused: at 10:00:04:00, {words} of {self.shown}, has even parity"
-            self.check(words, judged.sentence[:len(expected)], expected)
-            self.must(f"{words}: a hint", any(line.startswith(f"68: {words}")
-                                              for line in judged.said), judged.said)
 
 
 class EmptyRanges(ProgrammeCase):

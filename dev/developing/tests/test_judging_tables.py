@@ -97,7 +97,7 @@ class PartClocks(unittest.TestCase):
                 SimpleNamespace(kinds={pid: 6, 1: 2, 2: 2}),
                 SimpleNamespace(kinds={pid: 6, 3: 27})])
         with mock.patch.object(desync, "locate_video_departures",
-                               lambda survey, video, several, sent: several):
+                               lambda survey, video, several, *args: several):
             for source, count in ((GIVEN, 2), (RECORDING, 2), (START, 3), (TCP, 3)):
                 found = desync.find_desync(survey, 9, TimedPart(10, 100, Clock(0, source)), 0, 7)
                 self.assertEqual([fault.part for fault in found.faults], [7] * count, source)

@@ -160,14 +160,14 @@ class ReceivedPages(Case):
 
     def test_takes_the_undecided_option_that_can_store_all_pages(self) -> None:
         polish, mosaic = page((22, b"\x0b\x0bkt\x7e\x0a\x0a")), page((22, b"\x0b\x11a"))
-        for name, rows, word in (("both can", [ONE], "english"),
-                                 ("one can", [ONE, polish], "polish"),
-                                 ("none can", [polish, mosaic], "english")):
+        for name, rows, word in (
+                ("both can", [ONE], "english"), ("one can", [ONE, polish], "polish"),
+                ("one can most", [polish, mosaic], "polish"), ("none can", [mosaic], "english")):
             sent, pages = store_pages(choose_header_option(0, []), [
                 ShownPage(at, at + 1, item, "") for at, item in enumerate(rows)])
             self.check(f"{name}: option", (sent.options[0].word, len(sent.options)), (word, 2))
-            self.check(f"{name}: stored", [isinstance(item.stored, str) for item in pages],
-                       [name == "none can"] * len(rows))
+            self.check(f"{name}: stored", [item.is_written for item in pages],
+                       [item != mosaic for item in rows])
 
     def test_lists_pages_whose_characters_no_option_decides(self) -> None:
         pounds, start = page((22, b"\x0b#5")), "the characters of 1 subtitle: C12 to C14 of the " \
@@ -615,3 +615,7 @@ class TwoRecordings(Case):
             call = self.tool("qc", "--reference", "a.ts", *args)
             self.must(name, call.status == status and len(call.told) == 1, call)
         self.check("no reference", self.tool("qc", "a.ts", "b.ts").status, 2)
+        for words, tried in (("--pid 7 --same-start", " --same-start"), ("--pid 7", ""),
+                             ("--page 777 --same-start", " --same-start --page 888")):
+            call = self.tool("qc", "--reference", "a.ts", "b.ts", *words.split())
+            self.must(words, call.told[-1].endswith(f"qc --reference a.ts b.ts{tried}"), call)

@@ -385,28 +385,20 @@ class Overrides(Case):
 
 
 class ProfileVerdicts(Case):
-    def test_the_last_line_names_lenient_profile_options(self) -> None:
-        some = self.write("some", b"--every 250\n")
-        waive = self.write("waive", b"--allow-lost\n--severity levels\n")
-        levels = self.write("levels", b"73 warning\n")
-        relative = self.write("relative", b"--relative\n")
-        accepted = "accepted 226 frames 5 transmissions"
-        waived = "waived: refused 73 Gap frame 20:15:01:00"
-        for words, last in (
-                (["--profile", some], accepted),
-                (["--profile", waive], f"{accepted}; the profile has --allow-lost and --severity"),
-                (["--profile", waive, "--no-allow-lost"],
-                 f"{accepted}; the profile has --severity"),
-                (["--profile", waive, "--severity", levels + "x", "--no-allow-lost"], accepted),
-                (["--profile", waive, "--every", "25"],
-                 f"{waived}; the profile has --allow-lost and --severity"),
-                (["--severity", levels, "--every", "25"], waived),
-                (["--profile", relative], accepted)):
-            self.write("levelsx", b"")
-            judged_pair = judge_files(self, STORY, RECORDING, "--origin", "5000000000", *words)
-            line = judged_pair.said[-1]
-            self.check(f"{words}", line[:line.index("; not checked: ")], last)
-            self.check(f"{words}: result", judged_pair.result["line"], line)
+    def test_names_the_lenient_options_of_the_profile(self) -> None:
+        self.write("some", b"--every 250\n")
+        self.write("waive", b"--allow-lost\n--severity levels\n")
+        self.write("relative", b"--relative\n")
+        for words, expected in (
+                ("--profile some", []), ("--profile waive", ["--allow-lost", "--severity"]),
+                ("--profile waive --no-allow-lost", ["--severity"]),
+                ("--profile waive --severity others --no-allow-lost", []),
+                ("--allow-lost", []), ("--profile relative", ["--relative"]),
+                ("--profile relative --origin 0", [])):
+            request = make_example_request("a.stl", "a.ts", *(
+                self.path(word) if word in ("some", "waive", "relative") else word
+                for word in words.split()))
+            self.check(words, request.waivers, expected)
 
     def test_prints_and_stores_profile_options(self) -> None:
         data = b"--every 25  # each second\n--no-complete\n--layout 'fit,up'\n"

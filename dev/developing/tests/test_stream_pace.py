@@ -350,10 +350,10 @@ def fill_missing_frames(sent: SentPes) -> SentPes:
     return [(pts, known.get(pts, [])) for pts in range(sent[0][0], sent[-1][0] + 1, TICKS)]
 
 
-def send_in_bursts(sent: SentPes, times: Sequence[tuple[int, int]]) -> SentPes:
+def send_in_bursts(sent: SentPes) -> SentPes:
     """Keep only the PES packets that are sent within a second after a cue."""
     return [(pts, packets) for pts, packets in sent if any(
-        edge * TICKS <= pts < (edge + 25) * TICKS for both in times for edge in both)]
+        edge * TICKS <= pts < (edge + 25) * TICKS for both in TIMES for edge in both)]
 
 
 def remove_pid_packets(result: list[Packet], first: int, count: int) -> list[Packet]:
@@ -363,8 +363,8 @@ def remove_pid_packets(result: list[Packet], first: int, count: int) -> list[Pac
     return [item for at, item in enumerate(result) if at not in missing]
 
 
-UNSEEN = "not checked: losses of {} s or more on this PID alone, since "
-IRREGULAR_NOTE = UNSEEN.format("0.6") + "the PES packets come at irregular intervals"
+IRREGULAR_NOTE = "not checked: losses of 0.6 s or more on this PID alone, since the PES packets " \
+    "come at irregular intervals"
 PACE_LINE = "PES packets are at most 1 frame apart, or at least 3 after a loss of 16 TS packets: " \
     "--pace 2"
 
@@ -372,13 +372,8 @@ PACE_LINE = "PES packets are at most 1 frame apart, or at least 3 after a loss o
 class Losses(ProgrammeCase):
     due = TIMES
 
-    def make_stream_packets(self, sent: SentPes, rate: int = 100) -> list[Packet]:
-        return make_multiplex([make_pes_packet(pts, packets) for pts, packets in sent], Shape(rate))
-
-    def send_in_bursts(self, times: Sequence[tuple[int, int]]) -> list[Packet]:
-        return self.make_stream_packets(send_in_bursts(schedule_pages(self,
-                                                                      write_programme(self, times),
-                                                                      every=1), times))
+    def make_stream_packets(self, sent: SentPes) -> list[Packet]:
+        return make_multiplex([make_pes_packet(pts, packets) for pts, packets in sent], Shape(100))
 
     def check_faults(self, name: str, told: JudgedPair, word: str, *lines: str) -> None:
         faults = [line for line in told.listed if line.startswith("refused")]
@@ -412,24 +407,6 @@ class Losses(ProgrammeCase):
                   "Refused: there was no PES packet for 16 frames from 10:00:26:10 on.",
                   judged.verdict.sentence)
 
-    def test_reports_losses_with_two_pes_packets_a_frame(self) -> None:
-        sent = fill_missing_frames(self.sent)
-        none: list[bytes] = []
-        both = [item for pts, packets in sent for item in ((pts, packets), (pts +
-                TICKS // 2, none))]
-        result = self.make_stream_packets(both, 400)
-        note = "not checked: losses of up to 0.08 s on this PID alone, at "
-        for count in (0, 16, 32, 48, 160):
-            judged = self.judge_stream(remove_pid_packets(result, 1320, count), "--within", "1")
-            self.must(f"{count}", judged.word == ("refused" if count else "accepted") and bool(
-                count) == ("refused 79 Silent frame 10:00:26:11" in judged.listed), judged.listed)
-            self.must(f"{count}: said", judged.lines("pace: ") == ["PES packets are at most 1 "
-                      "frame apart, with several in some frames: --pace 2"] and sum(
-                          line.startswith(note) for line in judged.told) == 1, judged.said)
-        without_one = [item for at, item in enumerate(both) if at // 2 not in (510, 610)]
-        judged = self.judge_stream(self.make_stream_packets(without_one, 400), "--within", "1")
-        self.check_faults("frames without", judged, "accepted")
-
     def test_judges_by_the_given_pace(self) -> None:
         multiplex = self.make_stream_packets(fill_missing_frames(self.sent))
         holed_then, silent = remove_pid_packets(multiplex, 660, 16), "79 Silent frame 10:00:26:11"
@@ -449,7 +426,8 @@ class Losses(ProgrammeCase):
                           "79 Silent frame 10:00:26:10")
 
     def test_notes_undetectable_losses_at_an_irregular_pace(self) -> None:
-        multiplex = self.send_in_bursts(TIMES)
+        multiplex = self.make_stream_packets(send_in_bursts(schedule_pages(
+            self, write_programme(self, TIMES), every=1)))
         first = 155
         for cut, count, word in (
                 (remove_pid_packets, 0, "accepted"), (remove_pid_packets, 1, "refused"),
@@ -468,30 +446,3 @@ class Losses(ProgrammeCase):
             self.must(words, judged.word == "accepted" and IRREGULAR_NOTE not in judged.told)
         self.check_faults("given", self.judge_stream(multiplex, "--pace=100"), "refused", *(
             f"79 Silent frame 10:00:{10 * at + 4:02}:24" for at in range(6)))
-
-    def test_reports_lost_page_transmissions_of_an_irregular_stream(self) -> None:
-        result = self.send_in_bursts([(BEGIN + 250 * at, BEGIN + 250 * at + 200)
-                                      for at in range(20)])
-        content = "72 Content frame 10:00:38:00 row 22 column 14"
-        for count, line in ((0, ""), (14, "45 Lost pes 155"), (32, content), (160, content),
-                            (320, content)):
-            for cut in (remove_pid_packets, delete_between):
-                judged = self.judge_stream(cut(result, 155, count))
-                faults = [item for item in judged.listed if item.startswith("refused")]
-                self.must(f"{cut.__name__} {count}", faults[:1] == [f"refused {line}"] * bool(line)
-                          and judged.word == ("refused" if line else "accepted") and
-                          IRREGULAR_NOTE in judged.told, judged.listed)
-                self.must(f"{cut.__name__} {count}: gap", (count >= 160) == (
-                    "refused 73 Gap frame 10:00:40:04" in judged.listed), judged.listed)
-
-    def test_notes_that_no_pace_exists_for_a_pausing_inserter(self) -> None:
-        for count, note in ((4, UNSEEN.format("0.6") + "there is no PES packet for up to 1701 "
-                             "frames"),
-                            (6, IRREGULAR_NOTE)):
-            times = [(BEGIN + 2000 * at, BEGIN + 2000 * at + 200) for at in range(count)]
-            sent = fill_missing_frames(schedule_pages(self, write_programme(self, times), every=25))
-            sent = [item for item in sent if (item[0] // TICKS - BEGIN) % 2000 < 300]
-            judged = self.judge_stream(self.make_stream_packets(sent, 25), "--every", "1800")
-            self.check_faults(f"{count}", judged, "accepted")
-            self.must(f"{count}: said", note in judged.told and judged.parts("pace") == [(None,)],
-                      judged.said)

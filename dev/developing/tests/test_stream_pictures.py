@@ -48,9 +48,12 @@ def make_video_leads(leads: Sequence[float], steps: Mapping[int, float] = {}, fi
 
 
 class PictureDepartures(Case):
-    def measure_step_ticks(self, leads: Sequence[VideoLead]) -> list[int | None] | None:
-        """Return the size of each jump in ticks, or `None` if the intervals are irregular."""
-        departures = locate_departures(leads)
+    def measure_step_ticks(self, leads: Sequence[VideoLead],
+                           ahead: Sequence[int] = (9, 9)) -> list[int | None] | None:
+        """Return the size of each jump in ticks, or `None` if the intervals are irregular. The PTS
+        are `ahead` of the PCR by these frames, at first and from the 40th lead on."""
+        departures = locate_departures(leads, (), [
+            (lead.pts, TICKS * ahead[at >= 40]) for at, lead in enumerate(leads) if ahead])
         return None if departures is None else [departure.ticks for departure in departures]
 
     def test_finds_steps_of_the_pictures_against_the_teletext(self) -> None:
@@ -84,8 +87,11 @@ class PictureDepartures(Case):
                 make_video_leads([6.0] * 40 + [6.0 - 50] * 40, {40: 50 + lost})), [50 * TICKS])
         self.check("none lost, but few leads that vary", self.measure_step_ticks(
             make_video_leads([6.0, 7, 6, 7, 6] * 8 + [8.0] * 2, {40: -1})), [-TICKS])
-        self.check("50 lost alone",
-                   self.measure_step_ticks(make_video_leads([6.0] * 80, {40: 50})), [])
+        for lost, ahead, expected in (
+                (50, (9, 9), []), (50, (9, 11), [None]), (50, (), [None]), (25, (), [None]),
+                (24, (9, 11), []), (24, (), [])):
+            self.check(f"{lost} lost alone, {ahead}", self.measure_step_ticks(
+                make_video_leads([6.0] * 80, {40: lost}), ahead), expected)
 
     def test_finds_a_steady_change(self) -> None:
         grows = make_video_leads([6 + 0.02 * at for at in range(100)])
@@ -237,6 +243,16 @@ class DepartureFaults(Case):
             self.check(f"back at {behind}", [item.ticks for item in find_departures(
                 pair, TimedPart(1000, 2000, Clock(0, GIVEN)))], both)
 
+    def test_expects_pictures_up_to_the_last_teletext(self) -> None:
+        for last, expected in ((2484, []), (2485, ["00:01:38:24"])):
+            lines = [*make_lead_survey_lines([]), f"steps {VIDEO} 3600 501 3600 501",
+                     f"steps {VIDEO} -3600 2480 3600 2476",
+                     f"end {PID} 9 0 9 0 0 0 {TICKS * last}"]
+            desync = find_desync(survey_extra_lines(lines), PID,
+                                 TimedPart(1000, 2490, Clock(0, GIVEN)), 0, 1, (),
+                                 [TICKS * 2480])
+            self.check(str(last), [fault.time for fault in desync.faults], expected)
+
     def test_notes_a_missing_usual_step(self) -> None:
         chance = random.Random(1)
         steps = [(chance.randrange(-9, 9), frame) for frame in range(500, 2500, SECOND)]
@@ -281,6 +297,22 @@ class Pairs(Case):
                     f"from {format_frame(places[0])} {last}, subtitles are {count} "
                     f"{'early' if frames > 0 else 'late'} for viewers: the video's timestamps jump"
                     in item for item in judged_pair.said), judged_pair.said)
+
+
+    def test_refuses_a_jump_of_video_and_pcr_just_before_the_end(self) -> None:
+        times = subtitle_times(5)
+        stl = write_programme(self, times)
+        pes = schedule_pes(self, stl, "--every", "1")
+        begin, tco = decode_pts(pes[0]) // TICKS - 25, times[-1][1]
+        for is_late, word in ((True, "refused"), (False, "accepted")):
+            programme = Programme({TELETEXT_PID: pes}, TICKS * begin, is_pcr_late=is_late,
+                                  later=[(tco - 5 - begin, 4 * TICKS)])
+            path = self.write("one.ts", multiplex_programmes([programme], tco + 3 - begin).data)
+            judged_pair = judge_files(self, stl, path, "--origin", "0")
+            self.check(f"{is_late}", judged_pair.word, word)
+            self.check(f"{is_late}, places", [fault.time for fault in
+                                              judged_pair.verdict.named_faults],
+                       [format_frame(tco - 5)] * is_late)
 
 
 class AnnouncedJumps(Case):

@@ -5,8 +5,9 @@ import itertools
 
 from subtitles.common.times import CLOCK, TICKS, subtract_pts
 from subtitles.judging.desync import has_own_clock
+from subtitles.stream.packets import PCRStep
 from subtitles.stream.pictures import (
-    Departure, VideoLead, have_moved, locate_departures, separate_clock_jumps)
+    Departure, VideoLead, have_moved, locate_departures, mark_pcr_jumps, separate_clock_jumps)
 from subtitles.stream.steps import (
     ALIKE_TICKS, MAX_REORDER_TICKS, StepRange, UnusualStep, find_unusual_steps, measure_reordering)
 from .bench import Case
@@ -160,13 +161,18 @@ class Steps(Case):
         rows: dict[str, tuple[list[Departure], list[int], list[int], bool]] = {
             "each frame": (single, each, [], True), "each frame, a pair": (pair, each, [], True),
             "both jump": (single, both, [], False),
-            "each 25th frame": (single, each[::25], [], False),
+            "each 25th frame": (single, each[::25], [], True),
+            "each 25th frame, both jump": (single, both[::25], [], False),
+            "each 10th frame, both jump": (single, both[::10], [], False),
+            "at irregular frames": (single, [TICKS * at for at in (90, 99, 117, 130)], [], False),
             "none": (single, [], [], False),
             "a change behind": (single, [], [TICKS * 150], True),
             "a change before": (single, [], [TICKS * 50], False),
             "a change within": (pair, [], [TICKS * 110], True),
             "a change behind a pair": (pair, [], [TICKS * 120], False),
             "half a frame": (by_half, each[::25], [], True),
+            "half a frame, each half frame": (
+                by_half, [TICKS * at // 2 for at in range(160, 240)], [], True),
             "both by half a frame, Teletext later": (
                 departures(100, ticks=TICKS // 2),
                 [pts + TICKS // 2 * (pts > TICKS * 100) for pts in each[::25]], [], False),
@@ -174,6 +180,33 @@ class Steps(Case):
             "half a frame, none": (by_half, [], [TICKS * 150], False)}
         for name, (several, sent, changes, expected) in rows.items():
             self.check(name, has_own_clock(several, sent, changes), expected)
+
+    def test_a_step_of_the_pcr_shows_a_jump(self) -> None:
+        times = make_times({490: 5 * TICKS})
+        leads, unusual, _ = survey_times(times)
+        sent = (490 * TICKS + CLOCK - 93 * TICKS) % CLOCK  # Teletext at the step
+        rows: dict[str, tuple[PCRStep, bool]] = {
+            # PTS before and after a PCR step of six frames, usually one frame
+            "the PCR jumps": (PCRStep(sent, sent + 2 * TICKS, 6 * TICKS, 8, TICKS, 8, "whole"),
+                              True),
+            "a loss": (PCRStep(sent, sent + 2 * TICKS, 6 * TICKS, 8, TICKS, 8, "broken"), False),
+            "packets for six frames": (
+                PCRStep(sent, sent + 2 * TICKS, 6 * TICKS, 48, TICKS, 8, "whole"), False),
+            "the Teletext jumps too": (
+                PCRStep(sent, sent + 7 * TICKS, 6 * TICKS, 8, TICKS, 8, "whole"), False),
+            "by ten frames": (PCRStep(sent, sent + 2 * TICKS, 11 * TICKS, 8, TICKS, 8, "whole"),
+                              False),
+            "a second before": (
+                PCRStep(sent - SECOND, sent - SECOND, 6 * TICKS, 8, TICKS, 8, "whole"), False),
+            "no Teletext after it": (PCRStep(sent, None, 6 * TICKS, 8, TICKS, 8, "whole"), False)}
+        for name, (item, expected) in rows.items():
+            marked = mark_pcr_jumps(unusual, leads, [item])
+            self.check(name, [step.has_pcr for step in marked], [expected])
+            self.check(f"{name}, found", self.locate(leads[:-1], marked)[0][1],
+                       5 * TICKS if expected else None)
+        back = PCRStep(sent, sent, -TICKS // 2, 4, TICKS, 8, "whole")  # half a frame would be usual
+        self.check("back by a frame", [step.has_pcr for step in mark_pcr_jumps(
+            [unusual[0]._replace(ticks=-TICKS)], leads, [back])], [True])
 
     def test_several_steps_may_be_usual(self) -> None:
         for name, steps in {"25, then 50": [3600] * 200 + [1800] * 200,

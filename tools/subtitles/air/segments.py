@@ -126,6 +126,8 @@ def find_clock_jump(folder: str, names: Sequence[TimedName], begin: float) -> st
             continue
         earlier, later = ([time for segment in part for time in read_feed_times(segment)] for part
                           in (segments[:number][-TDT_SEGMENTS:], segments[number:][:TDT_SEGMENTS]))
+        # If a recording that is sent has an old TDT, the TDT jumps when the recording ends.
+        earlier = [(time, clock) for time, clock in earlier if clock - time < DAY]
         if earlier and later:
             seconds, clock_seconds = (new - old for new, old in zip(later[-1], earlier[-1]))
             step = clock_seconds - seconds
@@ -136,13 +138,11 @@ def find_clock_jump(folder: str, names: Sequence[TimedName], begin: float) -> st
 
 @functools.lru_cache(maxsize=1_000)
 def read_feed_times(segment: Segment) -> list[tuple[float, float]]:
-    """Return each time in the feed (TDT), and the time of the clock when it was recorded. Ignore
-    times that differ by a day, since they belong to an old recording that is sent."""
-    times, duration = list[tuple[float, float]](), segment.end - segment.begin
+    """Return each time in the feed (TDT), and the time of the clock when it was recorded."""
     with contextlib.suppress(OSError, Stop):  # the segment was deleted
-        times = [(time, segment.begin + duration * place / segment.size)
-                 for place, time in find_times(segment.path)]
-    return [(time, clock) for time, clock in times if abs(time - clock) < DAY]
+        return [(time, segment.begin + (segment.end - segment.begin) * place / segment.size)
+                for place, time in find_times(segment.path)]
+    return []
 
 
 class UnbrokenRun(NamedTuple):

@@ -47,7 +47,8 @@ def judge_reference(args: argparse.Namespace, program_name: str) -> int:
     """Judge a recording by another recording. Return the exit status."""
     if args.is_same_start:
         args.start = args.reference_start = SAME_START
-    name, reference = make_safe_name(args.stl), make_safe_name(args.reference)
+    args.stl, args.reference = make_safe_name(args.stl), make_safe_name(args.reference)
+    name, reference = args.stl, args.reference
     if STANDARD in (name, reference):
         raise UsageError("--reference needs two files: standard input can be read only once")
     if sum_file(name, name).sha256 == sum_file(reference, reference).sha256:
@@ -75,6 +76,9 @@ def make_recording(args: argparse.Namespace, name: str, paths: CommandPaths, nam
     """Return a recording with the request to judge it, or to read it as the reference."""
     request = make_file_request(names.make_display_path("stl"), name, args)
     request.kept_stl = names.make_temporary_path("stl")
+    clock = ["--same-start"] if args.is_same_start else [
+        "--start", args.start, "--reference-start", args.reference_start] if args.start else []
+    request.reference_call = ["--reference", args.reference, args.stl, *clock]
     return Recording(request, paths, names, listener)
 
 

@@ -8,11 +8,13 @@ from ..clock.start import START, TCP, TimedPart
 from ..common.command_line import counted
 from ..common.times import TICKS, format_frame, pts_of, subtract_pts, subtract_pts_within, wrap_pts
 from ..formats.listing import NamedFault, PICTURES_LEFT
+from ..stream.packets import Packets
 from ..stream.pictures import (
-    Departure, VideoLead, locate_changes_of_video, locate_departures, separate_clock_jumps)
+    Departure, VideoLead, locate_changes_of_video, locate_departures, mark_pcr_jumps,
+    separate_clock_jumps)
 from ..stream.steps import (
-    ALIKE_TICKS, are_in_order, count_pictures, find_unusual_steps, measure_reordering)
-from ..stream.survey import Survey
+    ALIKE_TICKS, are_in_order, find_unusual_steps, measure_reordering)
+from ..stream.survey import Survey, Video
 from .unchecked import Unchecked, find_unchecked, make_irregular_video, make_unclear_places
 
 
@@ -41,16 +43,21 @@ def find_desync(survey: Survey, pid: int, alignment: TimedPart, within: int, num
     by_video = {video: leads for (own, video), leads in survey.leads.items()
                 if own == pid and video in kinds}
     several = [*by_video.values()]
-    all_sent = [*survey.get_packets(str(pid)).pts()] or sent
+    packets = survey.get_packets(str(pid))
+    all_sent = [*packets.pts()] or sent
     faults, notes, unclear = list[NamedFault](), list[str](), list[Departure]()
     unchecked = [*find_unchecked(survey, pid, by_video, alignment, sent, number)] if sent else []
     for video, leads in by_video.items():
         departure_places = locate_video_departures(
-            survey, video, leads, lambda several: has_own_clock(several, all_sent, changes))
+            survey, video, leads, packets,
+            lambda several: has_own_clock(several, all_sent, changes))
         inside = find_departures(departure_places or [], alignment)
-        departed = [departure for departure in inside if departure.ticks]
-        faults += make_desync_faults(departed, alignment, within, number)
-        notes += make_delay_notes(departed, alignment, within)
+        for span in find_desync_spans([item for item in inside if item.ticks], alignment):
+            if -TICKS * within <= span.ticks < 0:
+                notes.append(f"{span.describe()}, as --within {within} allows")
+            else:
+                faults.append(NamedFault(PICTURES_LEFT, span.describe(), format_frame(span.first),
+                                         format_frame(span.end - 1), part=number))
         unclear += [departure for departure in inside if not departure.ticks]
         if departure_places is None:
             unchecked.append(make_irregular_video(number))
@@ -60,37 +67,37 @@ def find_desync(survey: Survey, pid: int, alignment: TimedPart, within: int, num
 
 
 def locate_video_departures(survey: Survey, video: int, leads: Sequence[VideoLead],
+                            packets: Packets,
                             has_own_clock: Callable[[Sequence[Departure]], bool]) \
         -> list[Departure] | None:
     """Return the places where the delay between a video PID and Teletext changes or may change.
     Return `None` if most decoding times are irregular."""
     ranges = survey.steps.get(video, [])
-    count = count_pictures(ranges, leads[-1].number)
+    # Pictures usually go on until the last Teletext PTS, at most a second after the last lead.
+    rest = min(subtract_pts(leads[-1].pts, packets.last_pts or leads[-1].pts) // TICKS, 25)
+    count = max([leads[-1].number + max(rest, 0),
+                 *(max(item.least_at, item.most_at) for item in ranges)])
     if not are_in_order(ranges, count):
         return None
-    jumps = separate_clock_jumps(leads, find_unusual_steps(ranges, count), count, has_own_clock)
-    places = locate_departures(jumps.leads, jumps.steps)
-    margin = find_reordering(survey, video, leads[0])
+    unusual = mark_pcr_jumps(find_unusual_steps(ranges, count), leads, packets.pcr_steps)
+    jumps = separate_clock_jumps(leads, unusual, count, has_own_clock)
+    places = locate_departures(jumps.leads, jumps.steps, packets.samples)
+    group = survey.videos.get(video) or Video()
+    margin = measure_reordering(group.pictures, group.skipped, ranges,
+                                wrap_pts(leads[0].pts - leads[0].ticks), leads[0].number)
     return None if places is None else sorted(
         (item._replace(margin=min(item.margin, margin)) for item in [*jumps.departures, *places]),
         key=lambda departure: subtract_pts(leads[0].pts, departure.pts))
-
-
-def find_reordering(survey: Survey, video: int, lead: VideoLead) -> int:
-    """Return the greatest time from decoding a picture to showing it, in ticks."""
-    group = survey.videos.get(video)
-    return measure_reordering(group.pictures if group else [], group.skipped if group else 0,
-                              survey.steps.get(video, []), wrap_pts(lead.pts - lead.ticks),
-                              lead.number)
 
 
 def has_own_clock(several: Sequence[Departure], sent: Sequence[int],
                   changes: Sequence[int]) -> bool:
     """Return whether the Teletext clock does not jump where pictures leave, and may come back.
 
-    If pictures leave by a frame or more, it is sure if a subtitle changes at its expected time
-    after the jump, or if the PTS never go back and are closer together than the jump is long. If
-    they do not leave by whole frames, it is sure if no PTS is a fraction of a frame off.
+    It is sure if the PTS are regular. If pictures leave by a frame or more, it is also sure if a
+    subtitle changes at its expected time after the jump, or if the PTS never go back and are closer
+    together than the jump is long. If they do not leave by whole frames, it is sure if no PTS is a
+    fraction of a frame off.
     """
     begin, ticks = several[0].pts, several[0].ticks or 0
     length = subtract_pts(begin, several[1].pts) if len(several) > 1 else None
@@ -101,11 +108,14 @@ def has_own_clock(several: Sequence[Departure], sent: Sequence[int],
     later = [subtract_pts(begin, pts) for pts in changes] if abs(ticks) >= TICKS else []
     if any(time >= 0 and (length is None or time < length) for time in later):
         return True
+    steps = [*map(subtract_pts, near, near[1:])]
+    if len(within) >= MIN_WITHIN and max(steps) - min(steps) < ALIKE_TICKS // 2:
+        return True
     if measure_fraction(ticks) >= ALIKE_TICKS:
         return bool(within) and all(
             measure_fraction(subtract_pts(near[0], pts)) < ALIKE_TICKS // 2 for pts in near)
-    steps = [step for step in map(subtract_pts, near, near[1:]) if step]
-    return len(within) >= MIN_WITHIN and min(steps) >= 0 and statistics.median(steps) < abs(ticks)
+    return len(within) >= MIN_WITHIN and min(steps) >= 0 and statistics.median(
+        filter(None, steps)) < abs(ticks)
 
 
 def measure_fraction(ticks: int) -> int:
@@ -172,26 +182,3 @@ def find_desync_spans(several: Sequence[Departure], alignment: TimedPart) -> Ite
         total += departure.ticks or 0
         if abs(total) * 2 >= TICKS and frame < end:
             yield Desync(frame, end, total, end < alignment.end)
-
-
-def is_allowed_delay(ticks: int, within: int) -> bool:
-    """Return whether subtitles are late by at most `within` frames. `ticks` is negative if they are
-    late."""
-    return -TICKS * within <= ticks < 0
-
-
-def make_desync_faults(several: Sequence[Departure], alignment: TimedPart, within: int,
-                       number: int) \
-        -> list[NamedFault]:
-    """Return faults for subtitles that are early, or later than allowed."""
-    return [NamedFault(PICTURES_LEFT, desync_span.describe(), format_frame(desync_span.first),
-                       format_frame(desync_span.end - 1), part=number)
-            for desync_span in find_desync_spans(several, alignment)
-            if not is_allowed_delay(desync_span.ticks, within)]
-
-
-def make_delay_notes(several: Sequence[Departure], alignment: TimedPart, within: int) -> list[str]:
-    """Return notes about subtitles whose delay is within the limit of --within."""
-    return [f"{desync_span.describe()}, as --within {within} allows"
-            for desync_span in find_desync_spans(several, alignment)
-            if is_allowed_delay(desync_span.ticks, within)]

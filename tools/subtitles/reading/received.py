@@ -68,12 +68,10 @@ class Reading(NamedTuple):
 
     @property
     def first(self) -> int:
-        """Return the first frame."""
         return self.timeline.frames[0]
 
     @property
     def last(self) -> int:
-        """Return the last frame."""
         return self.timeline.last
 
     def format_text(self, page: ShownPage) -> str:
@@ -252,15 +250,16 @@ def read_pages(packets: Packets, request: Request, clock: Clock | None,
 
 
 def store_pages(sent: SentOption, pages: Sequence[ShownPage]) -> tuple[SentOption, list[ShownPage]]:
-    """Store the pages by the first national option that can store all of them, or by the first one
-    if none can. Return the options, beginning with this one, and the pages."""
-    found: list[list[ShownPage]] = []
+    """Store the pages by the first of the national options that can store the most of them. Return
+    the options, beginning with this one, and the pages."""
+    stored: dict[NationalOption, list[ShownPage]] = {}
     for option in sent.options:
-        found.append([page._replace(stored=store_page(page.rows, option)) for page in pages])
-        if not any(isinstance(page.stored, str) for page in found[-1]):
-            others = [other for other in sent.options if other != option]
-            return sent._replace(options=[option, *others]), found[-1]
-    return sent, found[0]
+        stored[option] = [page._replace(stored=store_page(page.rows, option)) for page in pages]
+        if all(page.is_written for page in stored[option]):
+            break
+    best = max(stored, key=lambda option: sum(page.is_written for page in stored[option]))
+    options = [best, *(option for option in sent.options if option != best)]
+    return sent._replace(options=options), stored[best]
 
 
 def find_beginning(packets: Packets, pes: Range, inside: Range | None, origin: int) \

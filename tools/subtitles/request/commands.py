@@ -223,7 +223,16 @@ def make_command(request: Request, command_paths: CommandPaths, *more: str) -> s
                  request.recording or "--file-only"]
     options = list_arguments(request)
     replaced_options = {"--origin": ["--origin", "--start"]}.get(more[0], [more[0]]) if more else []
-    if request.is_reading:
+    if request.reference_call and (more[0] != "--pes" or not request.is_reading):
+        arguments[1:] = request.reference_call
+        replaced_options += ["--start", "--option"]
+        if more[0] == "--pid" and request.pid is not None:
+            more = ()  # no PID of --pid is right for both recordings
+        elif more[0] in ("--origin", "--pes"):
+            times = ("--start", "TIME", "--reference-start", "TIME")
+            arguments[4:] = () if request.start else times
+            more = ()
+    elif request.is_reading:
         arguments = [command_paths.get_tool_command("read"), str(request.recording),
                      *["--page", request.page_name] * ("--page" not in more)]
         replaced_options = [*replaced_options, "--page"]

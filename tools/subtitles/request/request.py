@@ -336,6 +336,7 @@ class Request:
     moved_stl: str | None = None  # path of the copy with moved times, if it runs over midnight
     language: str | None = None  # language code by which `option` was chosen, if any
     is_reading: bool = False  # whether `stl` is read from the recording
+    reference_call: Sequence[str] = ()  # arguments of `qc --reference`, if it reads the recording
 
     @property
     def stl_path(self) -> str:

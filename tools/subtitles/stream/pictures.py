@@ -8,6 +8,7 @@ import statistics
 from typing import Callable, Iterable, Mapping, NamedTuple, Sequence
 
 from ..common.times import CLOCK, TICKS, subtract_pts, wrap_pts
+from .packets import PCRStep
 from .steps import (
     ALIKE_TICKS, MAX_REORDER_TICKS, MIN_PICTURES, UnusualStep, find_clock_steps, may_keep_delay)
 
@@ -18,20 +19,25 @@ from .steps import (
 # drift: viewers see later subtitles early or late. If the lead stays the same, pictures were lost,
 # or both clocks were reset. If the lead changes without a step, the multiplexer changes its delay.
 #
-# A step that lost pictures do not explain is enough, if the Teletext PTS do not jump too (see
-# steps.py). So is the only step, or pair of steps away and back, that they may explain, if a few
-# leads show that the pictures moved: these leads are usual only if they are moved back by the step.
-# The other leads are compared without these steps.
+# A step that lost pictures do not explain, by its size or since the PCR makes it too, is enough if
+# the Teletext PTS do not jump (see steps.py). So is the only step, or pair of steps away and back,
+# that they may explain, if a few leads show that the pictures moved: these leads are usual only if
+# they are moved back by the step. The other leads are compared without these steps.
 #
 # Leads vary, because a multiplexer sends Teletext before or after a picture. So the mean leads
 # before and after a step are compared, with their standard error. Where steps are close together,
 # the leads between them show too little of how leads vary: those beyond the next steps count too.
-# If there are enough leads, their extremes are compared too.
+# If there are enough leads, their extremes are compared too. If many pictures are lost, leads may
+# stay the same by chance, since they come from other places of the groups of pictures than before:
+# then Teletext must keep its distance from the PCR too.
 
 SAMPLE_SIZE = 30  # number of leads to compare on each side of a step
+SAMPLE_TICKS = 2_700_000  # the time for which PTS are compared with the PCR, before and after
 MIN_LEADS = 20  # minimum number of leads on each side of a step to compare their extremes
 SIGNIFICANT_ERRORS = 2.5  # number of standard errors that a difference of means must exceed
 MIN_RATIO = 15  # how much more likely leads must be if pictures moved than if they did not
+LONG_LOSS = 90_000  # ticks of lost pictures from which on the PCR must agree
+NEAR_PCR_TICKS = 90_000  # the longest time from a step of the video to the same step of the PCR
 NEAR_SIZE = 5  # number of leads next to a step that must not show another delay than those before
 # A lead that changes steadily may mean that two clocks drift apart. A multiplexer changes its delay
 # in another way.
@@ -103,6 +109,24 @@ def separate_clock_jumps(leads: Sequence[VideoLead], unusual: Sequence[UnusualSt
             rest = [step for step in rest if step not in steps]
             leads = steady
     return ClockJumps(departures, leads, rest)
+
+
+def mark_pcr_jumps(unusual: Sequence[UnusualStep], leads: Sequence[VideoLead],
+                   pcr_steps: Sequence[PCRStep]) -> list[UnusualStep]:
+    """Set `has_pcr` of the unusual steps at which the PCR jumps as far, although no TS packet is
+    missing and the Teletext PTS do not jump forwards."""
+    jumps = [(item.before, item.ticks - item.usual * item.packets // max(item.usual_packets, 1))
+             for item in pcr_steps
+             if item.counters == "whole" and item.before is not None and item.after is not None
+             and (item.ticks < 0 or subtract_pts(item.before, item.after) < item.ticks)]
+    numbers, result = [lead.number for lead in leads], list[UnusualStep]()
+    for step in unusual:
+        lead = leads[max(bisect.bisect_left(numbers, step.number) - 1, 0)]
+        sent = wrap_pts(lead.pts + (step.number - lead.number) * step.usual)
+        result.append(step._replace(has_pcr=any(
+            abs(ticks - step.ticks) < TICKS // 2 and abs(subtract_pts(sent, pts)) < NEAR_PCR_TICKS
+            for pts, ticks in jumps)))
+    return result
 
 
 def have_moved(leads: Sequence[VideoLead], steps: Sequence[UnusualStep],
@@ -179,26 +203,27 @@ def leave_out_lost(step: int, mean_change: float, usual: int) -> int:
     return step - usual * round((step + mean_change) / usual)
 
 
-def locate_departures(leads: Sequence[VideoLead], unusual: Sequence[UnusualStep] = ()) \
-        -> list[Departure] | None:
+def locate_departures(leads: Sequence[VideoLead], unusual: Sequence[UnusualStep] = (),
+                      samples: Sequence[tuple[int, int]] = ()) -> list[Departure] | None:
     """Return the places where the delay between video and Teletext changes or may change. Return
     `None` if most decoding times are irregular. `unusual` has the unusual steps of the decoding
-    times, if `survey` prints steps."""
+    times, if `survey` prints steps, and `samples` some Teletext PTS, each with the ticks by which
+    it is ahead of the PCR."""
     steps = compute_steps(leads)
     ends = find_step_places(steps)
     if len(ends) * 2 > len(leads):
         return None
     inside = collect_steps(leads, unusual)
     departures = [*find_departures_at_edges(leads, inside),
-                  *find_departures_between_rows(leads, steps, ends, inside),
+                  *find_departures_between_rows(leads, steps, ends, inside, samples),
                   *find_departures_in_rows(leads, ends, inside)]
     first = leads[0].pts if leads else 0
     return sorted(departures, key=lambda departure: subtract_pts(first, departure.pts))
 
 
 def find_departures_between_rows(leads: Sequence[VideoLead], steps: Sequence[int],
-                                 ends: Sequence[int], inside: dict[int, list[UnusualStep]]) \
-        -> list[Departure]:
+                                 ends: Sequence[int], inside: dict[int, list[UnusualStep]],
+                                 samples: Sequence[tuple[int, int]]) -> list[Departure]:
     """Return the departures between rows of leads without a step. `ends` has the index after each
     row. Remove the unusual steps between these rows from `inside`, which has the unusual steps
     before each lead."""
@@ -219,8 +244,11 @@ def find_departures_between_rows(leads: Sequence[VideoLead], steps: Sequence[int
             # Where pictures are lost, the last lead may be that of Teletext long after its picture.
             left = measure_departure(before[:-1], after, ticks, (around[0][:-1], around[1]), usual)
         if left == 0 and (is_outside(all_ticks[row_end:begin], before)
-                          or not all(step.is_whole for step in here)):
-            left = None  # a short drift, a damaged PTS, or a step that no lost picture explains
+                          or not all(step.is_whole for step in here)
+                          or ticks >= LONG_LOSS and not keep_pcr_distance(
+                              samples, leads[row_end - 1].pts, leads[begin].pts)):
+            # a short drift, a damaged PTS, a step that no lost picture explains, or a long loss
+            left = None
         if any(abs(other + ticks) < ALIKE_TICKS for other in unclear):
             left = None  # pictures may come back
         unclear = [ticks] if left is None else []
@@ -238,6 +266,14 @@ def find_departures_between_rows(leads: Sequence[VideoLead], steps: Sequence[int
                 earlier, leads[begin], here, measure_least_change(before, after, around)))
         row_begin, row_end, ticks, total = begin, end, 0, total + (left or 0)
     return departures
+
+
+def keep_pcr_distance(samples: Sequence[tuple[int, int]], earlier: int, later: int) -> bool:
+    """Return whether Teletext is as far ahead of the PCR up to one PTS as from a later one on."""
+    before = [ticks for pts, ticks in samples if 0 <= subtract_pts(pts, earlier) < SAMPLE_TICKS]
+    after = [ticks for pts, ticks in samples if 0 <= subtract_pts(later, pts) < SAMPLE_TICKS]
+    change, error = compare_means(before, after) if before and after else (0, TICKS)
+    return abs(change) + error < TICKS / 2
 
 
 def find_departures_in_rows(leads: Sequence[VideoLead], ends: Sequence[int],

@@ -36,12 +36,13 @@ class StepRange(NamedTuple):
 
 class UnusualStep(NamedTuple):
     """A step to the decoding time of the picture `number` that is unusual by `ticks`. `is_sure` is
-    false if most seconds have different steps."""
+    false if most seconds have different steps. `has_pcr` is true if the PCR jumps as far."""
 
     number: int
     ticks: int
     usual: int
     is_sure: bool = True
+    has_pcr: bool = False
 
     @property
     def is_whole(self) -> bool:
@@ -52,7 +53,7 @@ class UnusualStep(NamedTuple):
     def may_keep_delay(self) -> bool:
         """Return whether pictures may keep their delay: some may be lost, or one may be sent
         twice."""
-        return self.is_whole and self.ticks > -1.5 * self.usual
+        return self.is_whole and self.ticks > -1.5 * self.usual and not self.has_pcr
 
 
 def find_unusual_steps(several: Sequence[StepRange], count: int) -> list[UnusualStep]:
@@ -116,11 +117,6 @@ def is_return(steps: Sequence[UnusualStep]) -> bool:
     (away, back), pictures = steps, steps[1].number - steps[0].number
     return abs(away.ticks + back.ticks) < ALIKE_TICKS and pictures >= MIN_AWAY_PICTURES \
         and pictures * away.usual <= MAX_AWAY_TICKS
-
-
-def count_pictures(several: Sequence[StepRange], count: int) -> int:
-    """Return the number of pictures, at least `count`, that the steps show."""
-    return max([count, *(max(item.least_at, item.most_at) for item in several)])
 
 
 def measure_lengths(several: Sequence[StepRange], count: int) -> list[int]:
