@@ -320,7 +320,6 @@ JUSTIFIED = [" or ".join(str(code) for code in range(RIGHT + 1)
              for column in (0, COLUMNS // 2 - 1, COLUMNS - 2)]
 STATED: list[tuple[str, str, object]] = [
     ("MANUAL.md", "back once, by {} hours or more", MIN_STEP_BACK // (FRAMES_OF_A_DAY // 24)),
-    ("../README.md", "| {} | status 0, but you gave no clock", STATUSES[RELATIVE]),
     ("../README.md", "| {} | wrong arguments", f"{USAGE_STATUS}, {BUG_STATUS}"),
     ("manual/refusals.md", "`STL30.01` | export the file at {} frames", FRAMES_A_SECOND),
     ("manual/many-pairs.md", "only status {} is a success", STATUSES[ACCEPTED]),
@@ -362,7 +361,7 @@ STATED: list[tuple[str, str, object]] = [
     ("MANUAL.md", "with glibc 2.{}, and Python", GLIBC_MINOR),
     ("../README.md", "are `--page 888`, `--option {}`", DEFAULTS["--option"]),
     ("../README.md", "and `--every {}` (frames)", DEFAULTS["--every"]),
-    ("../README.md", "| {} | status 0, but you gave no clock", STATUSES[RELATIVE]),
+    ("../README.md", "| {} | as 0, but you gave no clock", STATUSES[RELATIVE]),
     ("../README.md", "| {}, 70 | wrong arguments (64)", USAGE_STATUS),
     ("../README.md", "wrong arguments (64), or a bug of a tool ({})", BUG_STATUS),
     ("HEADLINE.md", "theorem holds with R = {}, page 888", DEFAULTS["--every"]),

@@ -18,6 +18,7 @@ from subtitles.stream.pace import Pace, REGULAR
 from subtitles.stream.packets import PacketRun, Packets, find_announced_jumps
 from subtitles.stream.pictures import (
     Departure, VideoLead, find_steady_change, locate_departures)
+from subtitles.stream.steps import UnusualStep
 from subtitles.stream.survey import Survey
 from .bench import Case
 from .judged import judge_files
@@ -125,6 +126,9 @@ class PictureDepartures(Case):
                                        [None]),
             "one line before": (make_video_leads([6.0] + [5, 3] * 9, {1: 2}), [None]),
             "one line behind": (make_video_leads([6, 4] * 9 + [3.0], {18: 2}), [None]),
+            "the extremes of leads that vary by more": (
+                make_video_leads([-2, 5, 1, 1, 1, 1] * 5 + [-1, 6, 1, 1, 1, 1] * 5, {30: -1}),
+                [None]),
             "a line that is away alone": (
                 make_video_leads([6.0] * 20 + [3.0] + [6.0] * 20, {20: 3, 21: -3}), [None])}
         # Groups of 25 pictures, of which the first is large, and losses of 1 to 3 pictures.
@@ -136,6 +140,21 @@ class PictureDepartures(Case):
             make_video_leads([6] * 2 + [7] * 2 + [6] * 40, {2: -1, 4: 1}), [None, None])
         for name, (leads, wanted) in rows.items():
             self.check(name, self.measure_step_ticks(leads), wanted)
+
+    def test_finds_no_small_step_in_a_video_with_many(self) -> None:
+        for frames, more, expected in ((3, 10, 3), (3, 30, None), (30, 30, 30)):
+            leads = make_video_leads([6.0] * 10 + [6.0 - frames] * 70, {10: frames})
+            unusual = [UnusualStep(SECOND * at - 5, TICKS * (frames if at == 10 else 1), TICKS)
+                       for at in range(10, 11 + more)]
+            self.check(f"{frames} {more}", [item.ticks for item in locate_departures(
+                leads, unusual) or []], [expected and expected * TICKS])
+
+    def test_needs_some_leads_before_lost_pictures_and_no_part_of_a_picture(self) -> None:
+        for before, ticks, expected in ((1, 12, [None]), (2, 12, [None]), (3, 12, []),
+                                        (20, 12.5, [None]), (20, 12.0, [])):
+            departures = locate_departures(make_video_leads([6.0] * 40, {before: ticks}), [
+                UnusualStep(SECOND * before - 5, TICKS * 12, TICKS)])
+            self.check(f"{before} {ticks}", [item.ticks for item in departures or []], expected)
 
     def test_requires_a_usual_step(self) -> None:
         chance = random.Random(1)

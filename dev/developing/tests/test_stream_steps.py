@@ -131,7 +131,10 @@ class Steps(Case):
             "one before": ([6], [], [5] * 30, True), "none before": ([], [], [5] * 30, False),
             "another delay since 5 s": ([6] * 25 + [5] * 5, [], [5] * 3, False),
             "the delay stays for 10 s": ([6] * 10 + [7] * 10 + [6] * 10, [], [5], False),
-            ".. and has no such value": ([6] * 10 + [7] * 10 + [6] * 10, [], [5] * 9, True),
+            ".. and has no such value": ([6] * 10 + [7] * 10 + [6] * 10, [], [5] * 15, True),
+            "another delay after 7 s": ([6] * 30, [], [6] * 7 + [5] * 23, False),
+            "either delay stays for seconds": (
+                [6] * 10 + [5] * 4 + [6] * 10 + [5] * 3 + [6] * 3, [], [5] * 8, False),
             "one has another delay, the first": ([9] + [6] * 20, [], [5], True),
             "leads vary by more": ([0, 3] * 15, [], [-1] * 3, False),
             "away and back": ([6] * 20, [5], [6] * 20, True),

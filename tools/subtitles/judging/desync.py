@@ -5,6 +5,7 @@ import statistics
 from typing import Callable, Iterator, NamedTuple, Sequence
 
 from ..clock.start import START, TCP, TimedPart
+from ..common.checks import DRIFT, IRREGULAR
 from ..common.command_line import counted
 from ..common.times import TICKS, format_frame, pts_of, subtract_pts, subtract_pts_within, wrap_pts
 from ..formats.listing import NamedFault, PICTURES_LEFT
@@ -15,7 +16,7 @@ from ..stream.pictures import (
 from ..stream.steps import (
     ALIKE_TICKS, are_in_order, find_unusual_steps, measure_reordering)
 from ..stream.survey import Survey, Video
-from .unchecked import Unchecked, find_unchecked, make_irregular_video, make_unclear_places
+from .unchecked import Unchecked, find_unchecked, make_unclear_places
 
 
 # Viewers notice if subtitles and pictures drift apart, but the Teletext PTS do not show the drift.
@@ -60,7 +61,8 @@ def find_desync(survey: Survey, pid: int, alignment: TimedPart, within: int, num
                                          format_frame(span.end - 1), part=number))
         unclear += [departure for departure in inside if not departure.ticks]
         if departure_places is None:
-            unchecked.append(make_irregular_video(number))
+            unchecked.append(Unchecked(IRREGULAR, f"{DRIFT}: the video's decoding times have no "
+                                       "usual step", number))
     unclear += find_departures(locate_changes_of_video(several), alignment)
     unchecked += make_unclear_places(unclear, alignment, number)
     return DesyncFindings(faults, notes, unchecked, any(by_video.values()))

@@ -7,7 +7,7 @@ from typing import Collection, Iterator, Mapping, NamedTuple, Sequence
 
 from ..clock.start import NAMES, OTHER_STREAM_TYPES, START, TCP, TimedPart
 from ..common.checks import (
-    CHECKS, CLOCK, CheckState, DRIFT, HOLE, IRREGULAR, JUMP, LISTED, NO_VIDEO, PHRASES,
+    CHECKS, CLOCK, CheckState, DRIFT, HOLE, JUMP, LISTED, NO_VIDEO, PHRASES,
     PICTURE_KINDS, STEADY, UNREAD, decide_check)
 from ..common.command_line import counted, format_pid
 from ..common.times import TICKS, compute_time, pts_of, subtract_pts, subtract_pts_within
@@ -178,11 +178,6 @@ def make_unclear_places(departures: Sequence[Departure], alignment: TimedPart, n
         yield Unchecked(JUMP, f"{DRIFT} between {begin} and {end}, where the video's "
                         f"decoding times jump{more}", number, begin, end, departure.change,
                         is_of_start)
-
-
-def make_irregular_video(number: int) -> Unchecked:
-    return Unchecked(IRREGULAR, f"{DRIFT}: the video's decoding times have no usual step",
-                     number)
 
 
 def list_check_entries(entries: Sequence[Unchecked], parts: Sequence[tuple[int, Mapping[

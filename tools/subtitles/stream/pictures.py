@@ -10,7 +10,8 @@ from typing import Callable, Iterable, Mapping, NamedTuple, Sequence
 from ..common.times import CLOCK, TICKS, subtract_pts, wrap_pts
 from .packets import PCRStep
 from .steps import (
-    ALIKE_TICKS, MAX_REORDER_TICKS, MIN_PICTURES, UnusualStep, find_clock_steps, may_keep_delay)
+    ALIKE_TICKS, MAX_CLOCK_JUMPS, MAX_REORDER_TICKS, MIN_PICTURES, UnusualStep, find_clock_steps,
+    may_keep_delay)
 
 
 # Once a second `survey` prints the lead of Teletext: its PTS minus the decoding time of the last
@@ -36,8 +37,8 @@ SAMPLE_TICKS = 2_700_000  # the time for which PTS are compared with the PCR, be
 MIN_LEADS = 20  # minimum number of leads on each side of a step to compare their extremes
 SIGNIFICANT_ERRORS = 2.5  # number of standard errors that a difference of means must exceed
 MIN_RATIO = 15  # how much more likely leads must be if pictures moved than if they did not
-LONG_LOSS = 90_000  # ticks of lost pictures from which on the PCR must agree
-NEAR_PCR_TICKS = 90_000  # the longest time from a step of the video to the same step of the PCR
+MIN_FIRST_LEADS = 3  # fewer leads do not show that the pictures stay in step
+SECOND = 90_000  # if this is lost, the PCR must agree; a step of the PCR is as near to its picture
 NEAR_SIZE = 5  # number of leads next to a step that must not show another delay than those before
 # A lead that changes steadily may mean that two clocks drift apart. A multiplexer changes its delay
 # in another way.
@@ -124,7 +125,7 @@ def mark_pcr_jumps(unusual: Sequence[UnusualStep], leads: Sequence[VideoLead],
         lead = leads[max(bisect.bisect_left(numbers, step.number) - 1, 0)]
         sent = wrap_pts(lead.pts + (step.number - lead.number) * step.usual)
         result.append(step._replace(has_pcr=any(
-            abs(ticks - step.ticks) < TICKS // 2 and abs(subtract_pts(sent, pts)) < NEAR_PCR_TICKS
+            abs(ticks - step.ticks) < TICKS // 2 and abs(subtract_pts(sent, pts)) < SECOND
             for pts, ticks in jumps)))
     return result
 
@@ -149,9 +150,10 @@ def have_moved(leads: Sequence[VideoLead], steps: Sequence[UnusualStep],
         moved, around, near, ticks = before, after, after[:NEAR_SIZE], -ticks
     if sum_squares(around) > ticks ** 2 * len(around):
         return False  # the leads vary by more than the step
-    usual = steps[0].usual
+    usual, nearest = steps[0].usual, moved[-NEAR_SIZE:] if moved is before else moved[:NEAR_SIZE]
     return compare_moves(moved, around, ticks, 0) >= math.log(MIN_RATIO) \
-        and compare_moves(moved, near, ticks, 0) > 0 \
+        and min(compare_moves(moved, near, ticks, 0),
+                compare_moves(nearest, around, ticks, 0)) > 0 \
         and all(compare_moves(moved, around, ticks, other) >= 0
                 for other in (ticks - usual, ticks + usual))
 
@@ -162,8 +164,10 @@ def compare_moves(moved: Sequence[int], around: Sequence[int], ticks: int, other
     def count(value: int) -> int:
         return 1 + sum(abs(value - lead) < ALIKE_TICKS for lead in around)
     total = 2 * sum_squares(around)
-    changes = sum((after - before) ** 2 for before, after in zip([*around[-1:], *around], around))
-    share = min(1, changes / total) if total else 1  # less if leads stay the same for some time
+    changes = min(total, sum((after - before) ** 2 for before, after in zip(
+        [*around[-1:], *around], around)))
+    # Leads that stay the same for some time count as fewer leads.
+    share = changes / (2 * total - changes) if total else 1
     return share * sum(math.log(count(lead + ticks) / count(lead + other)) for lead in moved)
 
 
@@ -230,6 +234,7 @@ def find_departures_between_rows(leads: Sequence[VideoLead], steps: Sequence[int
     all_ticks, departures = [lead.ticks for lead in leads], list[Departure]()
     row_begin, row_end, ticks = 0, min(ends, default=0), 0
     unclear, total = [step.ticks for step in inside.get(0, [])], 0
+    is_variable = sum(map(len, inside.values())) > max(MAX_CLOCK_JUMPS, len(leads) / 10)
     for begin, end in zip(ends, [*ends[1:], len(leads)]):
         ticks += steps[begin - 1]
         if end - begin == 1 and end < len(leads):
@@ -243,14 +248,17 @@ def find_departures_between_rows(leads: Sequence[VideoLead], steps: Sequence[int
         if left is None and len(before) >= MIN_LEADS:
             # Where pictures are lost, the last lead may be that of Teletext long after its picture.
             left = measure_departure(before[:-1], after, ticks, (around[0][:-1], around[1]), usual)
-        if left == 0 and (is_outside(all_ticks[row_end:begin], before)
+        if left == 0 and (here and (row_end < MIN_FIRST_LEADS
+                                    or not here[0]._replace(ticks=ticks).is_whole)
+                          or is_outside(all_ticks[row_end:begin], before)
                           or not all(step.is_whole for step in here)
-                          or ticks >= LONG_LOSS and not keep_pcr_distance(
+                          or ticks >= SECOND and not keep_pcr_distance(
                               samples, leads[row_end - 1].pts, leads[begin].pts)):
-            # a short drift, a damaged PTS, a step that no lost picture explains, or a long loss
+            # few leads, a short drift, a damaged PTS, a step without lost pictures, or a long loss
             left = None
-        if any(abs(other + ticks) < ALIKE_TICKS for other in unclear):
-            left = None  # pictures may come back
+        if left and is_variable and abs(ticks) < SECOND or any(
+                abs(other + ticks) < ALIKE_TICKS for other in unclear):
+            left = None  # pictures are shown for different times, or may come back
         unclear = [ticks] if left is None else []
         earlier = leads[row_end - 1]
         places = [step for step in here if step.is_sure and any(
@@ -261,7 +269,7 @@ def find_departures_between_rows(leads: Sequence[VideoLead], steps: Sequence[int
         elif left:
             departures.append(Departure(leads[begin].pts, earlier.pts, left,
                                         ahead=max(earlier.ticks, 0)))
-        elif left is None or has_return(here):
+        elif left is None or len({step.ticks > 0 for step in here}) > 1:  # or away and back
             departures.append(make_unclear_departure(
                 earlier, leads[begin], here, measure_least_change(before, after, around)))
         row_begin, row_end, ticks, total = begin, end, 0, total + (left or 0)
@@ -312,11 +320,6 @@ def collect_steps(leads: Sequence[VideoLead], unusual: Iterable[UnusualStep]) \
     for step in unusual:
         result.setdefault(bisect.bisect_left(numbers, step.number), []).append(step)
     return result
-
-
-def has_return(steps: Sequence[UnusualStep]) -> bool:
-    """Return whether the steps may lead away and back."""
-    return any(step.ticks < 0 for step in steps) and any(step.ticks > 0 for step in steps)
 
 
 def make_departure(lead: VideoLead, step: UnusualStep, ticks: int | None) -> Departure:
@@ -446,7 +449,8 @@ def measure_departure(before: Sequence[int], after: Sequence[int], step: int,
     for ticks in (0, step):
         ends = [abs(end(after[:SAMPLE_SIZE]) - end(before[-SAMPLE_SIZE:]) + ticks) * 2
                 for end in (min, max)]
-        is_significant = min(len(before), len(after)) >= MIN_LEADS and max(ends) < limit
+        is_significant = min(len(before), len(after)) >= MIN_LEADS and max(ends) < limit \
+            and (not ticks or sum_squares(before[-SAMPLE_SIZE:]) <= ticks ** 2 * SAMPLE_SIZE)
         if abs(mean_change + ticks) + (0 if is_significant else error) < limit:
             return ticks
     if step and abs(mean_change) - error >= limit:
