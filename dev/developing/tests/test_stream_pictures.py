@@ -127,7 +127,7 @@ class PictureDepartures(Case):
             "one line before": (make_video_leads([6.0] + [5, 3] * 9, {1: 2}), [None]),
             "one line behind": (make_video_leads([6, 4] * 9 + [3.0], {18: 2}), [None]),
             "the extremes of leads that vary by more": (
-                make_video_leads([-2, 5, 1, 1, 1, 1] * 5 + [-1, 6, 1, 1, 1, 1] * 5, {30: -1}),
+                make_video_leads([-2, 5, 1, 1, 1, 1] * 5 + [-1, 6, 1, 1, 2, 2] * 5, {30: -1}),
                 [None]),
             "a line that is away alone": (
                 make_video_leads([6.0] * 20 + [3.0] + [6.0] * 20, {20: 3, 21: -3}), [None])}
