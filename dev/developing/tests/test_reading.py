@@ -552,7 +552,10 @@ class TwoRecordings(Case):
         call = self.tool("qc", "--reference", *args, "--every", "100", "-o", "out")
         lines = call.out.decode().splitlines()
         with open(self.path("out/b.json"), encoding="utf-8") as file:
-            self.check(f"{args}: the schema", find_misfit(json.load(file)), None)
+            result = json.load(file)
+        self.check(f"{args}: the schema", find_misfit(result), None)
+        self.must(f"{args}: wrong", call.status == 1 or not result["causes"] and not any(
+            row["verdict"] == "wrong" for row in result["subtitles"]), result["subtitles"])
         return call.status, lines[-1].partition(":")[0] if lines else ""
 
     def test_compares_what_both_recordings_cover(self) -> None:

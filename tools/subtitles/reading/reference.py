@@ -8,7 +8,9 @@ from ..clock.start import Clock, TimedPart
 from ..common.checks import CLOCK, OUTSIDE, describe_kinds
 from ..common.command_line import counted
 from ..common.times import TICKS, compute_frame, format_frame, subtract_pts
-from ..formats.listing import NEVER_SENT
+from ..formats.listing import END, NEVER_SENT
+from ..judging.causes import Causes
+from ..judging.pair import measure_delays
 from ..judging.part import Part
 from ..judging.sentence import describe_faults
 from ..judging.status import (
@@ -160,9 +162,18 @@ class ReferenceJudge(RangeJudge):
                                     format_frame(found[-1].end - 1))
 
     def explain(self, part: Part) -> Part:
-        """Return a copy of a part with the causes of its faults, if there is a subtitle."""
-        return super().explain(part) if self.verdict.subtitle_count else dataclasses.replace(
-            part, severity=self.verdict.severity, is_recording_read=part.is_read())
+        """Return a copy of a part with the causes of its faults, if there is a subtitle. If the
+        range ends during a subtitle, fault 74 alone is no difference, so it has no cause."""
+        output, timeline = part.check_output, part.decoded_pages
+        is_only_cut = self.judged.is_cut and output.fault_count == 1 and END in output.fault_numbers
+        if timeline and is_only_cut:
+            part = dataclasses.replace(
+                part, causes=Causes(part.expected_pages(), timeline),
+                delays=measure_delays(part, None, self.request, self.is_result_written))
+        elif self.verdict.subtitle_count:
+            return super().explain(part)
+        return dataclasses.replace(part, severity=self.verdict.severity,
+                                   is_recording_read=part.is_read())
 
 
 def find_common_range(packets: Packets, reading: Reading, clock: Clock, request: Request) \
