@@ -75,13 +75,13 @@ def locate_video_departures(survey: Survey, video: int, leads: Sequence[VideoLea
     """Return the places where the delay between a video PID and Teletext changes or may change.
     Return `None` if most decoding times are irregular."""
     ranges = survey.steps.get(video, [])
+    seen = max([leads[-1].number, *(max(item.least_at, item.most_at) for item in ranges)])
+    if not are_in_order(ranges, seen):
+        return None
     # Pictures usually go on until the last Teletext PTS, at most a second after the last lead.
     rest = min(subtract_pts(leads[-1].pts, packets.last_pts or leads[-1].pts) // TICKS, 25)
-    count = max([leads[-1].number + max(rest, 0),
-                 *(max(item.least_at, item.most_at) for item in ranges)])
-    if not are_in_order(ranges, count):
-        return None
-    unusual = mark_pcr_jumps(find_unusual_steps(ranges, count), leads, packets.pcr_steps)
+    count = max(leads[-1].number + rest, seen)
+    unusual = mark_pcr_jumps(find_unusual_steps(ranges, seen), leads, packets.pcr_steps)
     jumps = separate_clock_jumps(leads, unusual, count, has_own_clock)
     places = locate_departures(jumps.leads, jumps.steps, packets.samples)
     group = survey.videos.get(video) or Video()
