@@ -17,10 +17,10 @@ from subtitles.clock.stretches import Stretch, Track, find_best_stretches, find_
 from subtitles.common.command_line import Stop
 from subtitles.common.times import ALL_DAY, CLOCK, FrameRange, TICKS
 from subtitles.stream.packets import PageChange
-from .bench import Case, get_example_path, read_example_file
+from .bench import Case
 from .parts import make_example_request, survey_packets
 from .transmissions import (
-    CLOSING, HEADER, ShownSubtitle, replace_pts, make_numbered_row, schedule_pes,
+    CLOSING, HEADER, ShownSubtitle, make_numbered_row, schedule_pes,
     write_subtitle_file)
 from .test_clock_tables import make_sent_packets
 
@@ -91,14 +91,6 @@ class Origins(Case):
                 self.find(self.write_own_stl(), [data])
         with self.assertRaisesRegex(Stop, "has no subtitle that begins and ends within a day$"):
             read_subtitles_between(self.write_own_stl(), "english", ALL_DAY, range(COUNT + 1))
-
-    def test_finds_any_origin_of_the_examples(self) -> None:
-        for name, *words in (["hello"], ["story"], ["german", "--option", "german"]):
-            for given in (0, 2029060592, CLOCK - 1, 813_000_017):
-                data = replace_pts(read_example_file(name + ".pes"), lambda _, pts: pts + given)
-                result = self.find(get_example_path(name + ".stl"), [data], *words)
-                self.must(f"{name} {given}", (result.status, result.printed) == (
-                    0, [f"--origin {given}"]), result)
 
     def test_uses_the_origin_of_late_rows(self) -> None:
         for count in (1, 2, 3, 20):
@@ -195,19 +187,6 @@ class Tracks(Case):
                             0, 9000 * TICKS, (0, 9000), within)
             self.assertEqual((base.fits[0].start, base.fits[0].matches), (-51, 2), within)
 
-    def test_a_track_may_follow_only_an_earlier_one(self) -> None:
-        base = self.base({})
-        # Time base and start frame of a track and of the one before it, and the frames between.
-        self.check_rows(lambda track, before, frames: Track(track[0], track[1], base).may_follow(
-            Track(before[0], before[1], base), frames), {
-            "the same start": (((0, 0), (0, 0), 1), True),
-            "no frame between": (((0, 0), (0, 0), 0), False),
-            "back by as many frames": (((0, 5), (0, 0), 5), False),
-            "back by fewer frames": (((0, 5), (0, 0), 6), True),
-            "a later part of the recording": (((0, 0), (0, 5), 1), True),
-            "a later time base": (((1, 9), (0, 0), 1), True),
-            "an earlier time base": (((0, 0), (1, 9), 99), False)})
-
     def test_needs_five_cues_in_a_row_for_a_track(self) -> None:
         due = {cue.frame: cue.letters for cue in self.cues}
         few = [self.base(dict([*due.items()][:count])) for count in (4, 5, 12)]
@@ -280,6 +259,8 @@ class Tracks(Case):
                     (0, 7), (-40, 12)]), (half, (0, 50), [(0, 12)]),
                 (half, (0, 49), [(0, 7), (49, 12)]), (half, (0, 100), [(0, 12)])):
             self.assertEqual(row((0, 0, before), (*place, rest)), expected, (before, place))
+        # No track of an earlier time base follows one of a later time base.
+        self.assertFalse(Track(0, 0, self.base({})).may_follow(Track(1, 9, self.base({})), 99))
         # Matching cues before the first five consecutive matches also count.
         self.assertEqual(row((0, 0, [3] * 4 + [0] + [3] * 5 + [0, 0]), (0, 5000, [0] * 6 + [
             3] * 6)), [(0, 12)])
@@ -302,10 +283,3 @@ class Delays(unittest.TestCase):
         base = self.make_delayed_base()
         self.assertEqual(count_delays(base, base.compare(0)), (
             Counter({2: 3, 0: 1, 1: 1}), Counter({0: 3, 1: 1, 2: 1})))
-
-    def test_computes_a_part_without_cached_results_of_the_programme(self) -> None:
-        request, other = self.make_delayed_base(), self.make_delayed_base()
-        whole = request.fits
-        result = request.copy_between(self.CUE_TIMES[4:8], 150, 400).fits
-        self.assertEqual(result, other.copy_between(self.CUE_TIMES[4:8], 150, 400).fits)
-        self.assertNotEqual(result, whole)

@@ -253,6 +253,7 @@ class Recordings(Case):
             result = judge_files(self, stl)
             self.must(stl, result.said[-len(lines):] == lines and result.parts("from", "pes") ==
                       [(None, None)], result.said)
+            self.check(f"{stl}: faults", "1 faults" in result.said, stl == ACCENT)
 
     def test_a_subtitle_file_alone_is_never_accepted(self) -> None:
         mild = self.write("mild", b"16 warning\nothers warning\n")
