@@ -280,7 +280,7 @@ class Listings(Case):
                          if line.startswith(("gap ", "seam ")))
         manual = " ".join((read(os.path.join(TOP, "docs", "manual", "survey.md")) or "").split())
         self.check("lines", {first, second}, {"gap", "seam"})
-        self.must("the manual", f"also a `gap`, the `{first}` comes first." in manual, first)
+        self.must("the manual", f"A `{first}` at the same place comes first." in manual, first)
 
     def test_ends_pictures_with_group_and_pictures(self) -> None:
         tables = ["size 188", "programme 1 512", "stream 512 2", "stream 257 6",
