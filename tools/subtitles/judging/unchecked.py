@@ -105,8 +105,8 @@ def find_holes(several: Sequence[Sequence[VideoLead]], pts: Sequence[int], origi
     limit = max(MAX_HOLE, USUAL_INTERVALS * usual)
     inside = [item for item in compared if sent[0] - limit <= item <= sent[-1] + limit]
     for begin, end in zip([None, *inside], [*inside, None]):
-        between = [item for item in sent if (begin is None or item > begin + SECOND) and
-                   (end is None or item < end)]
+        between = sent[0 if begin is None else bisect.bisect_right(sent, begin + SECOND):
+                       len(sent) if end is None else bisect.bisect_left(sent, end)]
         if not between:
             continue
         start = between[0] if begin is None else begin
