@@ -325,7 +325,7 @@ STATED: list[tuple[str, str, object]] = [
     ("manual/many-pairs.md", "only status {} is a success", STATUSES[ACCEPTED]),
     ("manual/qc.md", "comparison fails, the recording is `not judged`, with status {}", BUG_STATUS),
     ("manual/air.md", "a bug ended a service (status {})", BUG_STATUS),
-    ("manual/results.md", "The format number is {}.", FORMAT),
+    ("manual/results.md", "The format number (`format`) is {}.", FORMAT),
     ("manual/results.md", "exit status {} is a `failure`", " or ".join(
         f"{status}" for status in sorted({*STATUSES.values()} - {0, STATUSES[NOT_JUDGED]}))),
     ("manual/qc.md", "means all remaining faults except {}:", LOST_PACKETS),
@@ -427,7 +427,7 @@ STATED: list[tuple[str, str, object]] = [
      read_constant("ttx_pes/data_unit", "DATA_UNIT_LENGTH")),
     ("manual/refusals.md", "a framing code is not {:X} |",
      read_constant("ttx_pes/data_unit", "FRAMING_CODE")),
-    ("manual/survey.md", "with the same PCR_PID (not {})", NO_PID),
+    ("manual/survey.md", "has the same PCR_PID (not {})", NO_PID),
     ("manual/survey.md", "and PCR_PID ({} if there is none)", NO_PID),
     ("manual/read.md", "of {} that a page has", join_statuses(
         status for status in STATUS_ORDER if status != STATUSES[RELATIVE])),
