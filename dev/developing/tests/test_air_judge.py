@@ -11,7 +11,8 @@ from unittest import mock
 from subtitles.air import judge as judging
 from subtitles.air.check import Outcome
 from subtitles.air.decision import Window, give_up, is_given_up
-from subtitles.air.segments import Segment, find_segments, make_segment_name
+from subtitles.air.segments import (
+    Segment, find_segments, make_segment_name, parse_segment_begin)
 from subtitles.air.state import Monitor
 from subtitles.common.files import open_result
 from .air import AirCase, DAY, FakeChecker, MARGIN_SECONDS, SentProgramme, outcome
@@ -217,6 +218,15 @@ class JudgedProgrammes(AirCase):
         os.rename(self.path("later.stl"), self.path("one.stl"))
         self.run_judge(checker, 2100, 2000)
         self.check("once it is there", self.verdicts(), {NAME: "relative"})
+
+    def test_reads_few_segments_while_a_subtitle_file_is_missing(self) -> None:
+        self.put_segments(0, 4000)
+        os.unlink(self.path("one.stl"))
+        with mock.patch.object(os, "stat", wraps=os.stat) as stat:
+            self.run_judge(FakeChecker({}), 4000, 3900)
+        names = {os.path.basename(call.args[0]) for call in stat.call_args_list}
+        count = len([name for name in names if parse_segment_begin(name)])
+        self.must("those of the window, and a few more", 12 <= count < 20, count)
 
     def test_waits_until_a_subtitle_file_is_complete(self) -> None:
         self.put_segments(0, 900)

@@ -20,8 +20,8 @@ from ..request.commands import CommandPaths
 from ..results.files import ENDING, encode_result, make_unjudged
 from .check import Checker, Outcome
 from .decision import (
-    HOUR, MIN_RECORDED_LATER, RECORDER_LAG, Window, count_seconds, decide, describe_gaps, give_up,
-    is_given_up)
+    HOUR, MAX_WAIT, MIN_RECORDED_LATER, RECORDER_LAG, Window, count_seconds, decide, describe_gaps,
+    give_up, is_given_up)
 from .delivery import Delivery, read_delivery
 from .schedule import Programme, Schedule, read_schedule
 from .segments import (
@@ -155,10 +155,11 @@ class Judge:
         """Publish the result of a programme if it is certain or if the programme is given up.
         Otherwise try again later. It is not certain if a wrong clock may be the reason for it, or
         margins that another line's missing subtitle file limits (`is_limited`)."""
-        later = find_segments(self.segments, window.last, math.inf)
+        needed_begin = window.last if outcome.result else window.last + MAX_WAIT - HOUR
+        later = find_segments(self.segments, needed_begin, math.inf)
         missing_seconds = MIN_RECORDED_LATER - count_seconds(later, window.last)
-        jump = find_clock_jump(self.segments, list_segment_names(self.segments), window.first)
-        if jump and outcome.result and not outcome.is_file_refused:
+        if outcome.result and not outcome.is_file_refused and (jump := find_clock_jump(
+                self.segments, list_segment_names(self.segments), window.first)):
             reason = f"{jump}: {outcome.reason}"
             outcome = outcome._replace(result=make_unjudged(programme.name, reason, INPUT),
                                        reason=reason)

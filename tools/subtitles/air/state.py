@@ -45,9 +45,8 @@ class Monitor(State):
         self.is_deleted_early = self.oldest > needed and not names[0][1].endswith(NEW)
         past_names = [item for item in names if item[0] <= now + CLOCK_TOLERANCE]
         self.look_at_clock(segments, names, past_names)
-        headers = {page: min(self.headers.get(page, 0.0), now) for page in pages}
-        is_new = headers.keys() != self.headers.keys()
-        self.headers = headers
+        is_new = self.headers.keys() != {*pages}
+        self.headers = {page: min(self.headers.get(page, 0.0), now) for page in pages}
         if is_new or not now < self.next_search <= now + SEARCH_EVERY:
             self.next_search = now + SEARCH_EVERY
             first = now - (PAGE_SILENCE if is_new else 2 * SEARCH_EVERY)
