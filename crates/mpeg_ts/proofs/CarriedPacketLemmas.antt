@@ -137,7 +137,7 @@ stream_outputs_carried_bytes number distance recording =
       repeat = refl;
       jump = refl;
       lost = refl;
-      no_output_after_wrong = λ e. refl;
+      no_pes_packet_after_unusable = λ e. refl;
       none = λ e. refl;
       last = refl;
     }) sound

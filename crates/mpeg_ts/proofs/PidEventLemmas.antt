@@ -79,7 +79,7 @@ pub record RemembersHistory (v : JoiningValue) (s : PacketHistory) : Type 0 wher
   pub repeat : v.has_repeat ≡ s.has_repeat
   pub jump : v.has_jump ≡ s.has_jump
   pub lost : v.has_break ≡ (s.has_unusable_packet || s.has_loss)
-  pub no_output_after_wrong : s.has_unusable_packet ≡ true → gave_pes_packet v.given ≡ false
+  pub no_pes_packet_after_unusable : s.has_unusable_packet ≡ true → gave_pes_packet v.given ≡ false
   pub none : s.good ≡ None → gave_pes_packet v.given ≡ false
   pub last : RemembersLast v s.good
 
@@ -431,7 +431,7 @@ pub joining_agrees_with_events : (v : JoiningValue) (s : PacketHistory) (all : L
 unfolding later_output good_packets_after
 joining_agrees_with_events v s [] k sound = last_event_ends_output (has_ended v.part)
     s.has_unusable_packet (gave_pes_packet v.given)
-    k.no_output_after_wrong
+    k.no_pes_packet_after_unusable
 joining_agrees_with_events v s (Wrong ∷ more) k sound =
     let history : PacketHistory = record s { has_unusable_packet = true } in
     let after : JoiningValue =
@@ -441,7 +441,7 @@ joining_agrees_with_events v s (Wrong ∷ more) k sound =
       repeat = k.repeat;
       jump = k.jump;
       lost = refl;
-      no_output_after_wrong = λ _. gap_ends_packet_output v.given;
+      no_pes_packet_after_unusable = λ _. gap_ends_packet_output v.given;
       none = λ _. gap_ends_packet_output v.given;
       last = last_good_unchanged v after s.good refl refl refl k.last;
     } in
@@ -460,7 +460,7 @@ joining_agrees_with_events v s (Loss ∷ more) k sound =
       repeat = k.repeat;
       jump = k.jump;
       lost = sym (disjunction_with_true s.has_unusable_packet);
-      no_output_after_wrong = k.no_output_after_wrong;
+      no_pes_packet_after_unusable = k.no_pes_packet_after_unusable;
       none = k.none;
       last = last_good_unchanged v after s.good refl refl refl k.last;
     } in
@@ -483,7 +483,7 @@ joining_agrees_with_events v s (Valid p ∷ more) k sound =
       repeat = refl;
       jump = k.jump;
       lost = k.lost;
-      no_output_after_wrong = k.no_output_after_wrong;
+      no_pes_packet_after_unusable = k.no_pes_packet_after_unusable;
       none = k.none;
       last = last_good_unchanged v repeated s.good refl refl refl k.last;
     }) sound.1))
@@ -493,7 +493,7 @@ joining_agrees_with_events v s (Valid p ∷ more) k sound =
       repeat = fresh.repeat_is_cleared;
       jump = fresh.jump_is_cleared;
       lost = fresh.break_is_cleared;
-      no_output_after_wrong = λ e. absurd cc;
+      no_pes_packet_after_unusable = λ e. absurd cc;
       none = λ e. absurd cc;
       last = (fresh.is_last_packet, sound.0 some);
     }) sound.1)))
@@ -503,7 +503,7 @@ joining_agrees_with_events v s (Valid p ∷ more) k sound =
       repeat = k.repeat;
       jump = ap (λ (b : Bool). b || announces_jump p) k.jump;
       lost = k.lost;
-      no_output_after_wrong = k.no_output_after_wrong;
+      no_pes_packet_after_unusable = k.no_pes_packet_after_unusable;
       none = k.none;
       last = last_good_unchanged v jumped s.good refl refl refl k.last;
     }) sound.1))

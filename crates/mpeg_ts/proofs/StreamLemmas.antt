@@ -105,9 +105,9 @@ event_gives_later_output : (j : JoiningValue) (n : PidEvent) (more : List PidEve
     → later_output (without_pending j) (n ∷ more)
     ≡ (after_pid_event j n).pending ++ later_output (without_pending (after_pid_event j n)) more
 unfolding later_output
-event_gives_later_output j n more part_is_open idle =
+event_gives_later_output j n more not_ended idle =
     let same : without_pending j ≡ j = ap (λ (l : List ℕ). record j { pending = l }) (sym idle) in
-    rw part_is_open (ap (λ (v : JoiningValue).
+    rw not_ended (ap (λ (v : JoiningValue).
     (after_pid_event v n).pending ++ later_output (without_pending (after_pid_event v n)) more)
     same)
 
@@ -170,14 +170,14 @@ pub stream_outputs_packet : (distance number run : ℕ) (in_step : Bool) (j : Jo
     (drop distance bytes)
     ≡ stream_output distance number run in_step j bytes
 unfolding stream_output pid_events
-stream_outputs_packet distance number run in_step j bytes far many begins part_is_open idle =
+stream_outputs_packet distance number run in_step j bytes far many begins not_ended idle =
     let rest = drop distance bytes in
     let more = pid_events distance number 0 (items distance true (length rest) rest) in
     sym (ap (λ l. l ++ later_output (without_pending j)
     (pid_events distance number run (items distance in_step (length bytes) bytes))) idle
     ∙ ap (λ l. later_output (without_pending j) (pid_events distance number run l))
     (packet_is_first_of_all distance in_step bytes far many begins)
-    ∙ packet_event_gives_output distance number (take packet_size bytes) j more part_is_open idle)
+    ∙ packet_event_gives_output distance number (take packet_size bytes) j more not_ended idle)
 
 skipped_bytes_give_output : (distance run : ℕ) (j : JoiningValue) (more : List PidEvent)
     → has_ended j.part ≡ false
@@ -203,14 +203,14 @@ pub stream_skips_byte : (distance number run : ℕ) (in_step : Bool) (j : Joinin
     → stream_output distance number (run + 1) false (after_skipped distance run j) (drop 1 bytes)
     ≡ stream_output distance number run in_step j bytes
 unfolding stream_output pid_events
-stream_skips_byte distance number run in_step j bytes far many skips part_is_open idle =
+stream_skips_byte distance number run in_step j bytes far many skips not_ended idle =
     let rest = drop 1 bytes in
     let more = pid_events distance number (run + 1) (items distance false (length rest) rest) in
     sym (ap (λ l. l ++ later_output (without_pending j)
     (pid_events distance number run (items distance in_step (length bytes) bytes))) idle
     ∙ ap (λ l. later_output (without_pending j) (pid_events distance number run l))
     (skipped_byte_comes_first distance in_step bytes far many skips)
-    ∙ skipped_bytes_give_output distance run j more part_is_open idle)
+    ∙ skipped_bytes_give_output distance run j more not_ended idle)
 
 junk_byte_is_skipped : (distance number run : ℕ) (j : JoiningValue) (x : ℕ) (rest : List ℕ)
     → 188 ≤ distance
@@ -220,7 +220,7 @@ junk_byte_is_skipped : (distance number run : ℕ) (j : JoiningValue) (x : ℕ) 
     → j.pending ≡ []
     → stream_output distance number (run + 1) false j rest
     ≡ stream_output distance number run false j (x ∷ rest)
-junk_byte_is_skipped distance number run j x rest far other no_hole part_is_open idle =
+junk_byte_is_skipped distance number run j x rest far other no_hole not_ended idle =
     boolean_cases (nat_lt (length (x ∷ rest)) 188)
     (λ lt. let short : length (x ∷ rest) < 188 = grind (arith, nat_tests) in
     short_stream_outputs_nothing distance number (run + 1) false j rest (omega (arith, short)) idle
@@ -229,7 +229,7 @@ junk_byte_is_skipped distance number run j x rest far other no_hole part_is_open
     let begins : begins_packet distance false (x ∷ rest) ≡ false = grind (arith, nat_tests) in
     let same : after_skipped distance run j ≡ j = grind (arith, nat_tests) in
     ap (λ (k : JoiningValue). stream_output distance number (run + 1) false k rest) (sym same)
-    ∙ stream_skips_byte distance number run false j (x ∷ rest) far long begins part_is_open idle)
+    ∙ stream_skips_byte distance number run false j (x ∷ rest) far long begins not_ended idle)
 
 take-one : (at : ℕ) (bytes rest : List ℕ)
     → at < length bytes
@@ -251,7 +251,7 @@ pub junk_run_is_skipped : (distance number run at : ℕ) (j : JoiningValue) (byt
     ≡ stream_output distance number run false j (take at bytes ++ more))
     → stream_output distance number (run + (at + 1)) false j rest
     ≡ stream_output distance number run false j (take (at + 1) bytes ++ rest)
-junk_run_is_skipped distance number run at j bytes rest far within other room part_is_open idle
+junk_run_is_skipped distance number run at j bytes rest far within other room not_ended idle
     before =
     let not_last : (run + at) + 1 ≡ loss_size distance → ⊥ =
     λ last. order_cases run (loss_size distance)
@@ -262,7 +262,7 @@ junk_run_is_skipped distance number run at j bytes rest far within other room pa
     let next : suc at ≡ at + 1 = omega arith in
     ap (λ (n : ℕ). stream_output distance number n false j rest) sum
     ∙ junk_byte_is_skipped distance number (run + at) j (slice_index bytes at) rest far other
-    not_last part_is_open
+    not_last not_ended
     idle
     ∙ before (slice_index bytes at ∷ rest) there
     ∙ ap (stream_output distance number run false j) (sym (take-one at bytes rest within)
@@ -488,7 +488,7 @@ pub packet_advances_stream : (v w : StreamValue) (bytes : List ℕ)
     → bytes_ahead w bytes ≡ drop v.distance (bytes_ahead v bytes)
     → begins_packet v.distance v.in_step (bytes_ahead v bytes) ≡ true
     → output_of w bytes ≡ output_of v bytes
-packet_advances_stream v w bytes far there part_is_open idle distance number run step joining ahead
+packet_advances_stream v w bytes far there not_ended idle distance number run step joining ahead
     begins =
     let same = ap (λ (p : List ℕ). after_packet v.number p v.joining) (take-ahead v bytes there) in
     ap (λ (n : ℕ). stream_output n w.number w.run w.in_step w.joining (bytes_ahead w bytes))
@@ -503,7 +503,7 @@ packet_advances_stream v w bytes far there part_is_open idle distance number run
     ∙ ap (stream_output v.distance v.number 0 true
     (after_packet v.number (take 188 (bytes_ahead v bytes)) v.joining)) ahead
     ∙ stream_outputs_packet v.distance v.number v.run v.in_step v.joining (bytes_ahead v bytes) far
-    (bytes_ahead_hold_packet v bytes there) begins part_is_open idle
+    (bytes_ahead_hold_packet v bytes there) begins not_ended idle
 
 -- Skipping a byte that belongs to no packet does not change the output still to be returned.
 pub skipping_advances_stream : (v w : StreamValue) (bytes : List ℕ)
@@ -562,12 +562,12 @@ pub skipping_keeps_pending : (distance run : ℕ) (j : JoiningValue)
 skipping_keeps_pending distance run j = boolean_cases (run + 1 == loss_size distance)
     (λ yes. rw yes refl) (λ no. rw no refl)
 
-pub skipping_keeps_part_open : (distance run : ℕ) (j : JoiningValue)
+pub skipping_keeps_has_ended : (distance run : ℕ) (j : JoiningValue)
     → has_ended (after_skipped distance run j).part ≡ has_ended j.part
-skipping_keeps_part_open distance run j = boolean_cases (run + 1 == loss_size distance)
+skipping_keeps_has_ended distance run j = boolean_cases (run + 1 == loss_size distance)
     (λ yes. rw yes refl) (λ no. rw no refl)
 
-pub ruleset skips = (skipping_advances_stream, skipping_keeps_pending, skipping_keeps_part_open)
+pub ruleset skips = (skipping_advances_stream, skipping_keeps_pending, skipping_keeps_has_ended)
 
 pub ruleset junk = (junk_run_is_skipped, junk_changes_no_output)
 
@@ -697,7 +697,7 @@ other_pid_unit_is_skipped : (distance number : ℕ) (j : JoiningValue) (unit res
     → j.pending ≡ []
     → stream_output distance number 0 true j rest
     ≡ stream_output distance number 0 true j (unit ++ rest)
-other_pid_unit_is_skipped distance number j unit rest near long sync other part_is_open idle =
+other_pid_unit_is_skipped distance number j unit rest near long sync other not_ended idle =
     let all = unit ++ rest in
     let byte : (i : ℕ) → i < 188 → slice_index (take 188 all) i ≡ slice_index unit i =
     λ i lt. get_or-take 188 all i 0 lt ∙ index-append i unit rest (omega (arith, long)) in
@@ -716,7 +716,7 @@ other_pid_unit_is_skipped distance number j unit rest near long sync other part_
     (sym (ap (λ (b : Bool). if b then after_pid_event j (event_of_packet (take 188 all)) else j)
     none))
     ∙ stream_outputs_packet distance number 0 true j all near
-    (omega (arith, long, length-append unit rest)) begins part_is_open idle
+    (omega (arith, long, length-append unit rest)) begins not_ended idle
   where
     unequal_numbers_compare_false : (m n : ℕ) → (m ≡ n → ⊥) → (m == n) ≡ false
     unequal_numbers_compare_false m n differ = grind (arith, nat_tests)
@@ -733,7 +733,7 @@ pub unit_at_place_is_skipped : (distance number from at : ℕ) (j : JoiningValue
     ≡ stream_output distance number 0 true j (drop from (take at bytes ++ more)))
     → stream_output distance number 0 true j rest
     ≡ stream_output distance number 0 true j (drop from (take (at + distance) bytes ++ rest))
-unit_at_place_is_skipped distance number from at j bytes rest near within sync other part_is_open
+unit_at_place_is_skipped distance number from at j bytes rest near within sync other not_ended
     idle before =
     let unit = take distance (drop at bytes) in
     let long : length unit ≡ distance =
@@ -744,7 +744,7 @@ unit_at_place_is_skipped distance number from at j bytes rest near within sync o
     ap (λ (n : ℕ). n % 0x20 * 0x100 + slice_index unit 2) (byte 1 (omega arith))
     ∙ ap (λ (n : ℕ). slice_index (drop at bytes) 1 % 0x20 * 0x100 + n) (byte 2 (omega arith)) in
     other_pid_unit_is_skipped distance number j unit rest near long (byte 0 (omega arith) ∙ sync)
-    (λ e. other (sym same ∙ e)) part_is_open idle
+    (λ e. other (sym same ∙ e)) not_ended idle
     ∙ before (unit ++ rest)
     ∙ ap (λ (l : List ℕ). stream_output distance number 0 true j (drop from l))
     (sym (append_assoc (take at bytes) unit rest)
@@ -779,7 +779,7 @@ unit_of_pid_is_noted : (distance number : ℕ) (j : JoiningValue) (unit rest p :
     → j.pending ≡ []
     → stream_output distance number 0 true (after_packet number p j) rest
     ≡ stream_output distance number 0 true j (unit ++ rest)
-unit_of_pid_is_noted distance number j unit rest p near size packet sync part_is_open idle =
+unit_of_pid_is_noted distance number j unit rest p near size packet sync not_ended idle =
     let heads : take 188 (unit ++ rest) ≡ p =
     take-append-le 188 unit rest (omega (arith, size)) ∙ sym packet in
     let begins : begins_packet distance true (unit ++ rest) ≡ true =
@@ -792,7 +792,7 @@ unit_of_pid_is_noted distance number j unit rest p near size packet sync part_is
     ∙ ap (λ (l : List ℕ). stream_output distance number 0 true (after_packet number l j)
     (drop distance (unit ++ rest))) (sym heads)
     ∙ stream_outputs_packet distance number 0 true j (unit ++ rest) near
-    (omega (arith, size, length-append unit rest)) begins part_is_open idle
+    (omega (arith, size, length-append unit rest)) begins not_ended idle
 
 -- Skipping packets of other PIDs in the source's buffer, and processing one of the PID, does not
 -- change the output still to be returned.
@@ -818,7 +818,7 @@ pub borrowed_packet_is_output : (v w : StreamValue) (borrowed p bytes : List ℕ
     }
     → output_of w bytes ≡ output_of v (take count borrowed ++ bytes)
 borrowed_packet_is_output v w borrowed p bytes place count sum fits none few step run near packet
-    sync part_is_open idle
+    sync not_ended idle
     others is =
     let long : length (take count borrowed) ≡ count = length-take-le count borrowed fits in
     ap (λ (u : StreamValue). output_of u bytes) is
@@ -845,7 +845,7 @@ borrowed_packet_is_output v w borrowed p bytes place count sum fits none few ste
         packet ∙ sym (take-take 188 v.distance (drop place borrowed) near) in
         rw (step, run)
         (unit_of_pid_is_noted v.distance v.number v.joining unit rest p near size prefix sync
-        part_is_open idle
+        not_ended idle
         ∙ others (unit ++ rest)
         ∙ ap (λ (l : List ℕ). stream_output v.distance v.number 0 true v.joining (drop v.lead l))
         (sym (append_assoc (take place borrowed) unit rest)

@@ -180,7 +180,7 @@ impl Stream {
     fn take_packet(&mut self)
         requires there { self.old.lead + 188 ≤ length self.old.window.buffered }
         requires idle { self.old.joining.pending ≡ [] }
-        requires part_is_open { has_ended self.old.joining.part ≡ false }
+        requires not_ended { has_ended self.old.joining.part ≡ false }
         ensures gives { (bytes : List ℕ)
             → begins_packet self.old.distance self.old.in_step (bytes_ahead self.old bytes) ≡ true
             → output_of self.new bytes ≡ output_of self.old bytes }
@@ -225,12 +225,12 @@ impl Stream {
     fn skip(&mut self)
         requires there { self.old.lead + 188 ≤ length self.old.window.buffered }
         requires idle { self.old.joining.pending ≡ [] }
-        requires part_is_open { has_ended self.old.joining.part ≡ false }
+        requires not_ended { has_ended self.old.joining.part ≡ false }
         ensures gives { (bytes : List ℕ)
             → begins_packet self.old.distance self.old.in_step (bytes_ahead self.old bytes) ≡ false
             → output_of self.new bytes ≡ output_of self.old bytes }
         ensures idle { self.new.joining.pending ≡ [] }
-        ensures part_is_open { has_ended self.new.joining.part ≡ false }
+        ensures not_ended { has_ended self.new.joining.part ≡ false }
         ensures out { self.new.in_step ≡ false }
         ensures fewer { bytes_at_most self.new < bytes_at_most self.old }
     {
@@ -256,7 +256,7 @@ impl Stream {
     #[tactic(auto, using(crate::proofs::StreamLemmas::junk))]
     fn skip_junk(&mut self)
         requires idle { self.old.joining.pending ≡ [] }
-        requires part_is_open { has_ended self.old.joining.part ≡ false }
+        requires not_ended { has_ended self.old.joining.part ≡ false }
         requires out { self.old.in_step ≡ false }
         ensures gives { (bytes : List ℕ) → output_of self.new bytes ≡ output_of self.old bytes }
         ensures most { bytes_at_most self.new ≤ bytes_at_most self.old }
@@ -286,7 +286,7 @@ impl Stream {
     fn step<S: Source>(&mut self, source: &mut S) -> Result<bool, Failed>
         requires count { CanFail (S.failure_count source.old) }
         requires idle { self.old.joining.pending ≡ [] }
-        requires part_is_open { has_ended self.old.joining.part ≡ false }
+        requires not_ended { has_ended self.old.joining.part ≡ false }
         ensures takes { TakesPrefix (output_of self.old) (output_of self.new)
             (S.remaining source.old) (S.remaining source.new) }
         ensures cut { is_ok result ≡ false → output_of self.new [] ≡ [] }
@@ -318,7 +318,7 @@ impl Stream {
     fn take_borrowed<S: Source>(&mut self, source: &mut S) -> bool
         requires count { CanFail (S.failure_count source.old) }
         requires idle { self.old.joining.pending ≡ [] }
-        requires part_is_open { has_ended self.old.joining.part ≡ false }
+        requires not_ended { has_ended self.old.joining.part ≡ false }
         ensures kept { TakesPrefix (output_of self.old) (output_of self.new)
             (S.remaining source.old) (S.remaining source.new)
             × Requests S.is_pull S.borrowed S.remaining

@@ -37,11 +37,11 @@ none-left [] none = refl
 none-left (f ∷ fs) none = absurd (cc)
 
 -- A damaged TS packet has the same sync byte and size, so a reader still finds it.
-is_damaged_before_copy-unit : (distance number : ℕ) (unit other : List ℕ)
+damaged_unit_is_recorded_unit : (distance number : ℕ) (unit other : List ℕ)
     → IsRecordedUnit distance unit
     → IsDamagedUnit distance number unit other
     → IsRecordedUnit distance other
-is_damaged_before_copy-unit distance number unit other h1 h2 = grind (arith, nat_tests)
+damaged_unit_is_recorded_unit distance number unit other h1 h2 = grind (arith, nat_tests)
 
 left-unit : (distance number : ℕ) (unit : List ℕ) (fate : UnitFate) (sent left : List (List ℕ))
     → IsPossibleFate distance number unit fate
@@ -51,7 +51,7 @@ left-unit : (distance number : ℕ) (unit : List ℕ) (fate : UnitFate) (sent le
     → AreRecordedUnits distance left
     → AreRecordedUnits distance (recorded_bytes_of_unit unit fate ++ left)
 left-unit distance number unit fate sent left h1 h2 h3 h4 h5 =
-    grind (arith, nat_tests, is_damaged_before_copy-unit)
+    grind (arith, nat_tests, damaged_unit_is_recorded_unit)
 
 left-units : (distance number : ℕ) (fs : List SentUnit)
     → AreRecordedUnits distance (map (λ (f : SentUnit). f.unit) fs)

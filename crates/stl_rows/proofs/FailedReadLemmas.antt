@@ -48,10 +48,10 @@ block-is : (bytes more : List ℕ) (from to : ℕ)
     → to ≡ block_of_byte (length (bytes ++ more))
 block-is bytes more from to long at = grind (arith, nat_tests, length-append bytes more)
 
-frames_before_start_are_decided-0 : (all : List LoadFault) → filter (is_reported_before 0) all ≡ []
-frames_before_start_are_decided-0 [] = refl
-frames_before_start_are_decided-0 (f ∷ fs) = grind
-    (arith, nat_tests, frames_before_start_are_decided-0 fs)
+no_fault_before_block_0 : (all : List LoadFault) → filter (is_reported_before 0) all ≡ []
+no_fault_before_block_0 [] = refl
+no_fault_before_block_0 (f ∷ fs) = grind
+    (arith, nat_tests, no_fault_before_block_0 fs)
 
 -- If the source fails while a subtitle is read, exactly the faults of earlier blocks have been
 -- reported.
@@ -96,6 +96,6 @@ pub reads-nothing : (drawing : Drawing) (file : List ℕ)
 reads-nothing drawing file reported = grind (
   arith,
   nat_tests,
-  frames_before_start_are_decided-0,
+  no_fault_before_block_0,
   Reports-none,
 )

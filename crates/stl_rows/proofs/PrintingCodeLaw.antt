@@ -31,7 +31,7 @@ use Rattle.stl_rows.specs.TextCode.{first_of, is_common, lines_of_codes, lines_w
 use Rattle.stl_rows.proofs.FaultlessLemmas.{empty_append_has_empty_parts, empty_map_has_empty_list}
 use Rattle.stl_rows.proofs.LaidOutLemmas.{drawn_by-lines, no_line_above_first}
 use Rattle.stl_rows.proofs.LaidOutLemmas.{shift_of_subtitle, faultless_lines_are_on_page}
-use Rattle.stl_rows.proofs.PrintingCodeLemmas.{printing_codes-lines, printed_part-boxed_line}
+use Rattle.stl_rows.proofs.PrintingCodeLemmas.{printing_codes-lines, printed_part-prepared}
 use Rattle.stl_rows.proofs.PrintingCodeLemmas.{printed_part-row}
 
 abbrev cells_of : List PlacedLine → List (List ℕ)
@@ -272,20 +272,20 @@ module _ (items : LayoutItems) (jc row_shift : ℕ) where
       ]
 
 -- The lines that take a row have the printable characters of all lines.
-printed_part-subtitles_before_or_after : (items : LayoutItems) (number depth : ℕ) (under : Bool)
+printed_part-placed : (items : LayoutItems) (number depth : ℕ) (under : Bool)
     (lines : List (List ℕ))
     → printed_lines (cells_of (placed_lines_from items number depth under lines)) ≡ printed_lines
     lines
-printed_part-subtitles_before_or_after items number depth under [] = refl
-printed_part-subtitles_before_or_after items number depth under (line ∷ lines) =
+printed_part-placed items number depth under [] = refl
+printed_part-placed items number depth under (line ∷ lines) =
     placing_splits_by_line items number depth under line lines
     (λ taken. printed_lines (cells_of taken) ≡ printed_lines (line ∷ lines))
     (takes_no_row items line) refl
-    (λ is. printed_part-subtitles_before_or_after items (number + 1) depth under lines
+    (λ is. printed_part-placed items (number + 1) depth under lines
     ∙ sym (printed_lines-empty line lines (skipped_line_has_no_cells items line is)))
     (λ is. printed_lines-cons line _ (printed_part line) refl
     ∙ ap (λ more. filter has_cells (printed_part line ∷ []) ++ more)
-    (printed_part-subtitles_before_or_after items (number + 1) (depth + pitch items)
+    (printed_part-placed items (number + 1) (depth + pitch items)
     (has_double_height line) lines)
     ∙ sym (printed_lines-cons line lines (printed_part line) refl))
 
@@ -295,7 +295,7 @@ printed_part-lines : (items : LayoutItems) (lines : List (List ℕ))
 printed_part-lines items [] = refl
 printed_part-lines items (line ∷ lines) =
     printed_lines-cons (prepared_by_layout items line) _ (printed_part line)
-    (printed_part-boxed_line items line)
+    (printed_part-prepared items line)
     ∙ ap (λ more. filter has_cells (printed_part line ∷ []) ++ more) (printed_part-lines items
     lines)
     ∙ sym (printed_lines-cons line lines (printed_part line) refl)
@@ -422,7 +422,7 @@ printed_part-drawn national items t page e =
     let first = first_depth items t.vp in
     ap printed_lines is.1
     ∙ page_shows_placed_lines items t.jc row_shift lines 0 first false is.0
-    ∙ printed_part-subtitles_before_or_after items 0 first false lines
+    ∙ printed_part-placed items 0 first false lines
     ∙ printed_part-lines items (lines_of_codes (codes_by_layout national items t.text))
 
 pub drawing_keeps_printing_codes : LawOfPrintingCodes

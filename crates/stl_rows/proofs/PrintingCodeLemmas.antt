@@ -188,10 +188,10 @@ printed_part-line_with_layout_codes items cells = grind (
 )
 
 -- The prepared form of a line has the same cells from the first printable cell to the last.
-pub printed_part-boxed_line : (items : LayoutItems) (cells : List ℕ)
+pub printed_part-prepared : (items : LayoutItems) (cells : List ℕ)
     → printed_part (prepared_by_layout items cells) ≡ printed_part cells
 unfolding prepared_by_layout
-printed_part-boxed_line items cells = grind (
+printed_part-prepared items cells = grind (
   arith,
   nat_tests,
   printed_part-line_with_layout_codes,

@@ -52,7 +52,7 @@ part_of_memory_file_is_read : (part : Part) (file : List ℕ) (left : Option (Li
     → IsSourceOf memory_observations part (Some file) left input
     → input.call.known ≡ bytes_in_range part.range (carried_bytes_if_stream part.stream (Some file))
 part_of_memory_file_is_read part file None input is = absurd is
-part_of_memory_file_is_read part file (Some left) input is = is.is_part.reported
+part_of_memory_file_is_read part file (Some left) input is = is.is_part.known
 
 same_status :
     (printed new : BufferedSinkState) (status result : Status)

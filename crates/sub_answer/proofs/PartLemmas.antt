@@ -35,7 +35,7 @@ module _ {D : Type 0} (remaining : D → Option (List ℕ)) (failure_count : D �
       → IsPartOf p remaining failure_count old left input
   range_of_file_is_part given following count before after p is stream gives leaves first
       last = record {
-        reported = rw stream (is.reported ∙ ap (bytes_in_range p.range) gives);
+        known = rw stream (is.known ∙ ap (bytes_in_range p.range) gives);
         number = rw stream (is.number ∙ ap (first_number_in_range p.range) gives);
         old_count = is.old_count ∙ first;
         new_count = is.new_count ∙ last;
@@ -52,7 +52,7 @@ module _ {D : Type 0} (remaining : D → Option (List ℕ)) (failure_count : D �
       → IsPartOf p remaining failure_count old left input
   range_of_stream_is_part given following count before after p s is stream carries first
       last = record {
-        reported = rw stream (is.reported ∙ ap (bytes_in_range p.range) carries);
+        known = rw stream (is.known ∙ ap (bytes_in_range p.range) carries);
         number = rw stream (is.number ∙ ap (first_number_in_range p.range) carries);
         old_count = is.old_count ∙ first;
         new_count = is.new_count ∙ last;
@@ -66,7 +66,7 @@ module _ {P : Type 0} (given following : P → Option (List ℕ)) (count : P →
       → input ≡ pes_packets_call given following count first skipped before after
       → IsRangeOf None given following count before after input
   all_pes_packets_are_range first skipped start is = record {
-    reported = ap (λ (i : InputCall). i.call.known) is;
+    known = ap (λ (i : InputCall). i.call.known) is;
     number = ap (λ (i : InputCall). i.number.known) is ∙ start;
     old_count = ap (λ (i : InputCall). i.call.old_count) is;
     new_count = ap (λ (i : InputCall). i.call.new_count) is;
@@ -80,8 +80,8 @@ module _ {P : Type 0} (given following : P → Option (List ℕ)) (count : P →
       → part.call.old_count ≡ count before
       → part.call.new_count ≡ count after
       → IsRangeOf (Some r) given following count before after input
-  selected_pes_packets_are_range part r is reported number old_count new_count = record {
-    reported = ap (λ (i : InputCall). i.call.known) is ∙ reported;
+  selected_pes_packets_are_range part r is known number old_count new_count = record {
+    known = ap (λ (i : InputCall). i.call.known) is ∙ known;
     number = ap (λ (i : InputCall). i.number.known) is ∙ number;
     old_count = ap (λ (i : InputCall). i.call.old_count) is ∙ old_count;
     new_count = ap (λ (i : InputCall). i.call.new_count) is ∙ new_count;

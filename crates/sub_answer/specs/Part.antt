@@ -26,19 +26,19 @@ part_requested _ = entire_file
 -- The bytes of the complete PES packets that the selected transport packets carry, with gap markers
 -- where data is missing; or the bytes of the file if no transport packets are selected.
 abbrev pub carried_bytes_if_stream : Option TransportStream → Option (List ℕ) → Option (List ℕ)
-carried_bytes_if_stream None reported = reported
-carried_bytes_if_stream (Some s) reported = option_map
-    (carried_bytes s.pid (bytes_of s.packet_size)) reported
+carried_bytes_if_stream None known_bytes = known_bytes
+carried_bytes_if_stream (Some s) known_bytes = option_map
+    (carried_bytes s.pid (bytes_of s.packet_size)) known_bytes
 
 -- The bytes of the PES packets in a range, or all bytes if no range is selected.
 abbrev pub bytes_in_range : Option PesPacketRangeValue → Option (List ℕ) → Option (List ℕ)
-bytes_in_range None reported = reported
-bytes_in_range (Some r) reported = option_map (range_bytes r) reported
+bytes_in_range None known_bytes = known_bytes
+bytes_in_range (Some r) known_bytes = option_map (range_bytes r) known_bytes
 
 -- The number of the first selected PES packet in the file or the stream.
 abbrev pub first_number_in_range : Option PesPacketRangeValue → Option (List ℕ) → Option ℕ
-first_number_in_range None reported = Some 0
-first_number_in_range (Some r) reported = option_map (first_index r) reported
+first_number_in_range None known_bytes = Some 0
+first_number_in_range (Some r) known_bytes = option_map (first_index r) known_bytes
 
 -- The input is the part `part` of the source `whole`, and the call leaves this source in the state
 -- `left`. The source is given by the functions for its remaining bytes and its number of failed
@@ -47,7 +47,7 @@ pub record IsPartOf
     {D : Type 0} (part : Part) (remaining : D → Option (List ℕ)) (failure_count : D → ℕ)
     (whole left : D) (input : InputCall)
     : Type 0 where
-  pub reported :
+  pub known :
       input.call.known
       ≡ bytes_in_range part.range (carried_bytes_if_stream part.stream (remaining whole))
   pub number :
@@ -66,7 +66,7 @@ pub record IsRangeOf
     {D : Type 0} (range : Option PesPacketRangeValue) (remaining left : D → Option (List ℕ))
     (failure_count : D → ℕ) (old new : D) (input : InputCall)
     : Type 0 where
-  pub reported : input.call.known ≡ bytes_in_range range (remaining old)
+  pub known : input.call.known ≡ bytes_in_range range (remaining old)
   pub number : input.number.known ≡ first_number_in_range range (remaining old)
   pub old_count : input.call.old_count ≡ failure_count old
   pub new_count : input.call.new_count ≡ failure_count new

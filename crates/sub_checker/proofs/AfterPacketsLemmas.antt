@@ -105,7 +105,7 @@ module _ (g : Criteria) (frames : Transmission) (n : ℕ) (last ps : List (List 
         (repeat_deadline_test_is_updated (nat_le (frame_at frames 0 + g.every) (f + 1))
         (list_any (has_recent_header g f) (take n frames)) (nat_lt 0 hears.headers)
         c.repeat_deadline c.frame c.every f
-        (arrives.has_pending.begun.late_eq f))
+        (arrives.has_pending.begun.gap_eq f))
 
     pub state_after_packets : (e : CheckerValue) → e ≡ record here {
       counts = record here.counts { frames = suc n };
@@ -115,7 +115,7 @@ module _ (g : Criteria) (frames : Transmission) (n : ℕ) (last ps : List (List 
           known = assumption checker_remembers_next_frame;
           begun = record {
             first_is = arrives.has_pending.begun.first_is;
-            late_eq = gap_test_follows_deadline;
+            gap_eq = gap_test_follows_deadline;
           };
           active_faults_eq = arrives.has_pending.active_faults_eq;
           last_is = arrives.has_pending.last_is;
@@ -218,7 +218,7 @@ module _ (g : Criteria) (frames : Transmission) (n : ℕ) (last : List (List ℕ
       checker_follows_next_frame = record {
         known = assumption is.known;
         none = λ e. absurd (omega (arith, e));
-        begun = λ l. record { first_is = is.begun.first_is; late_eq = is.begun.late_eq };
+        begun = λ l. record { first_is = is.begun.first_is; gap_eq = is.begun.gap_eq };
         latest_is = λ l. is.latest_is;
         active_faults_eq = λ l. checker_faults_are_frame_faults ∙ ap (λ (k : ℕ). active_faults_at g
             frames

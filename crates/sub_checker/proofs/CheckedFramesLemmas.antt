@@ -197,7 +197,7 @@ module _ (g : Criteria) (frames : Transmission) (n f : ℕ) (last : List (List �
       known = assumption next_checker_remembers_frames;
       begun = record {
         first_is = next_checker_has_started.first_is;
-        late_eq = next_checker_has_started.late_eq;
+        gap_eq = next_checker_has_started.gap_eq;
       };
       active_faults_eq = grind (
         arith,
@@ -320,7 +320,7 @@ AfterEnd-prefix g done more last c follows =
           let begun = follows.begun l in
           record {
             first_is = begun.first_is ∙ sym (frame_at-prefix g g.unread done more 0 l);
-            late_eq = λ f. gap_test_depends_on_prefix g done more f l ∙ begun.late_eq f;
+            gap_eq = λ f. gap_test_depends_on_prefix g done more f l ∙ begun.gap_eq f;
           };
       latest_is = λ l.
           follows.latest_is l ∙ sym (latest_frame-prefix g g.unread done more n (omega arith));

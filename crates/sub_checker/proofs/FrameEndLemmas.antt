@@ -228,7 +228,7 @@ module _ (g : Criteria) (frames : Transmission) (i n f : ℕ) (last : List (List
           unexpected_cell_is_exact,
           undecided_test_is_exact,
           incomplete_test_is_exact,
-          begun.late_eq f,
+          begun.gap_eq f,
           at,
         ) refl
 

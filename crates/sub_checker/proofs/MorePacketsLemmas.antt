@@ -161,7 +161,7 @@ module _ (g : Criteria) (sent : Transmission) (n : ℕ) (last ps : List (List �
         (repeat_deadline_test_is_updated (nat_le (frame_at sent 0 + g.every) (f + 1))
         (list_any (has_recent_header g f) (take (suc n) sent)) (nat_lt 0 hears.headers)
         c.repeat_deadline c.frame
-        c.every f (is.begun.late_eq f))
+        c.every f (is.begun.gap_eq f))
 
     added_packets_are_heard : (e : CheckerValue) (k : ℕ)
         → e ≡ record here { counts = record here.counts { packets = k } }
@@ -172,7 +172,7 @@ module _ (g : Criteria) (sent : Transmission) (n : ℕ) (last ps : List (List �
           known = assumption checker_remembers_next_frame;
           begun = record {
             first_is = is.begun.first_is ∙ sym (at 0);
-            late_eq = gap_test_follows_deadline;
+            gap_eq = gap_test_follows_deadline;
           };
           active_faults_eq =
               is.active_faults_eq

@@ -47,7 +47,7 @@ pub record AgreesWithPackets
 pub record HasStarted (g : Criteria) (frames : Transmission) (n : ℕ) (c : CheckerValue) : Type 0
   where
     pub first_is : c.first ≡ frame_at frames 0
-    pub late_eq : (f : ℕ) → is_gap g frames n f ≡ nat_le c.repeat_deadline (f + 1)
+    pub gap_eq : (f : ℕ) → is_gap g frames n f ≡ nat_le c.repeat_deadline (f + 1)
 
 -- The state of the checker after the end of the first n frames of the transmission.
 pub record AfterEnd

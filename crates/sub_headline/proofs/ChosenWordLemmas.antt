@@ -614,15 +614,15 @@ options_allow_no_delay_or_keeping parts =
     (m.within_option_is_zero, m.keeps_is_false)
 
 -- After the name of a command, all words are arguments of this command.
-finished_walk_ignores_words : (c : List Rule) (names : Names) (name : Text)
+finished_walk_collects_words : (c : List Rule) (names : Names) (name : Text)
     (arguments more : List Text) (w : Walk)
     → w.stopped ≡ Some (name, arguments)
     → (fold (walked c names) w more).stopped ≡ Some (name, arguments ++ more)
 unfolding walked
-finished_walk_ignores_words c names name arguments [] w is =
+finished_walk_collects_words c names name arguments [] w is =
     is ∙ ap (λ (ws : List Text). Some (name, ws)) (sym (append-nil arguments))
-finished_walk_ignores_words c names name arguments (word ∷ more) w is =
-    finished_walk_ignores_words c names name (arguments ++ word ∷ []) more (walked c names w word)
+finished_walk_collects_words c names name arguments (word ∷ more) w is =
+    finished_walk_collects_words c names name (arguments ++ word ∷ []) more (walked c names w word)
     (ap (λ s. (walked_from c names s w word).stopped) is)
     ∙ ap (λ (ws : List Text). Some (name, ws)) (append_assoc arguments (word ∷ []) more)
 
@@ -635,7 +635,7 @@ program_name_gives_command : (program : Text) (more : List Text)
 unfolding command_in subttx_app clap_on_literals
 program_name_gives_command program more =
     ap (entered entire_app)
-    (finished_walk_ignores_words entire_app.top.rules (names_of entire_app) (codes "check") [] more
+    (finished_walk_collects_words entire_app.top.rules (names_of entire_app) (codes "check") [] more
     (walked entire_app.top.rules (names_of entire_app) (walk_from nothing_held) (codes "check"))
     refl)
 

@@ -135,7 +135,7 @@ module _ (v : PesValue) (p : List ℕ) (h : IsValidPesPacket v p) where
       ∙ ap (drop 32) (sym (append_assoc h.header_stuffing (h.data_identifier ∷ []) h.data_units))
       ∙ drop_at (h.header_stuffing ++ h.data_identifier ∷ []) h.data_units 32
       (length-append h.header_stuffing (h.data_identifier ∷ []) ∙ omega
-      (arith, h.header_length_is_31))
+      (arith, h.header_stuffing_length_is_31))
 
 abbrev sent_frame_with : ℕ → List (List ℕ) → SentFrame
 sent_frame_with frame packets = record { frame = frame; packets = packets }

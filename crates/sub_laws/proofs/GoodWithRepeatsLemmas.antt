@@ -121,9 +121,9 @@ module _ (programme : ProgrammeValue) (transmission : Transmission) (options : O
 
     -- A good transmission is also good with any `within`, if its pages are complete or complete
     -- pages are not required.
-    pub good_transmission_is_good_without_delay : GoodWithRepeats false programme transmission
+    pub good_transmission_is_good_with_any_delay : GoodWithRepeats false programme transmission
         options
-    good_transmission_is_good_without_delay = record {
+    good_transmission_is_good_with_any_delay = record {
       rules = rules_by programme transmission options good.rules;
       codes = λ f row column low high named.
           inr (
@@ -188,7 +188,7 @@ module _ (programme : ProgrammeValue) (transmission : Transmission) (options : O
 pub law_of_no_delay : LawOfNoDelay
 law_of_no_delay programme transmission options is none = (
   good_at_once programme transmission options none,
-  λ good. good_transmission_is_good_without_delay programme transmission options is good.0 good.1,
+  λ good. good_transmission_is_good_with_any_delay programme transmission options is good.0 good.1,
 )
 
 pub law_of_plan_repeats : LawOfPlanRepeats
@@ -196,7 +196,7 @@ law_of_plan_repeats keeps programme options serial is some ok slow = go keeps
   where
     good : GoodWithRepeats false programme (planned programme options serial) options
     good =
-        good_transmission_is_good_without_delay programme _ options is
+        good_transmission_is_good_with_any_delay programme _ options is
         (law_of_plan programme options serial is some ok slow)
         (λ asks. law_of_complete_plan programme options serial is some ok)
 

@@ -37,7 +37,7 @@ use Rattle.sub_plan.proofs.SendingLemmas.{sending_has_sent_packets, sending_ends
 use Rattle.sub_plan.proofs.SendingLemmas.{law_of_cut_sendings, sending_holds_header}
 use Rattle.sub_plan.proofs.SendingLemmas.{sending_shows_the_page}
 use Rattle.sub_plan.proofs.ProgrammeLemmas.{no_first_tci_means_empty, plan_frames-is, span-rises}
-use Rattle.sub_plan.proofs.ProgrammeLemmas.{last_tco_of_first_tci}
+use Rattle.sub_plan.proofs.ProgrammeLemmas.{no_last_tco_means_empty}
 use Rattle.sub_plan.proofs.ProgrammeLemmas.{law_of_day}
 use Rattle.sub_rules.specs.Transmission.{SentFrame, Transmission, EachPacket, IsRising, first_frame}
 use Rattle.sub_rules.specs.Transmission.{last_frame, packets_between, packets_of, on_air_until}
@@ -346,7 +346,7 @@ plan_between_cues_is_good : (programme : ProgrammeValue) (o : OptionsValue) (ser
 plan_between_cues_is_good programme o serial None b h k is some ok = absurd
     (some (no_first_tci_means_empty programme.records h))
 plan_between_cues_is_good programme o serial (Some a) None h k is some ok = grind
-    (arith, nat_tests, last_tco_of_first_tci)
+    (arith, nat_tests, no_last_tco_means_empty)
 plan_between_cues_is_good programme o serial (Some a) (Some b) h k is some ok =
     let s = span-rises programme.drawing programme.records a b is h k in
     let order : a ≤ b = omega (arith, s.rises) in

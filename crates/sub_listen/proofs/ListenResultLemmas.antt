@@ -57,7 +57,7 @@ pub record ReachesPesPacket
   pub run :
       ReceivesPackets l leaves w old
       (packets_used_by l 0 (packets_before frames n)) now
-  pub part_number_is_first_index : number ≡ length (packets_before frames n)
+  pub number_is_first_index : number ≡ length (packets_before frames n)
   pub sent_count_is_current : sent ≡ sent_in_frame l.options.within frames n
   pub least_frame_is_current : least ≡ least_frame l.options.within frames n
 
@@ -212,7 +212,7 @@ module _
                 (Err (fault.LostHeader frame (before + place)))
             ends_lost before place first rises in_time lost =
                 let least_frame_is_current = reached.least_frame_is_current in
-                let part_number_is_first_index = reached.part_number_is_first_index in
+                let number_is_first_index = reached.number_is_first_index in
                 let before_eq = first_is before first in
                 reception_ends (Err (fault.LostHeader frame (before + place)))
                 (grind (arith, next.sent.there, next.sent.frame_eq, next.sent.packets_are))
@@ -230,7 +230,7 @@ module _
                 → ReachesPesPacket leaves l frames unread w old left (n + 1)
                 (number + length v.units)
                 (before + length v.units) (least_frame_after l.options.within frame) after
-            reaches_next before after first rises in_time whole left_eq run =
+            reaches_next before after first rises in_time no_forbidden_loss left_eq run =
                 let before_eq = first_is before first in
                 let frame_eq = next.sent.frame_eq in
                 let least_frame_is_current = reached.least_frame_is_current in
@@ -242,12 +242,12 @@ module _
                   there = there;
                   rises = omega arith;
                   in_time = omega arith;
-                  whole = grind (arith, next.sent.packets_are);
+                  no_forbidden_loss = grind (arith, next.sent.packets_are);
                 } in
                 let size = ap length more
                 ∙ length-append (packets_before frames n) (packets_of_units v.units) in
                 let units = length-map v.units (λ (u : UnitValue). u.packet) in
-                let part_number_is_first_index = reached.part_number_is_first_index in
+                let number_is_first_index = reached.number_is_first_index in
                 let place : 0 + length (packets_before frames n) ≡ number = omega arith in
                 record {
                   within = omega arith;
@@ -266,8 +266,8 @@ module _
                             (packets_of_units v.units),
                         place,
                       ) (RunsBy-append _ _ _ _ _ _ reached.run run);
-                  part_number_is_first_index = omega
-                      (arith, size, units, part_number_is_first_index);
+                  number_is_first_index = omega
+                      (arith, size, units, number_is_first_index);
                   sent_count_is_current =
                       ap (λ k. before + k) (sym units)
                       ∙ sent_next l.options.within frames n before (packets_of_units v.units)

@@ -87,7 +87,7 @@ pub record IsReceivedPesPacket (l : Listening) (frames : Transmission) (i : ℕ)
   pub there : i < length frames
   pub rises : least_frame l.options.within frames i ≤ frame_at frames i
   pub in_time : frame_at frames i ≤ l.at
-  pub whole :
+  pub no_forbidden_loss :
       first_forbidden_loss (reception_of l) (first_packet_number frames i)
       (packets_of_frame frames i)
       ≡ None

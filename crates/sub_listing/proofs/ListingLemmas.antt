@@ -42,14 +42,14 @@ use Rattle.sub_listing.specs.declared.status.Status.TheVariants.{Fault}
 
 -- The lines printed so far are the start of any listing that is still possible.
 pub record IsPrefix
-    (Before PreviousPes : ListingRelation)
+    (Before Remaining : ListingRelation)
     (reported left old now : Option (List ℕ))
     : Type 0 where
   pub text : List ℕ
   pub printed : Appends old now text
   pub listed :
       (end : Option (List ℕ)) (ending : Option Status) (more : Listing)
-      → PreviousPes left end ending more
+      → Remaining left end ending more
       → Before reported end ending (followed text more)
 
 pub prefix-none :
@@ -70,12 +70,12 @@ followed-twice first second more =
 
 -- Flushing does not change the printed lines, so they are still the start of the listing.
 pub prefix-kept :
-    (Before PreviousPes : ListingRelation)
+    (Before Remaining : ListingRelation)
     (reported left old now new : Option (List ℕ))
-    → IsPrefix Before PreviousPes reported left old now
+    → IsPrefix Before Remaining reported left old now
     → Keeps now new
-    → IsPrefix Before PreviousPes reported left old new
-prefix-kept Before PreviousPes reported left old now new i kept = grind (arith, nat_tests)
+    → IsPrefix Before Remaining reported left old new
+prefix-kept Before Remaining reported left old now new i kept = grind (arith, nat_tests)
 
 pub counts-fault : (old new : ℕ) (failed : Bool) → CountRisesIf old failed new → Counts old Fault
     new
@@ -87,13 +87,13 @@ pub counts-status : (old new : ℕ) (status : Status) → CountRisesIf old (has_
 counts-status old new status risen = grind (arith, nat_tests)
 
 pub prefix-more :
-    (Before At PreviousPes : ListingRelation)
+    (Before At Remaining : ListingRelation)
     (reported left rest old now new : Option (List ℕ)) (text : List ℕ)
     → IsPrefix Before At reported left old now
-    → ListsNext At PreviousPes left rest text None
+    → ListsNext At Remaining left rest text None
     → Appends now new text
-    → IsPrefix Before PreviousPes reported rest old new
-prefix-more Before At PreviousPes reported left rest old now new text i gives p = record {
+    → IsPrefix Before Remaining reported rest old new
+prefix-more Before At Remaining reported left rest old now new text i gives p = record {
   text = i.text ++ text;
   printed = Appends-trans old now new i.text text i.printed p;
   listed = λ end ending more is.
@@ -102,17 +102,17 @@ prefix-more Before At PreviousPes reported left rest old now new text i gives p 
 }
 
 pub prefix-end :
-    (Before At PreviousPes : ListingRelation) (source : SourceCall) (out : SinkCall)
+    (Before At Remaining : ListingRelation) (source : SourceCall) (out : SinkCall)
     (left now : Option (List ℕ)) (text : List ℕ)
     (status : Status)
     → IsPrefix Before At source.known left out.old now
-    → ListsNext At PreviousPes left source.left text (Some status)
+    → ListsNext At Remaining left source.left text (Some status)
     → Appends now out.new text
     → out.new_count ≡ out.old_count
     → CountRisesIf source.old_count (has_failed (Some status)) source.new_count
     → PrintsListing Before source out status
 unfolding PrintsOrFails
-prefix-end Before At PreviousPes source out left now text status i gives p same counted = record {
+prefix-end Before At Remaining source out left now text status i gives p same counted = record {
   ending = Some status;
   listing = followed i.text (record { text = text; status = status });
   is_listed = i.listed source.left (Some status)
@@ -123,17 +123,17 @@ prefix-end Before At PreviousPes source out left now text status i gives p same 
 }
 
 pub prefix-cut :
-    (Before At PreviousPes : ListingRelation) (source : SourceCall) (out : SinkCall)
+    (Before At Remaining : ListingRelation) (source : SourceCall) (out : SinkCall)
     (left now : Option (List ℕ)) (text : List ℕ)
     (end : Option Status)
     → IsPrefix Before At source.known left out.old now
-    → ListsNext At PreviousPes left source.left text end
+    → ListsNext At Remaining left source.left text end
     → AppendsPrefix now out.new text
     → out.new_count ≡ out.old_count + 1
     → CountRisesIf source.old_count (has_failed end) source.new_count
     → PrintsListing Before source out Fault
 unfolding PrintsOrFails
-prefix-cut Before At PreviousPes source out left now text None i gives p risen counted =
+prefix-cut Before At Remaining source out left now text None i gives p risen counted =
     let more = gives.1 in record {
       ending = None;
       listing = followed i.text (followed text more.0);
@@ -148,7 +148,7 @@ prefix-cut Before At PreviousPes source out left now text None i gives p risen c
         refl,
       );
     }
-prefix-cut Before At PreviousPes source out left now text (Some status) i gives p risen
+prefix-cut Before At Remaining source out left now text (Some status) i gives p risen
     counted = record {
       ending = Some status;
       listing = followed i.text (record { text = text; status = status });
@@ -213,15 +213,15 @@ lists-some O listing_of given Takes (Some b) left o = (
 pub gives-next :
     (O : Type 0) (before after : O → Listing) (given given' : List ℕ → O)
     (Takes Takes' : Bool → Option (List ℕ) → O → Option (List ℕ) → Type 0)
-    (pes_packet : O → O) (reported left : Option (List ℕ)) (text : List ℕ)
-    → ((o : O) → before (pes_packet o) ≡ followed text (after o))
+    (put_before : O → O) (reported left : Option (List ℕ)) (text : List ℕ)
+    → ((o : O) → before (put_before o) ≡ followed text (after o))
     → ((o : O) (failed : Bool) (end : Option (List ℕ))
-    → Takes' failed left o end → Takes failed reported (pes_packet o) end)
+    → Takes' failed left o end → Takes failed reported (put_before o) end)
     → IfKnown reported (λ bytes.
-    (rest : List ℕ) × (left ≡ Some rest) × (given bytes ≡ pes_packet (given' rest)))
+    (rest : List ℕ) × (left ≡ Some rest) × (given bytes ≡ put_before (given' rest)))
     → O
     → ListsNext (Lists before given Takes) (Lists after given' Takes') reported left text None
-gives-next O before after given given' Takes Takes' pes_packet reported left text lines reports
+gives-next O before after given given' Takes Takes' put_before reported left text lines reports
     reads o =
     grind (arith, nat_tests, lists-some)
 

@@ -34,8 +34,8 @@ source_call remaining failure_count old new = record {
 -- bytes, the remaining bytes of its device, and its number of failed calls.
 abbrev pub read_call :
     {D : Type 0} → (D → Option (List ℕ)) → (D → Option (List ℕ)) → (D → ℕ) → D → D → SourceCall
-read_call reported left failure_count old new = record {
-  known = reported old;
+read_call known_bytes left failure_count old new = record {
+  known = known_bytes old;
   left = left new;
   old_count = failure_count old;
   new_count = failure_count new;

@@ -112,12 +112,12 @@ unexpected_eq s page first f n left o is_left found =
     (cell_equality_matches_page_equality left blank o (λ place. DiffersFirst left blank place.0
     place.1) found)
 
-pub no_unexpected_cell_shows_expected_codes :
+pub blank_page_has_no_unexpected_cell :
     (s : Listener) (page : ℕ → Rows) (first f n : ℕ)
     → differing_cell_count blank s.comparison.page ≡ 0
     → first_unexpected_kept_cell s page first f n ≡ None
 unfolding first_unexpected_kept_cell
-no_unexpected_cell_shows_expected_codes s page first f n same =
+blank_page_has_no_unexpected_cell s page first f n same =
     first_cell-none _
     (λ row column is.
     let space_eq = cell-blank row column is in

@@ -24,11 +24,11 @@ last_subtitle_has_last_tco : (t : SubtitleValue) (ts : List SubtitleValue)
     → last_tco (t ∷ ts) ≡ Some ((get_or (t ∷ ts) (length (t ∷ ts) - 1) t).tco)
 last_subtitle_has_last_tco t ts = grind (arith, nat_tests, slice_get-get_or)
 
-pub last_tco_of_first_tci : (ts : List SubtitleValue) (a : ℕ) → Some a ≡ first_tci ts → None ≡
+pub no_last_tco_means_empty : (ts : List SubtitleValue) (a : ℕ) → Some a ≡ first_tci ts → None ≡
     last_tco ts
     → ts ≡ []
-last_tco_of_first_tci [] a h k = refl
-last_tco_of_first_tci (t ∷ ts) a h k = let e = last_subtitle_has_last_tco t ts in cc
+no_last_tco_means_empty [] a h k = refl
+no_last_tco_means_empty (t ∷ ts) a h k = let e = last_subtitle_has_last_tco t ts in cc
 
 -- The first frame of a schedule is before its last frame, which is a frame of the day.
 pub record IsSpan (a b : ℕ) : Type 0 where

@@ -85,9 +85,9 @@ other_frame_is_no_base due first f none = grind (
   is_base-Decides,
 )
 
-due_page_changes_at_base : (due : ℕ → Rows) (first f : ℕ) → (IsBase due first f → ⊥) → due f ≡ due
-    (f - 1)
-due_page_changes_at_base due first f none =
+due_page_stays_without_base : (due : ℕ → Rows) (first f : ℕ) → (IsBase due first f → ⊥)
+    → due f ≡ due (f - 1)
+due_page_stays_without_base due first f none =
     let same = same_page-Decides (due f) (due (f - 1)) in grind (arith, nat_tests)
 
 base-at : (due : ℕ → Rows) (first b : ℕ) → IsBase due first b → base due first b ≡ b
@@ -176,7 +176,7 @@ last_sending_exists due every first last f some low =
         sends = sent.passes;
         no_later_match = sent.no_later_match;
         same = sym (value_stays_without_changes due found.0 f sent.high
-            (λ k a c. due_page_changes_at_base due first k (λ b.
+            (λ k a c. due_page_stays_without_base due first k (λ b.
             false≢true (sym (sent.no_later_match k a c) ∙ sends-base due every first last k some
             b))));
       },

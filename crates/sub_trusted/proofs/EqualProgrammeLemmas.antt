@@ -10,23 +10,23 @@ use Rattle.stl_rows.specs.Programme.{ProgrammeValue, first_tci, last_tco}
 use Rattle.sub_plan.specs.Options.{OptionsValue}
 use Rattle.sub_rules.specs.FrameRules.{UnreadReason}
 use Rattle.sub_laws.specs.CleanStretch.{criteria_with_refusals}
-use Rattle.sub_trusted.specs.EqualTrust.{HasOtherSubtitles, IsDueIfUndecided, LawOfEqualTrust}
+use Rattle.sub_trusted.specs.EqualTrust.{HasOtherSubtitles, IsDueOnlyIfUndecided, LawOfEqualTrust}
 use Rattle.sub_trusted.proofs.EqualLateLemmas.{HasSameCriteria}
 use Rattle.sub_trusted.proofs.EqualTrustLemmas.{stretch_is_trusted_in_both}
 
 module _ (undecided : ℕ → Bool) (f : ℕ) (known : undecided f ≡ false) where
   -- A subtitle that is expected only in frames with an unknown expected page is not expected in
   -- frame f, whose expected page is known.
-  undecided_subtitle_is_not_due : (t : SubtitleValue) → IsDueIfUndecided undecided t → is_due f t ≡
-      false
+  undecided_subtitle_is_not_due : (t : SubtitleValue) → IsDueOnlyIfUndecided undecided t
+      → is_due f t ≡ false
   undecided_subtitle_is_not_due t is = grind (arith, nat_tests)
 
-  undecided_subtitle_does_not_end : (t : SubtitleValue) → IsDueIfUndecided undecided t → ends_at
+  undecided_subtitle_does_not_end : (t : SubtitleValue) → IsDueOnlyIfUndecided undecided t → ends_at
       (f + 1) t ≡ false
   undecided_subtitle_does_not_end t is = grind (arith, nat_tests)
 
   same_subtitle_is_found : (test : SubtitleValue → Bool)
-      → ((t : SubtitleValue) → IsDueIfUndecided undecided t → test t ≡ false)
+      → ((t : SubtitleValue) → IsDueOnlyIfUndecided undecided t → test t ≡ false)
       → (judged all : List SubtitleValue) → HasOtherSubtitles undecided judged all
       → find test all ≡ find test judged
   same_subtitle_is_found test none judged [] is = grind (arith, nat_tests)

@@ -38,7 +38,8 @@ use Rattle.sub_trusted.proofs.TrustedFrameLemmas.{stretch_has_no_active_fault}
 use Rattle.sub_trusted.proofs.TrustedFrameLemmas.{unreported}
 use Rattle.sub_trusted.proofs.TrackerStateLemmas.{IsTrustedBetween}
 use Rattle.sub_trusted.proofs.TrustedSkippedLemmas.{skipped_packets_are_outside_stretch}
-use Rattle.sub_trusted.proofs.TrustedPesPacketLemmas.{all_events_trust_good_stretches, last_late}
+use Rattle.sub_trusted.proofs.TrustedPesPacketLemmas.{all_events_trust_good_stretches}
+use Rattle.sub_trusted.proofs.TrustedPesPacketLemmas.{trusted_bound}
 use Rattle.sub_trusted.proofs.TrustedRunLemmas.{RunLastsTo}
 
 no_active_faults_has_none : has_no_active_faults no_active_faults ≡ true
@@ -57,8 +58,8 @@ module _ (g : Criteria) (due : ℕ → Rows) (ending : ℕ → Option ℕ) (firs
   abbrev part : Transmission
   part = rising_part frames
 
-  may : IsTrustedBetween g frames 0 (last_late g frames) from to
-  may = grind (arith, nat_tests, last_late, all_events_trust_good_stretches)
+  may : IsTrustedBetween g frames 0 (trusted_bound g frames) from to
+  may = grind (arith, nat_tests, trusted_bound, all_events_trust_good_stretches)
 
   stays : RunLastsTo g frames from to
   stays = may.stretch_is_trusted_correct.stays
@@ -113,7 +114,7 @@ module _ (g : Criteria) (due : ℕ → Rows) (ending : ℕ → Option ℕ) (firs
         run_ends_before_falling_frame,
         rising_count_is_at_most_length,
         rising_part_rises,
-        last_late,
+        trusted_bound,
         may,
       )
 

@@ -98,23 +98,23 @@ module _ (keeps : Bool) (programme : ProgrammeValue) (options : OptionsValue) (t
         beginning_is_header (kind options.page) keeps (packets_of u a) (beginning_is_on_air order)
 
     module _ (f : ℕ) (low : a ≤ f) (high : f ≤ b) where
-      abbrev first_unfinished : List (List ℕ)
-      first_unfinished = packets_between t a (f + 1)
+      abbrev later_packets : List (List ℕ)
+      later_packets = packets_between t a (f + 1)
 
       packets_read_split : on_air_until t f ≡ packets_between t (first_frame t) a ++
-          first_unfinished
+          later_packets
       packets_read_split = packets_between-split t (first_frame t) a (f + 1) rising from
           (omega arith)
 
       packets_on_air_split : on_air_until u f ≡ packets_between u (first_frame u) a ++
-          first_unfinished
+          later_packets
       packets_on_air_split =
           packets_between-split u (first_frame u) a (f + 1) is.rising on_air_begins_early_enough
           (omega arith)
           ∙ ap (λ (ps : List (List ℕ)). packets_between u (first_frame u) a ++ ps)
           (sym (both_have_same_packets t u a b rising is f low high))
 
-      unfinished_begins_text : has_text_beginning keeps (kind options.page) first_unfinished ≡ true
+      unfinished_begins_text : has_text_beginning keeps (kind options.page) later_packets ≡ true
       unfinished_begins_text =
           let split =
           packets_between-split t a (a + 1) (f + 1) rising (omega arith) (omega arith) in
@@ -123,8 +123,8 @@ module _ (keeps : Bool) (programme : ProgrammeValue) (options : OptionsValue) (t
           (packets_between t (a + 1) (f + 1)) in
           ap (has_text_beginning keeps (kind options.page)) split ∙ both ∙ rw begins refl
 
-      holds : has_page_header (kind options.page) first_unfinished ≡ true
-      holds = beginning_is_header (kind options.page) keeps first_unfinished unfinished_begins_text
+      holds : has_page_header (kind options.page) later_packets ≡ true
+      holds = beginning_is_header (kind options.page) keeps later_packets unfinished_begins_text
 
       same_text_is_on_air : text_span keeps (kind options.page) (on_air_until t f)
           ≡ text_span keeps (kind options.page) (on_air_until u f)
@@ -132,11 +132,11 @@ module _ (keeps : Bool) (programme : ProgrammeValue) (options : OptionsValue) (t
           ap (text_span keeps (kind options.page)) packets_read_split
           ∙ ap (while_open (kind options.page) false)
           (from-later keeps (kind options.page) (packets_between t (first_frame t) a)
-          first_unfinished
+          later_packets
           unfinished_begins_text
           ∙ sym
           (from-later keeps (kind options.page) (packets_between u (first_frame u) a)
-          first_unfinished
+          later_packets
           unfinished_begins_text))
           ∙ sym (ap (text_span keeps (kind options.page)) packets_on_air_split)
 
@@ -152,8 +152,8 @@ module _ (keeps : Bool) (programme : ProgrammeValue) (options : OptionsValue) (t
       same_rows_are_on_air row =
           ap (list_any (λ packet. is_row row (kind options.page packet)))
           (ap (span (kind options.page)) packets_read_split
-          ∙ span-later options.page (packets_between t (first_frame t) a) first_unfinished holds
-          ∙ sym (span-later options.page (packets_between u (first_frame u) a) first_unfinished
+          ∙ span-later options.page (packets_between t (first_frame t) a) later_packets holds
+          ∙ sym (span-later options.page (packets_between u (first_frame u) a) later_packets
           holds)
           ∙ sym (ap (span (kind options.page)) packets_on_air_split))
 
@@ -170,18 +170,18 @@ module _ (keeps : Bool) (programme : ProgrammeValue) (options : OptionsValue) (t
           ≡ has_no_page_end (kind options.page) (on_air_until u f)
       page_is_unended_on_air =
           ap (has_no_page_end (kind options.page)) packets_read_split
-          ∙ unended-later options.page (packets_between t (first_frame t) a) first_unfinished holds
-          ∙ sym (unended-later options.page (packets_between u (first_frame u) a) first_unfinished
+          ∙ unended-later options.page (packets_between t (first_frame t) a) later_packets holds
+          ∙ sym (unended-later options.page (packets_between u (first_frame u) a) later_packets
           holds)
           ∙ sym (ap (has_no_page_end (kind options.page)) packets_on_air_split)
 
       on_air_packets_have_header : (v : Transmission) (before : List (List ℕ)) → on_air_until v f ≡
           before ++
-          first_unfinished
+          later_packets
           → has_page_header (kind options.page) (on_air_until v f) ≡ true
       on_air_packets_have_header v before at =
           ap (has_page_header (kind options.page)) at
-          ∙ holds-append_right (kind options.page) before first_unfinished holds
+          ∙ holds-append_right (kind options.page) before later_packets holds
 
       holds_header_in_t : has_page_header (kind options.page) (on_air_until t f) ≡ true
       holds_header_in_t = on_air_packets_have_header t (packets_between t (first_frame t) a)

@@ -52,8 +52,8 @@ use Rattle.std.specs.List.{list_any}
 
 -- The first frame that is not trusted at the end of a file: the last frame, if unread bytes follow,
 -- or the frame after it.
-abbrev pub last_late : Criteria → Transmission → ℕ
-last_late g frames =
+abbrev pub trusted_bound : Criteria → Transmission → ℕ
+trusted_bound g frames =
     if is_some g.unread then end_frame frames else end_frame frames + 1
 
 late_low_bound : (left : Bool) (last : ℕ)
@@ -120,7 +120,7 @@ module _ (g : Criteria) (frames : Transmission) (base : ℕ) where
   -- The frames may be trusted up to the last frame or, if unread bytes follow, up to the frame
   -- before it.
   abbrev pub IsTrustedAtClose : ℕ → ℕ → Type 0
-  IsTrustedAtClose = IsTrustedBetween g frames base (last_late g frames)
+  IsTrustedAtClose = IsTrustedBetween g frames base (trusted_bound g frames)
 
   no_trusted_frames_in_closing_events : (pes n : ℕ) → length frames ≡ n
       → HoldsForEachTrusted IsTrustedAtClose (closing_events_of_pes_packets g frames pes n)
@@ -159,7 +159,7 @@ module _ (g : Criteria) (frames : Transmission) (base : ℕ) where
       (λ u emitted. u)).each
     where
       low : (from : ℕ) → run_of t ≡ Some from
-          → first_untrusted_at_close t (is_some g.unread) ≤ last_late g frames
+          → first_untrusted_at_close t (is_some g.unread) ≤ trusted_bound g frames
       low from run =
           let below = (closed.keeps.run from run).below in
           let at = closed.last (omega arith) in
@@ -188,7 +188,7 @@ module _ (g : Criteria) (frames : Transmission) (base : ℕ) where
           (λ from w run whole l.
           let high = low from run in
           let few = late_low_bound (is_some g.unread) (end_frame frames) in
-          tracked_run_passes_before_frame g frames base (last_late g frames) (length frames)
+          tracked_run_passes_before_frame g frames base (trusted_bound g frames) (length frames)
           (end_frame frames + 1) (first_untrusted_at_close t (is_some g.unread)) t closed.keeps
           (record {
             within = omega arith;

@@ -13,7 +13,7 @@ use Rattle.sub_laws.specs.CleanStretch.{HoldsAtFrameEnds, criteria_with_refusals
 use Rattle.sub_trusted.specs.TrustedFrames.{rising_frames_of}
 
 -- The subtitle is expected only in frames whose expected page is unknown.
-pub record IsDueIfUndecided (undecided : ℕ → Bool) (t : SubtitleValue) : Type 0 where
+pub record IsDueOnlyIfUndecided (undecided : ℕ → Bool) (t : SubtitleValue) : Type 0 where
   pub times : t.tci < t.tco
   pub within : (f : ℕ) → t.tci ≤ f → f < t.tco → IsTrue (undecided f)
 
@@ -23,7 +23,7 @@ abbrev pub HasOtherSubtitles : (ℕ → Bool) → List SubtitleValue → List Su
 HasOtherSubtitles undecided judged [] = judged ≡ []
 HasOtherSubtitles undecided judged (t ∷ all) =
     ((rest : List SubtitleValue) × (judged ≡ t ∷ rest) × HasOtherSubtitles undecided rest all)
-    ⊎ (IsDueIfUndecided undecided t × HasOtherSubtitles undecided judged all)
+    ⊎ (IsDueOnlyIfUndecided undecided t × HasOtherSubtitles undecided judged all)
 
 -- The page is finished at the end of frame b.
 abbrev pub IsFinishedAt : Criteria → List PesPacket → ℕ → Type 0

@@ -30,8 +30,8 @@ abbrev pub argument : Text → List Row → Text
 argument id rows = unwrap_or (first_of id rows) []
 
 -- The flag is set. `clap` stores the text `true` or `false` for a flag.
-abbrev pub is_argument_present : Text → List Row → Bool
-is_argument_present id rows = bytes_eq (argument id rows) (codes "true")
+abbrev pub has_flag : Text → List Row → Bool
+has_flag id rows = bytes_eq (argument id rows) (codes "true")
 
 -- The number, if it is from `least` to `most`; otherwise `None`.
 abbrev pub between : ℕ → ℕ → Option ℕ → Option ℕ
@@ -47,7 +47,7 @@ options_of every rows = do
   every ← ok_or (between 1 day every) fault.Every
   origin ← ok_or (between 0 (2 ^ 33 - 1) (number_of_text (argument (codes "origin") rows)))
       fault.Origin
-  let requested = is_argument_present (codes "complete") rows in
+  let requested = has_flag (codes "complete") rows in
       Ok (record {
         page = page;
         every = every;
@@ -77,7 +77,7 @@ options_with_pace options rows =
 -- The argument `[--keeping]` as an option: if the flag is set, repeats may keep the page.
 abbrev pub with_keeping_value : OptionsValue → List Row → OptionsValue
 with_keeping_value options rows =
-    if is_argument_present (codes "keeping") rows then record options { keeps = true } else options
+    if has_flag (codes "keeping") rows then record options { keeps = true } else options
 
 -- The national option of the argument `[--option O]`.
 abbrev pub national_of : List Row → Result National UsageFault
@@ -102,7 +102,7 @@ abbrev pub scope_of : List Row → Result Scope UsageFault
 scope_of rows = do
   from ← ok_or (parsed_if_present frame_of_text (codes "from") rows) fault.BadTime
   to ← ok_or (parsed_if_present frame_of_text (codes "to") rows) fault.BadTime
-  let takes_open = is_argument_present (codes "open") rows in
+  let takes_open = has_flag (codes "open") rows in
       Ok (record { takes_open = takes_open; from = unwrap_or from 0; to = unwrap_or to day })
 
 -- The PID of the required argument `--pid P`.

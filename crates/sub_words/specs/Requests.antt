@@ -13,7 +13,7 @@ use Rattle.stl_rows.specs.declared.national.National.{National}
 use Rattle.sub_plan.specs.Options.{OptionsValue}
 use Rattle.mpeg_ts.specs.declared.survey_options.SurveyOptions.{SurveyOptions}
 use Rattle.sub_words.specs.Arguments.{PesSelectionValue, with_within_value, argument}
-use Rattle.sub_words.specs.Arguments.{is_argument_present}
+use Rattle.sub_words.specs.Arguments.{has_flag}
 use Rattle.sub_words.specs.Arguments.{with_keeping_value}
 use Rattle.sub_words.specs.Arguments.{parsed_list_of}
 use Rattle.sub_words.specs.Arguments.{layout_of, national_of, options_of, options_with_pace}
@@ -108,7 +108,7 @@ schedule_request rows = do
   national ← national_of rows
   layout ← layout_of rows
   scope ← scope_of rows
-  Ok (Schedule names.0 names.1 options (is_argument_present (codes "serial") rows) national layout
+  Ok (Schedule names.0 names.1 options (has_flag (codes "serial") rows) national layout
       scope)
 
 -- The request of `check STL PES [--page P] [--every N] [--origin T] [--option O] [--within N]
@@ -124,7 +124,7 @@ check_request rows = do
   pacing ← options_with_pace allowing rows
   scope ← scope_of rows
   let options = with_keeping_value pacing rows in
-      let all = is_argument_present (codes "all") rows in
+      let all = has_flag (codes "all") rows in
       Ok (Check (argument (codes "stl") rows) pes options national layout scope all)
 
 -- The request of `listen PES [--page P] [--origin T] [--within N] [--complete] [--pid P]

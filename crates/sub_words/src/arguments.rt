@@ -2,7 +2,7 @@
 ghost use Rattle.std.specs.Prelude.{◌≡◌, IfErr, IfOk, ok_or, option_map, true};
 ghost use Rattle.std.specs.Result.{result_map_both};
 ghost use Rattle.clap.specs.Words.{first_of, found_of, rows_of};
-ghost use Rattle.sub_words.specs.Arguments.{with_within_value, argument, is_argument_present};
+ghost use Rattle.sub_words.specs.Arguments.{with_within_value, argument, has_flag};
 ghost use Rattle.sub_words.specs.Arguments.{layout_of};
 ghost use Rattle.sub_words.specs.Arguments.{parsed_list_of};
 ghost use Rattle.sub_words.specs.Arguments.{parsed_if_present, with_keeping_value, options_of};
@@ -45,7 +45,7 @@ pub fn text_at<'a>(matches: &ArgMatches<'a>, id: &str) -> &'a str
 
 /// Returns whether a flag is set. `clap` stores the text `true` or `false` for a flag.
 pub fn flag_at<'a>(matches: &ArgMatches<'a>, id: &str) -> bool
-    ensures { result ≡ is_argument_present id.now (rows_of (found_of matches.now)) }
+    ensures { result ≡ has_flag id.now (rows_of (found_of matches.now)) }
 {
     text_at(matches, id) == "true"
 }

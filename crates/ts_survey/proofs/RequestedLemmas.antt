@@ -14,10 +14,10 @@ map-same f (y ∷ ys) zero x d below is = ap (λ v. v ∷ map f ys) is
 map-same f (y ∷ ys) (suc i) x d below is =
     ap (λ vs. f y ∷ vs) (map-same f ys i x d (omega arith) is)
 
-skipped_before-over : (is : Bool) (pid : ℕ) (rest : List ℕ)
+requested-pid-omitted : (is : Bool) (pid : ℕ) (rest : List ℕ)
     → is ≡ true
     → (if is then rest else pid ∷ rest) ≡ rest
-skipped_before-over is pid rest known = ap (λ one. if one then rest else pid ∷ rest) known
+requested-pid-omitted is pid rest known = ap (λ one. if one then rest else pid ∷ rest) known
 
 same-before : (is : Bool) (pid : ℕ) (more rest : List ℕ)
     → more ≡ rest
@@ -28,9 +28,8 @@ more-requested : (requested : Option ℕ) (carriers : List Carrier) (one : Carri
     → is_requested requested one.pid ≡ true
     → unrequested_pids requested (map followed_pid (carriers ++ one ∷ []))
     ≡ unrequested_pids requested (map followed_pid carriers)
-more-requested requested [] one known = skipped_before-over (is_requested requested one.pid) one.pid
-    []
-    known
+more-requested requested [] one known =
+    requested-pid-omitted (is_requested requested one.pid) one.pid [] known
 more-requested requested (c ∷ cs) one known =
     same-before (is_requested requested c.pid) c.pid _ _ (more-requested requested cs one known)
 

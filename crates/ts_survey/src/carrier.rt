@@ -46,7 +46,7 @@ pub struct Carrier {
     // clock, and of the last PES packet that began before the last PCR.
     begun: Option<u64>,
     last_sampled_pts: Option<u64>,
-    packet_before_pcr: Option<u64>,
+    pts_before_pcr: Option<u64>,
     pending: ArrayVec<Pending, MAX_PENDING_PCRS>,
     lead: Lead,
 }
@@ -67,7 +67,7 @@ impl Carrier {
             header: PesHeader::new(),
             begun: None,
             last_sampled_pts: None,
-            packet_before_pcr: None,
+            pts_before_pcr: None,
             pending: ArrayVec::new(),
             lead: Lead::new(),
         })
@@ -169,7 +169,7 @@ impl Carrier {
         if let Some(irregular_pcr) = irregular_pcr {
             self.add_pending(irregular_pcr, pids, text);
         }
-        self.packet_before_pcr = self.begun;
+        self.pts_before_pcr = self.begun;
     }
 
     // Stores an irregular PCR. If no room is left, prints the oldest stored PCR at once.
@@ -181,7 +181,7 @@ impl Carrier {
         }
         let _ = self.pending.try_push(Pending {
             irregular_pcr,
-            before: self.packet_before_pcr,
+            before: self.pts_before_pcr,
             after: None,
         });
     }

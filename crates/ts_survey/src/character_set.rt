@@ -8,12 +8,12 @@ use ttx_packet::{Packet, PageId, unham};
 
 /// The number of possible lines, each of which is printed once: packet 28 or 29, designation 0 or
 /// 4, 128 character sets or an unreadable one.
-const LINE_COUNT: usize = 1024;
+const LINE_INDEX_COUNT: usize = 1024;
 
 /// The lines of character sets that were printed.
 #[derive(Drop)]
 pub struct CharacterSets {
-    reported: [bool; LINE_COUNT],
+    reported: [bool; LINE_INDEX_COUNT],
 }
 
 // Returns the 18 data bits of three Hamming 24/18 bytes (EN 300 706, 8.3), with one wrong bit
@@ -120,8 +120,8 @@ fn set_of_packet(packet: &Packet, number: u8, is_requested_page: bool) -> Option
     Some((designation, set))
 }
 
-fn no_lines_reported() -> [bool; LINE_COUNT] {
-    [false; LINE_COUNT]
+fn no_lines_reported() -> [bool; LINE_INDEX_COUNT] {
+    [false; LINE_INDEX_COUNT]
 }
 
 // Returns the index of the line of a character set among all possible lines.

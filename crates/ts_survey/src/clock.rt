@@ -7,7 +7,7 @@ use mpeg_ts::{PACKET, announces_jump};
 pub const CLOCK_TICKS_PER_SECOND: u64 = 90_000;
 
 /// The shortest interval in ticks after which a PCR may count as late: 0.1 s (ISO/IEC 13818-1).
-const MIN_REPORTED_LATENESS: u64 = 9_000;
+const MAX_USUAL_INTERVAL: u64 = 9_000;
 
 /// The number of last intervals whose median is the usual interval, and the least number of
 /// intervals that determines a median.
@@ -73,7 +73,7 @@ fn is_usual_interval(ticks: u64, count: usize, median_interval: u64) -> bool {
     if ticks >= CLOCK_PERIOD / 2 {
         return false;
     }
-    ticks <= MIN_REPORTED_LATENESS
+    ticks <= MAX_USUAL_INTERVAL
         || count < MIN_INTERVALS
         || ticks <= median_interval.saturating_mul(3)
 }

@@ -234,7 +234,7 @@ impl Pids {
         if !is_counted(packet) {
             note_jump(state, packet);
         } else if is_break(state, packet) {
-            self.count_break(pid, packet, number);
+            self.record_break(pid, packet, number);
         } else {
             note_packet(state, packet, number);
         }
@@ -244,7 +244,7 @@ impl Pids {
     // Updates the state of a PID with a packet before which packets are missing. Not inlined, since
     // it is rarely called.
     #[inline(never)]
-    fn count_break(&mut self, pid: u16, packet: &[u8; PACKET], number: u64) {
+    fn record_break(&mut self, pid: u16, packet: &[u8; PACKET], number: u64) {
         let mut state = self.get(pid);
         self.add_break(Break {
             pid,

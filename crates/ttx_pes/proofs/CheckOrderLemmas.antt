@@ -32,7 +32,7 @@ PassBelow ts i = (j : ℕ) → j < i → get_or ts j true ≡ true
 -- A test of the list fails, and all tests before it pass.
 pub record FirstFailedTest (b : List ℕ) (i : ℕ) (ts : List Bool) : Type 0 where
   pub at : ℕ
-  pub buffered : PassBelow ts at
+  pub earlier_pass : PassBelow ts at
   pub wrong : get_or ts at true ≡ false
   pub reported : first_failed_test b i ts ≡ Some (fault_of_check b (i + at))
 
@@ -46,7 +46,7 @@ pub all_pass_or_first_fails : (b : List ℕ) (i : ℕ) (ts : List Bool)
 all_pass_or_first_fails b i [] = inl (λ j. refl, refl)
 all_pass_or_first_fails b i (false ∷ ts) = inr (record {
   at = 0;
-  buffered = λ j lt. absurd (omega arith);
+  earlier_pass = λ j lt. absurd (omega arith);
   wrong = refl;
   reported =
       let number : i ≡ i + 0 = omega arith in
@@ -56,7 +56,7 @@ all_pass_or_first_fails b i (true ∷ ts) = elim (all_pass_or_first_fails b (i +
   | inl all ↦ inl (λ j. passing_test_extends_prefix ts j (λ k lt. all.0 k) j (omega arith), all.1)
   | inr found ↦ inr (record {
     at = suc found.at;
-    buffered = passing_test_extends_prefix ts found.at found.buffered;
+    earlier_pass = passing_test_extends_prefix ts found.at found.earlier_pass;
     wrong = found.wrong;
     reported = grind (arith, nat_tests);
   })
@@ -120,9 +120,9 @@ abbrev pub refusal : {A : Type 0} → Result A PesFault → Option PesFault
 refusal (Ok x) = None
 refusal (Err f) = Some f
 
-unit_fault_is_content_fault : (b : List ℕ) (i k r : ℕ) → r < 3 → i ≡ 9 + 3 * k + r
+check_of_unit_gives_unit_fault : (b : List ℕ) (i k r : ℕ) → r < 3 → i ≡ 9 + 3 * k + r
     → fault_of_check b i ≡ get_or unit_faults r fault.Truncated
-unit_fault_is_content_fault b i k r lt e = grind (arith, nat_tests, get_or_past)
+check_of_unit_gives_unit_fault b i k r lt e = grind (arith, nat_tests, get_or_past)
 
 -- The data units from number k on can be parsed exactly if all tests pass; otherwise the fault is
 -- that of the first failed test.
@@ -140,9 +140,9 @@ unit_tests_find_fault (suc n) k i before prefix b d number last same =
     let e1 = at 1 (omega arith) in
     let e2 = at 2 (omega arith) in
     let e3 = at 3 (omega arith) in
-    let f0 = unit_fault_is_content_fault b i k 0 (omega arith) (omega arith) in
-    let f1 = unit_fault_is_content_fault b (i + 1) k 1 (omega arith) (omega arith) in
-    let f2 = unit_fault_is_content_fault b (i + 1 + 1) k 2 (omega arith) (omega arith) in
+    let f0 = check_of_unit_gives_unit_fault b i k 0 (omega arith) (omega arith) in
+    let f1 = check_of_unit_gives_unit_fault b (i + 1) k 1 (omega arith) (omega arith) in
+    let f2 = check_of_unit_gives_unit_fault b (i + 1 + 1) k 2 (omega arith) (omega arith) in
     let rest : (j : ℕ) → j < 46 * n → get_or (drop 46 d) j 0 ≡ get_or b (46 + (46 * suc k + j)) 0 =
     λ j lt. get_or-drop 46 d j 0 ∙ same (46 + j) (omega arith)
     ∙ ap (λ (p : ℕ). get_or b p 0) (omega arith) in

@@ -109,15 +109,15 @@ data_unit_gives_sent_unit : (field : List ℕ) (at : ℕ)
 data_unit_gives_sent_unit field at = grind (arith, nat_tests, block_keeps_byte field at 0)
 
 -- If the data units of a data field can be parsed, so can data units with the same headers.
-equal_headers_decode_same_units : (n at : ℕ) (a b : List ℕ) (us vs all : List UnitValue)
+equal_headers_let_units_decode : (n at : ℕ) (a b : List ℕ) (us vs all : List UnitValue)
     → ((k : ℕ) → k < n → HasSameUnitHeader a b (46 * k + at))
     → last_place 0 us ≡ last_place 0 vs
     → units_at n us (drop at a) ≡ Ok all
     → units_at n vs (drop at b) ≡ Ok (vs ++ sent_units b (teletext_places n at b))
 unfolding units_at teletext_places
-equal_headers_decode_same_units zero at a b us vs all same last e = ap (λ us. Ok us)
+equal_headers_let_units_decode zero at a b us vs all same last e = ap (λ us. Ok us)
     (sym (append-nil vs))
-equal_headers_decode_same_units (suc n) at a b us vs all same last e =
+equal_headers_let_units_decode (suc n) at a b us vs all same last e =
     let p =
     ok_chain_has_value (unit_at us (take 46 (drop at a))) (λ x. units_at n x (drop 46 (drop at a)))
     all e in
@@ -141,7 +141,7 @@ equal_headers_decode_same_units (suc n) at a b us vs all same last e =
     let following : (c : List ℕ) → drop 46 (drop at c) ≡ drop (at + 46) c =
     λ c. drop-drop 46 at c ∙ ap (λ n. drop n c) (omega arith) in
     let rest =
-    equal_headers_decode_same_units n (at + 46) a b p.0
+    equal_headers_let_units_decode n (at + 46) a b p.0
     (vs ++ decoded_unit_list (take 46 (drop at b))) all next here.last
     (ap (units_at n p.0) (sym (following a)) ∙ p.2) in
     let joined =
@@ -187,7 +187,7 @@ equal_headers_share_places a b places size some same is units =
     let count : length (drop 1 b) / 46 ≡ n =
     ap (λ n. n / 46) (length-drop 1 b ∙ ap (λ n. n - 1) (sym size) ∙ sym (length-drop 1 a)) in
     let there = is ∙ equal_headers_have_same_places n 1 a b heads in
-    let read = equal_headers_decode_same_units n 1 a b [] [] (sent_units a places) heads refl
+    let read = equal_headers_let_units_decode n 1 a b [] [] (sent_units a places) heads refl
     (units some) in
     rw count (there, read ∙ ap (λ ps. Ok (sent_units b ps)) (sym there))
 

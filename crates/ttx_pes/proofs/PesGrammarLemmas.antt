@@ -58,7 +58,7 @@ canonical_packet_is_valid v h =
       scrambling_is_off = refl;
       only_pts_is_present = refl;
       pts_fits = h.pts;
-      header_length_is_31 = refl;
+      header_stuffing_length_is_31 = refl;
       is_ebu_data = refl;
       are_valid_units = rw count at (encoded_units_are_valid v.units (4 * k - 1 - length v.units)
           h.each);

@@ -57,7 +57,7 @@ packet_passing_tests_is_read : (b : List ℕ)
 packet_passing_tests_is_read b all =
     let requested = packet_tests_find_fault b in
     elim (all_pass_or_first_fails b 0 (tests b (stated_units b))) [
-      | inr found ↦ let buffered = all found.at in let wrong = found.wrong in absurd cc
+      | inr found ↦ let earlier_pass = all found.at in let wrong = found.wrong in absurd cc
       | inl none ↦ let nothing = none.1 in grind (
         arith,
         nat_tests,
@@ -163,7 +163,7 @@ mixed_byte n q b i = cond (ltb (check_of_byte i) q) (get_or b i 0) (blank n i) %
 -- length field was checked.
 module _ (b : List ℕ) (fit : AreBytes b) (q n : ℕ) (lo : 1 ≤ n) (hi : n ≤ 9)
     (reported : 2 < q → stated_size b ≡ 184 * n)
-    (buffered : PassBelow (tests b (stated_units b)) q) where
+    (earlier_pass : PassBelow (tests b (stated_units b)) q) where
   abbrev made : List ℕ
   made = map (mixed_byte n q b) (range_with_len 0 (184 * n))
 
@@ -196,9 +196,10 @@ module _ (b : List ℕ) (fit : AreBytes b) (q n : ℕ) (lo : 1 ≤ n) (hi : n �
   mixed_packet_agrees c rest parts =
       let len : 184 * n ≡ length c + length rest = search (rules, length-made, length-append) in
       record {
-        has_six_bytes = λ lt. failed_less_means_at_most (length b) 6 (buffered 0 lt);
+        has_six_bytes = λ lt. failed_less_means_at_most (length b) 6 (earlier_pass 0 lt);
         all =
-            λ lt. let all = failed_less_means_at_most (length b) (stated_size b) (buffered 3 lt) in
+            λ lt.
+            let all = failed_less_means_at_most (length b) (stated_size b) (earlier_pass 3 lt) in
             let size = reported (omega arith) in
             omega arith;
         same = grind (arith, nat_tests, earlier_bytes_are_kept, get_or_append_left);
@@ -272,7 +273,7 @@ module _ (b : List ℕ) (fit : AreBytes b) (q n : ℕ) (lo : 1 ≤ n) (hi : n �
             sym (agreeing_packets_share_test j (stated_units b) (4 * n - 1) b made
             (agree_below _ _ b made (omega arith) agree)
             (λ more. let same = reported (omega arith) in omega arith) (omega arith) (omega arith))
-            ∙ buffered j less
+            ∙ earlier_pass j less
       ])
 
   agreeing_packet_exists : (v : PesValue) × (p : List ℕ) × IsValidPesPacket v p × AgreeBeforeCheck q
@@ -286,9 +287,9 @@ module _ (b : List ℕ) (fit : AreBytes b) (q n : ℕ) (lo : 1 ≤ n) (hi : n �
 payloads : (b : List ℕ) (q : ℕ)
     → PassBelow (tests b (stated_units b)) q
     → (n : ℕ) × (1 ≤ n) × (n ≤ 9) × (2 < q → stated_size b ≡ 184 * n)
-payloads b q buffered = elim (cases_lt 2 q) [
+payloads b q earlier_pass = elim (cases_lt 2 q) [
   | inr le ↦ (1, omega arith, omega arith, λ more. absurd (omega arith))
-  | inl more ↦ let t = stated_size_gives_payload_count b (buffered 2 more)
+  | inl more ↦ let t = stated_size_gives_payload_count b (earlier_pass 2 more)
       in (t.0, t.1, t.2, λ _. t.3)
 ]
 
@@ -320,9 +321,9 @@ refusal_names_first_failure b f fit e =
     elim (all_pass_or_first_fails b 0 (tests b (stated_units b))) [
       | inl all ↦ let none = all.1 in absurd cc
       | inr found ↦
-          let n = payloads b found.at found.buffered in
+          let n = payloads b found.at found.earlier_pass in
           let number : found.at ≡ 0 + found.at = omega arith in
-          let a = agreeing_packet_exists b fit found.at n.0 n.1 n.2 n.3 found.buffered in (
+          let a = agreeing_packet_exists b fit found.at n.0 n.1 n.2 n.3 found.earlier_pass in (
             found.at,
             ap (fault_of_check b) number ∙ same_Some _ _ (sym found.reported ∙ requested),
             record {

@@ -93,7 +93,7 @@ pub record IsValidPesPacket (v : PesValue) (b : List ℕ) : Type 0 where
   pub scrambling_is_off : flags / 0x10 ≡ 8
   pub only_pts_is_present : pts_dts_flags / 0x40 ≡ 2
   pub pts_fits : v.pts < 2 ^ 33
-  pub header_length_is_31 : length header_stuffing ≡ 31
+  pub header_stuffing_length_is_31 : length header_stuffing ≡ 31
   pub is_ebu_data : data_identifier / 0x10 ≡ 1
   pub are_valid_units : AreDataUnits (4 * n - 1) v.units data_units
   pub in_order : AreInLineOrder 0 v.units

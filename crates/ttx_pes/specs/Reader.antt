@@ -87,7 +87,7 @@ pub record ReportsPacket
       max_pes_packets)
   -- If the source fails, the consumed bytes are too few for a PES packet.
   pub within : failed is_read_fault answer ≡ true → FailsWithinPacket old new
-  pub no_bytes_remain_at_end : before ≡ AtEnd → answer ≡ Ok None
+  pub returns_none_at_end : before ≡ AtEnd → answer ≡ Ok None
   pub ended : (before ≡ Broken) ↔ (answer ≡ Err Ended)
   -- A reader writes nothing, so no sink can fail.
   pub is_no_write_fault : IfErr answer (λ fault. fault ≢ Write)

@@ -187,7 +187,7 @@ impl ComparingReader {
             self.new.frame) }
         ensures few { (given : ℕ) → self.new.progress ≡ Reading given → given ≤ max_pes_packets }
         // After the end of the source or a fault, the reader consumes no bytes.
-        ensures no_bytes_remain_at_end { self.old.progress ≡ AtEnd → pes_packets.new ≡
+        ensures consumes_nothing_at_end { self.old.progress ≡ AtEnd → pes_packets.new ≡
             pes_packets.old }
         ensures broken { self.old.progress ≡ Broken → pes_packets.new ≡ pes_packets.old }
         // After a valid packet, or the fault of a complete packet, no byte after that packet has

@@ -134,7 +134,7 @@ impl PesReader {
             result }
         ensures progress { self.new ≡ progress_after self.old result }
         // After the end of the source or a fault, the reader consumes no bytes.
-        ensures no_bytes_remain_at_end { self.old ≡ AtEnd → source.new ≡ source.old }
+        ensures consumes_nothing_at_end { self.old ≡ AtEnd → source.new ≡ source.old }
         ensures broken { self.old ≡ Broken → source.new ≡ source.old }
         ensures count { CountsFailureIf S.failure_count source.old (failed is_read_fault result)
             source.new }
@@ -168,7 +168,7 @@ impl PesReader {
         ensures progress { self.new ≡ progress_after self.old (frame_answer result frame.new) }
         ensures few { (given : ℕ) → self.new ≡ Reading given → given ≤ max_pes_packets }
         // After the end of the source or a fault, the reader consumes no bytes.
-        ensures no_bytes_remain_at_end { self.old ≡ AtEnd → source.new ≡ source.old }
+        ensures consumes_nothing_at_end { self.old ≡ AtEnd → source.new ≡ source.old }
         ensures broken { self.old ≡ Broken → source.new ≡ source.old }
         ensures count { CountsFailureIf S.failure_count source.old (failed is_read_fault result)
             source.new }

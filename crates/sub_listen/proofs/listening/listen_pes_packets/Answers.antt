@@ -127,7 +127,7 @@ packets-preserved g c =
     let taken =
     takes-more c.packets.index _ _ _ _ c.packets.invariant.taken
     (c.in_ok-next.ensures.sent c.in-Sent.sending given) in
-    let whole = ap (λ (us : List UnitValue). first_forbidden_loss (reception_of l)
+    let no_forbidden_loss = ap (λ (us : List UnitValue). first_forbidden_loss (reception_of l)
     c.packets.number (packets_of_units us)) (sym value)
     ∙ sym c.first_forbidden_loss.ensures.value
     ∙ c.in_default-first_forbidden_loss.is in
@@ -169,7 +169,7 @@ packets-preserved g c =
           (c.in_ok-next.ensures.exact pes_packets left i.rest i.rest_eq refl reads)) taken
           c.first_in_frame-before.result _
           (rw (← c.within-within.ensures.value) c.first_in_frame-before.ensures.value)
-          (omega (arith, rises)) (omega (arith, in_time)) whole
+          (omega (arith, rises)) (omega (arith, in_time)) no_forbidden_loss
           ((rw c.in-Some.is at (c.in_ok-next.ensures.left i.rest i.rest_eq)) refl)
           (subst (λ (w : PageIdValue). ReceivesPackets l g.R.Receiver.leaves w
           (display (g.R.Receiver.state c.packets.receiver) c.packets.screen)

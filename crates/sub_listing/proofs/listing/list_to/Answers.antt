@@ -14,7 +14,7 @@ pub items-init : goal.items-init
 items-init g c = record {
   ready = c.requires.ready;
   source = refl;
-  buffered = refl;
+  device = refl;
   same = refl;
   continues = c.requires.continues;
   holds = λ sound. sound;
@@ -185,7 +185,7 @@ items-preserved g c =
     record {
       ready = c.in_default.ensures.ready c.if-printer.false refl;
       source = omega (arith, source, counted);
-      buffered = c.next-end.ensures.device ∙ before.buffered;
+      device = c.next-end.ensures.device ∙ before.device;
       same = c.put.ensures.same ∙ c.next-end.ensures.same ∙ before.same;
       continues = c.in-Ok.ensures.failed ∙ c.if-printer.false;
       holds = λ sound still. absurd (true≢false (sym c.put.ensures.has_pending ∙ still));

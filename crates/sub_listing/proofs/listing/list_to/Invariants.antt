@@ -8,7 +8,7 @@ abbrev pub invariant-items : goal.invariant-items
 invariant-items g l = record {
   ready : g.L.Lister.ready l.lister;
   source : g.L.Lister.failure_count l.input ≡ g.L.Lister.failure_count l.fn.input;
-  buffered : g.L.Lister.device l.input ≡ g.L.Lister.device l.fn.input;
+  device : g.L.Lister.device l.input ≡ g.L.Lister.device l.fn.input;
   same : l.printer.out.ghost_name ≡ l.fn.printer.out.ghost_name;
   continues : l.printer.failed ≡ false;
   holds :

@@ -2,7 +2,7 @@
 -- last TCO.
 use Rattle.std.proofs.Common.{arith, refl}
 use Rattle.std.proofs.lemmas.Bool.Decides.{nat_tests}
-use Rattle.sub_plan.proofs.ProgrammeLemmas.{no_first_tci_means_empty, last_tco_of_first_tci}
+use Rattle.sub_plan.proofs.ProgrammeLemmas.{no_first_tci_means_empty, no_last_tco_means_empty}
 use Rattle.sub_plan.proofs.ProgrammeLemmas.{span-rises}
 use Rattle.sub_plan.proofs.scheduling.schedule.Goals as goal
 
@@ -13,7 +13,7 @@ returns-in_default-clause-empty g c = (
 )
 
 pub returns-in_default-last_tco-clause-empty : goal.returns-in_default-last_tco-clause-empty
-returns-in_default-last_tco-clause-empty g c = grind (arith, nat_tests, last_tco_of_first_tci)
+returns-in_default-last_tco-clause-empty g c = grind (arith, nat_tests, no_last_tco_means_empty)
 
 pub send_all-requires-clause-order : goal.send_all-requires-clause-order
 send_all-requires-clause-order g c =

@@ -29,7 +29,7 @@ returns-clause-gives c = λ b skips.
     let joining : i.joining ≡ after_skipped v.distance v.run v.joining =
     ap (λ (s : StreamValue). s.joining) same ∙ ap (λ (s : StreamValue). s.joining) joined_output in
     let near : 188 ≤ v.distance = omega (arith, c.self.invariant.near, distance) in
-    skipping_advances_stream v w b near c.requires.there c.requires.part_is_open c.requires.idle
+    skipping_advances_stream v w b near c.requires.there c.requires.not_ended c.requires.idle
     distance number
     (ap (λ (n : ℕ). n + 1) run) refl joining
     (ap (λ (s : StreamValue). bytes_ahead s b) c.self.view_is

@@ -26,8 +26,8 @@ returns-clause-gives c = λ bytes.
     ) in
     let step : i.in_step ≡ false =
     ap (λ (s : StreamValue). s.in_step) c.self.view_is ∙ c.requires.out in
-    let part_is_open : has_ended i.joining.part ≡ false =
-    ap (λ (s : StreamValue). has_ended s.joining.part) c.self.view_is ∙ c.requires.part_is_open in
+    let not_ended : has_ended i.joining.part ≡ false =
+    ap (λ (s : StreamValue). has_ended s.joining.part) c.self.view_is ∙ c.requires.not_ended in
     let idle : i.joining.pending ≡ [] =
     ap (λ (s : StreamValue). s.joining.pending) c.self.view_is ∙ c.requires.idle in
     let room : i.run < loss_size i.distance → i.run + count < loss_size i.distance =
@@ -39,6 +39,6 @@ returns-clause-gives c = λ bytes.
     refl refl refl refl refl c.advance-self-inside.ensures.rest
     c.advance-self-inside.ensures.buffered c.advance-self-inside.ensures.left
     (λ rest. c.junk_size-count.ensures.gives i.distance i.number i.run i.joining rest
-    c.self.invariant.near room part_is_open idle
+    c.self.invariant.near room not_ended idle
     ∙ ap (λ (l : List ℕ). stream_output i.distance i.number i.run false i.joining
     (take count l ++ rest)) c.buffered.ensures.buffered))

@@ -28,8 +28,8 @@ returns-then-not-is_unit_of_pid-clause-kept g c =
     let skipped : c.skip_bytes.result ≡ true = search rules in
     let within : length borrowed ≤ i.window.left = omega arith in
     let none : i.window.buffered ≡ [] = nil_from_length i.window.buffered (omega arith) in
-    let part_is_open : has_ended i.joining.part ≡ false =
-    ap (λ (s : StreamValue). has_ended s.joining.part) c.self.view_is ∙ c.requires.part_is_open in
+    let not_ended : has_ended i.joining.part ≡ false =
+    ap (λ (s : StreamValue). has_ended s.joining.part) c.self.view_is ∙ c.requires.not_ended in
     let idle : i.joining.pending ≡ [] =
     ap (λ (s : StreamValue). s.joining.pending) c.self.view_is ∙ c.requires.idle in
     rw (← c.self.view_is)
@@ -40,7 +40,7 @@ returns-then-not-is_unit_of_pid-clause-kept g c =
     (λ bytes. other_units_change_no_output v w _ bytes place (length-take-le place borrowed fits)
     none
     (omega (arith, fits, within)) step (c.self.invariant.no_run_in_step step)
-    (λ rest. c.place_after_other_pids-place.ensures.gives rest i.joining part_is_open idle)
+    (λ rest. c.place_after_other_pids-place.ensures.gives rest i.joining not_ended idle)
     (ap (λ (u : WindowValue). record v { window = u; lead = 0 })
     c.count_skipped_bytes.ensures)))
 
@@ -61,8 +61,8 @@ returns-clause-kept g c =
     (borrowed_count_is_available borrowed (g.S.Source.borrowed c.args.source.now) count
     c.buffered-borrowed.ensures.borrowed fits) in
     let none : i.window.buffered ≡ [] = nil_from_length i.window.buffered (omega arith) in
-    let part_is_open : has_ended i.joining.part ≡ false =
-    ap (λ (s : StreamValue). has_ended s.joining.part) c.self.view_is ∙ c.requires.part_is_open in
+    let not_ended : has_ended i.joining.part ≡ false =
+    ap (λ (s : StreamValue). has_ended s.joining.part) c.self.view_is ∙ c.requires.not_ended in
     let idle : i.joining.pending ≡ [] =
     ap (λ (s : StreamValue). s.joining.pending) c.self.view_is ∙ c.requires.idle in
     let w : StreamValue = record v {
@@ -90,6 +90,6 @@ returns-clause-kept g c =
     (c.skip_bytes-2.ensures.bytes skipped)
     (λ bytes. borrowed_packet_is_output v w borrowed packet bytes place count refl fits none
     (omega (arith, fits, within)) step (c.self.invariant.no_run_in_step step) c.self.invariant.near
-    c.packet_in_unit.ensures (rw c.packet_in_unit.ensures mine.0) part_is_open idle
-    (λ rest. c.place_after_other_pids-place.ensures.gives rest i.joining part_is_open idle)
+    c.packet_in_unit.ensures (rw c.packet_in_unit.ensures mine.0) not_ended idle
+    (λ rest. c.place_after_other_pids-place.ensures.gives rest i.joining not_ended idle)
     joined_output))

@@ -4,7 +4,7 @@ use Rattle.ttx_page.specs.Page.{DiffersFirst, Rows, blank}
 use Rattle.sub_packets.specs.UnexpectedCodes.{LacksDueCodes}
 use Rattle.sub_plan.specs.Schedule.{due_page_in}
 use Rattle.sub_packets.proofs.UnexpectedLemmas.{unexpected_eq}
-use Rattle.sub_packets.proofs.UnexpectedLemmas.{no_unexpected_cell_shows_expected_codes}
+use Rattle.sub_packets.proofs.UnexpectedLemmas.{blank_page_has_no_unexpected_cell}
 use Rattle.sub_packets.proofs.listener.Listener.first_unexpected.Goals as goal
 
 pub returns : goal.returns
@@ -24,7 +24,7 @@ returns c =
 pub returns-then-count_nonblank_cells-eq0 : goal.returns-then-count_nonblank_cells-eq0
 returns-then-count_nonblank_cells-eq0 c =
     sym
-    (no_unexpected_cell_shows_expected_codes c.args.self.now (due_page_in c.args.programme.now)
+    (blank_page_has_no_unexpected_cell c.args.self.now (due_page_in c.args.programme.now)
     c.args.first c.args.frame
     c.args.within
     (ap (differing_cell_count blank) (sym c.shown-shown.ensures)
