@@ -100,8 +100,8 @@ no_marker_before_first_packet : (wrong : Bool)
 unfolding with_gap_markers
 no_marker_before_first_packet wrong = grind (arith, nat_tests)
 
--- From the start of a recording, the output of good packets is the bytes of the outcomes of their
--- parts, with gap markers where data is missing.
+-- From the start of a recording, the output of good packets is the bytes for the outcomes of their
+-- parts, with gap markers as `with_gap_markers` defines.
 joining_starts_with_outcomes : (wrong : Bool) (goods : List GoodPacket)
     → FirstFollowsBreak goods
     → HavePayloads goods
@@ -121,8 +121,8 @@ joining_starts_with_outcomes wrong (g ∷ more) cut all =
     ∙ sym (ap (output given.Nothing) (outcomes-from wrong (single_packet_part g) more))
     ∙ sym (with_gap_markers-nothing false (outcomes wrong (parts (g ∷ more)))))
 
--- The output for a recording, read from its start, is the PES packets that the transport packets of
--- the PID carry, with gap markers where data is missing.
+-- The output for a recording, read from its start, is what `carried_bytes` defines: the PES packets
+-- of the PID, with gap markers where data is missing after the first of them.
 pub stream_outputs_carried_bytes : (number distance : ℕ) (recording : List ℕ)
     → output_of (start_of_stream number distance) recording ≡ carried_bytes number distance
     recording

@@ -1,4 +1,4 @@
--- The output for a recording is what the consumed bytes carry.
+-- If the consumed bytes of a recording give no more output, they carry the output so far.
 use Rattle.std.proofs.Common.{◌≡◌, ℕ, List, [], ◌++◌, take, Option, Some, None, sym, ap, ◌∙◌}
 use Rattle.std.proofs.Common.{append_assoc, subst}
 use Rattle.std.proofs.lemmas.List.{append-nil, append_cancel_right}

@@ -53,7 +53,8 @@ pub joined_output-ended : (v : JoiningValue) (wrong : Bool) (goods : List GoodPa
 joined_output-ended v wrong [] e = rw e refl
 joined_output-ended v wrong (g ∷ more) e = rw e refl
 
--- The output of good transport packets is the output of their parts, in each state of reassembly.
+-- The output of good transport packets is the output of their parts, in each state of reassembly in
+-- which no part has ended the stream.
 pub record OutputOfGoods (wrong : Bool) (goods : List GoodPacket) : Type 0 where
   pub headless :
       (v : JoiningValue) (part : Part)
@@ -234,8 +235,8 @@ new_part_after_incomplete wrong more part h g h1 = grind (
   output-again,
 )
 
--- By induction over the packets, the output of good packets is the output of their parts, from any
--- state of reassembly.
+-- By induction over the packets, the output of good packets is the output of their parts, in each
+-- state of reassembly in which no part has ended the stream.
 pub joined_output_is_correct : (wrong : Bool) (goods : List GoodPacket) → HavePayloads goods →
     OutputOfGoods wrong
     goods

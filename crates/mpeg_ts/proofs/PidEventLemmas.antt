@@ -136,7 +136,7 @@ remembered_link_is_correct v s o p h1 h2 h3 = grind (
   counter_test_is_correct,
 )
 
--- If a transport packet among the events has a payload, the payload is not empty.
+-- If a usable transport packet among the events has a payload, the payload is not empty.
 abbrev pub AreSound : List PidEvent → Type 0
 AreSound [] = Unit {0}
 AreSound (Valid p ∷ more) = (has_payload p ≡ true → 0 < length (payload p)) × AreSound more
@@ -214,7 +214,8 @@ abbrev pub StartAfterBreak : Bool → List GoodPacket → Type 0
 StartAfterBreak wrong [] = wrong ≡ true
 StartAfterBreak wrong (g ∷ more) = g.link ≡ Break
 
--- If an unusable packet comes after a good packet, the link of the next good packet is a break.
+-- If an unusable packet comes after a good packet, the link of the next good packet is a break; if
+-- there is no next one, an unusable packet follows the last good packet.
 wrong_packet_breaks_next : (s : PacketHistory) (q : List ℕ) (all : List PidEvent)
     → s.has_unusable_packet ≡ true
     → s.good ≡ Some q

@@ -53,7 +53,8 @@ pending_packet_is_consumed before known_bytes u v w pes_packet keeps prefix same
         → Consumes (remaining_output u before) (remaining_output w known_bytes) pes_packet
     back p = rw whole p
 
--- If the pending bytes do not begin with a PES packet, they are the remaining output.
+-- If all collected bytes are pending and the part has ended the stream, they are the remaining
+-- output.
 ended_stream_outputs_rest : (v : StreamValue) (bytes : List ℕ)
     → v.joining.pending ≡ v.joining.bytes
     → has_ended v.joining.part ≡ true

@@ -54,7 +54,8 @@ skipped_byte_is_first_item distance in_step room bytes h1 h2 = grind (arith, nat
 pub boolean_cases : {P : Type 0} (b : Bool) → (b ≡ true → P) → (b ≡ false → P) → P
 boolean_cases b h1 h2 = grind (arith, nat_tests)
 
--- The number of items is at most the number of bytes, so any larger bound gives the same items.
+-- The number of items is at most the number of bytes, so all bounds of at least this number give
+-- the same items.
 pub extra_steps_add_no_items : (distance : ℕ) (in_step : Bool) (room : ℕ) (more : ℕ)
     (bytes : List ℕ)
     → 188 ≤ distance
@@ -326,8 +327,8 @@ loss_outputs_nothing_more : (j : JoiningValue) (more : List PidEvent)
 unfolding later_output
 loss_outputs_nothing_more j more h1 = grind (arith, nat_tests, boolean_cases)
 
--- Out of step, at most `distance` bytes contain no transport packet, since no sync byte in them is
--- followed by another one at that distance.
+-- Out of step, at most `distance` bytes give no output, since no sync byte in them is followed by
+-- another one at that distance.
 skipped_tail_outputs_nothing : (distance number run room : ℕ) (j : JoiningValue) (bytes : List ℕ)
     → length bytes ≤ distance
     → later_output (without_pending j)
@@ -359,7 +360,7 @@ skipped_tail_outputs_nothing distance number run (suc room) j bytes few =
     conjunction_ends_false true = refl
     conjunction_ends_false false = refl
 
--- Too few bytes to determine the next item give no output.
+-- If nothing is pending, too few bytes to determine the next item give no output.
 too_few_bytes_output_nothing : (distance number run : ℕ) (in_step : Bool) (j : JoiningValue)
     (bytes : List ℕ)
     → length bytes < bytes_needed distance in_step

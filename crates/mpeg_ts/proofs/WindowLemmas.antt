@@ -56,8 +56,8 @@ window_left_is_at_end w known_bytes room some end = nothing_left_to_take w.left 
 abbrev shifted_condition : WindowValue → (List ℕ → Bool) → List ℕ → Bool
 shifted_condition w is_enough bytes = is_enough (buffered_and_left w bytes)
 
--- A successful pull of as many bytes as the buffer has room for requests no more bytes than
--- allowed.
+-- A successful pull that requests exactly `room` bytes requests no more bytes than `RequestsUpTo`
+-- allows.
 pub window-requested : {D : Type 0} (IsPull : D → ℕ → Option ℕ → D → Type 0) (borrowed : D → List ℕ)
     (remaining : D → Option (List ℕ)) (before after : D) (buffered got : List ℕ)
     (left less n requested room : ℕ)
@@ -87,7 +87,7 @@ window-requested IsPull borrowed remaining before after buffered got left less n
         → length got + less ≡ left
     all less n left got long is = omega (arith, long, is)
 
--- A pull that fails requests no more bytes than allowed.
+-- A pull that fails and requests `room` bytes requests no more than `RequestsUpTo` allows.
 pub window-failed : {D : Type 0} (IsPull : D → ℕ → Option ℕ → D → Type 0) (borrowed : D → List ℕ)
     (remaining : D → Option (List ℕ)) (before after : D) (w v : WindowValue) (requested room : ℕ)
     → IsPull before requested None after

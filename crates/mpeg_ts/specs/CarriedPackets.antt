@@ -21,10 +21,10 @@ abbrev pub gap_marker_where : Bool → List ℕ
 gap_marker_where true = gap_marker
 gap_marker_where false = []
 
--- The bytes of PES packets and gap markers for the outcomes of parts. `given`: a PES packet came
--- before; `gap`: a gap followed it. One gap marker stands for all gaps between two PES packets, or
--- after the last PES packet. Gaps before the first PES packet have no marker, since a recording may
--- begin anywhere.
+-- The bytes for the outcomes of parts: PES packets and gap markers, up to the first `Other` bytes.
+-- `given`: a PES packet came before; `gap`: a gap came after it. One gap marker stands for all gaps
+-- from one PES packet to the next, or after the last. Gaps before the first PES packet have no
+-- marker, since a recording may begin anywhere.
 unfoldable pub with_gap_markers : Bool → Bool → List PartOutcome → List ℕ
 with_gap_markers given gap [] = gap_marker_where (given && gap)
 with_gap_markers given gap (Gap ∷ more) = with_gap_markers given true more
@@ -33,8 +33,8 @@ with_gap_markers given gap (Pes bytes ∷ more) =
 with_gap_markers given gap (Other bytes ∷ more) = gap_marker_where (given && gap) ++ bytes
 
 -- The complete PES packets that the transport packets of a PID carry in a recording with this
--- packet size, with gap markers where data is missing. A part with a wrong start code or length
--- comes last.
+-- packet size, with a gap marker after each one that a gap follows. Of a part with a wrong start
+-- code or length, the first payloads come last.
 unfoldable pub carried_bytes : ℕ → ℕ → List ℕ → List ℕ
 carried_bytes number distance recording =
     with_gap_markers false false

@@ -41,8 +41,8 @@ pid_events distance number run (Skipped ∷ items) =
 -- ---- good transport packets
 
 -- The link of a good transport packet to the good packet before it: there is none before it
--- (`First`); it follows that packet directly; a discontinuity was announced between them and no
--- data is known to be lost (`Seam`); or data was lost between them (`Break`).
+-- (`First`); it follows that packet directly; a discontinuity was announced between them or by the
+-- packet itself, and no data is known to be lost (`Seam`); or data counts as lost (`Break`).
 pub data PacketLink : Type 0 where
   First : PacketLink
   Follows : PacketLink
@@ -63,7 +63,7 @@ pub record PacketHistory : Type 0 where
   pub has_unusable_packet : Bool
   pub has_loss : Bool
 
--- The history of events directly after this good transport packet: no further event.
+-- The history with this last good transport packet (`None` before the first) and no event since.
 abbrev pub empty_history : Option (List ℕ) → PacketHistory
 empty_history good = record {
   good = good;
@@ -108,7 +108,7 @@ link_from (Some q) history p =
 abbrev pub linked_packet : PacketHistory → List ℕ → GoodPacket
 linked_packet history p = record { link = link_from history.good history p; packet = p }
 
--- Good transport packets in order, and whether an unusable packet of the PID follows the last of
+-- Good transport packets in order, and whether an unusable packet of the PID comes after all of
 -- them.
 pub record GoodPackets : Type 0 where
   pub packets : List GoodPacket

@@ -31,7 +31,7 @@ use Rattle.mpeg_ts.specs.declared.pending_item.PendingItem.TheVariants as pendin
 -- announced a discontinuity, and its payload (empty before the first good packet). Since then:
 -- whether it was repeated, a discontinuity was announced, or data was lost. The progress of the
 -- current part; the bytes of the part, or only the last payload if no more of the part will be
--- returned; the kind of the item that became pending last; and the pending bytes.
+-- returned; whether a PES packet or a gap marker became pending last; and the pending bytes.
 pub record JoiningValue : Type 0 where
   pub header : List ℕ
   pub announced : Bool
@@ -69,7 +69,7 @@ abbrev pub is_complete : PartState → Bool
 is_complete Complete = true
 is_complete _ = false
 
--- The item that became pending last is a PES packet.
+-- Of PES packets and gap markers, a PES packet became pending last.
 abbrev pub gave_pes_packet : Given → Bool
 gave_pes_packet given.Packet = true
 gave_pes_packet _ = false
@@ -104,8 +104,8 @@ with_remembered_packet v p = record v {
   has_break = false;
 }
 
--- The kind of the item that became pending last, after a possible gap. Only the first gap after a
--- PES packet has a gap marker.
+-- Whether a PES packet or a gap marker became pending last, after a possible gap. Only the first
+-- gap after a PES packet has a gap marker.
 abbrev pub last_output_after : Bool → Given → Given
 last_output_after gap g = if gap && gave_pes_packet g then given.GapMarker else g
 
@@ -146,7 +146,8 @@ grow_part gap v more =
     settle_found (found_in (v.bytes ++ more))
     (with_gap gap (record v { part = Open; bytes = v.bytes ++ more; last = more }))
 
--- The state of reassembly after a payload was stored that is not part of a PES packet.
+-- The state of reassembly after a payload was stored that is not part of a PES packet to be
+-- returned.
 abbrev pub with_buffered_payload : Bool → JoiningValue → List ℕ → JoiningValue
 with_buffered_payload gap v more = with_gap gap (record v { bytes = more; last = more })
 

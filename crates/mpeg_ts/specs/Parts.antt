@@ -1,7 +1,7 @@
 -- Splits the good transport packets of a PID into parts with at most one PES packet each. A
--- complete part gives a PES packet, and an incomplete part gives a gap, unless the recording may
--- end within it (ISO/IEC 13818-1, payload_unit_start_indicator: a PES packet begins with the first
--- byte of the payload; EN 300 472: the length of a PES packet).
+-- complete part gives a PES packet; one with a wrong start code or length ends the stream; any
+-- other gives a gap, unless the recording may end within it (ISO/IEC 13818-1,
+-- payload_unit_start_indicator; EN 300 472: the length of a PES packet).
 use Rattle.std.specs.Prelude.{ℕ, ◌-◌, ◌&&◌, ◌||◌, not, nat_lt, nat_le, Bool, true, false}
 use Rattle.std.specs.Prelude.{if◌then◌else◌, List, [], ◌∷◌, ◌++◌, length, take, Result, Ok, Err}
 use Rattle.std.specs.List.{concat}
@@ -22,8 +22,8 @@ abbrev pub is_break : PacketLink → Bool
 is_break Break = true
 is_break _ = false
 
--- A discontinuity was announced between a good transport packet and the good packet before it, and
--- no data is known to be lost.
+-- A discontinuity was announced by a good transport packet, or between it and the good packet
+-- before it, and no data is known to be lost.
 abbrev pub is_seam : PacketLink → Bool
 is_seam Seam = true
 is_seam _ = false
@@ -81,7 +81,8 @@ gap_where false = []
 abbrev pub part_bytes : Part → List ℕ
 part_bytes part = concat part.payloads
 
--- The joined bytes of the first payloads that together have at least `count` bytes.
+-- The joined bytes of the first payloads that together have at least `count` bytes, or of all
+-- payloads if they have fewer.
 unfoldable pub payloads_up_to : ℕ → List (List ℕ) → List ℕ
 payloads_up_to count [] = []
 payloads_up_to count (first ∷ more) =

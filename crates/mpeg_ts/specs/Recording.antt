@@ -23,8 +23,8 @@ pub record IsAtRest (v : StreamValue) : Type 0 where
   pub all : v.joining.pending ≡ v.joining.bytes
   pub ended : has_ended v.joining.part ≡ true
 
--- The remaining bytes of a reader, without a rest that it has reported: none after it returned
--- `Rest`, and `known_bytes` before. The bytes of the rest are returned by `read_rest`.
+-- The remaining bytes of a reader, without a rest that it has reported: none if its last call of
+-- `next` returned `Rest`, otherwise `known_bytes`. The bytes of the rest are read by `read_rest`.
 abbrev pub remaining_unless_over : Bool → Option (List ℕ) → Option (List ℕ)
 remaining_unless_over false known_bytes = known_bytes
 remaining_unless_over true known_bytes = option_map (λ bytes. []) known_bytes

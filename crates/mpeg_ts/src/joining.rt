@@ -37,7 +37,7 @@ pub(crate) enum PartState {
     Ended,
 }
 
-/// The kind of the item that became pending last. It may still be pending.
+/// Whether a PES packet or a gap marker became pending last. It may still be pending.
 #[derive(Drop)]
 pub(crate) enum Given {
     /// No PES packet has become pending yet.
@@ -136,7 +136,7 @@ impl Joining {
         }
     }
 
-    /// Returns whether no output follows the pending bytes.
+    /// Returns whether the current part has ended the stream: no output follows the pending bytes.
     #[inline(always)]
     pub fn has_ended(&self) -> bool
         ensures { result ≡ has_ended self.now.part }
@@ -202,7 +202,7 @@ impl Joining {
         }
     }
 
-    // Returns the payload of the last good transport packet.
+    // Returns the stored payload of the last good transport packet; it is empty before the first.
     fn last_payload(&self) -> &[u8]
         ensures { result.now ≡ self.now.last }
     {
@@ -257,8 +257,8 @@ impl Joining {
         counter_of(packet) != (self.header[3] % 0x10 + 1) % 0x10
     }
 
-    /// Returns whether a discontinuity was announced between the last good transport packet and
-    /// `packet` (discontinuity_indicator), and no data is known to be lost.
+    /// Returns whether a discontinuity was announced after the last good transport packet, at the
+    /// latest by `packet` (discontinuity_indicator), and no data is known to be lost.
     pub fn is_after_seam(&self, packet: &[u8; PACKET]) -> bool
         ensures { result ≡ is_seam (link_after self.now self.now.last packet.now) }
     {
@@ -337,7 +337,8 @@ impl Joining {
         self.payload_size = 0;
     }
 
-    // Stores a payload that is not part of a PES packet, and clears all earlier bytes.
+    // Stores a payload that is not part of a PES packet to be returned, and clears all earlier
+    // bytes.
     #[tactic(auto, using(crate::proofs::ReadyLemmas::growing))]
     #[inline(never)]
     fn buffer_payload(&mut self, gap: bool, payload: &[u8])
@@ -352,7 +353,7 @@ impl Joining {
     }
 
     // Appends a payload to an incomplete PES packet. If the PES packet is now complete, it becomes
-    // pending.
+    // pending; if its start code or length is wrong, all collected bytes do.
     #[tactic(auto, using(crate::proofs::ReadyLemmas::growing))]
     #[inline(always)]
     fn append_payload(&mut self, gap: bool, payload: &[u8])
@@ -393,8 +394,8 @@ impl Joining {
         }
     }
 
-    /// Takes the next pending item. Bytes that are no PES packet stay pending, so that `extract`
-    /// can read them; `take_next_or_rest` removes them too.
+    /// Takes the next pending item. Bytes that are no PES packet stay pending, so that `read_rest`
+    /// can return them; `take_next_or_rest` removes them too.
     #[tactic(auto, using(crate::proofs::ReadyLemmas::taking))]
     #[inline(always)]
     pub fn take_next(&mut self) -> Next
@@ -439,7 +440,7 @@ impl Joining {
         }
     }
 
-    /// Returns the bytes of an item that `take_next` returned.
+    /// Returns the bytes of an item that `take_next` or `take_next_or_rest` returned.
     #[inline(always)]
     pub fn taken(&self, next: Next) -> &[u8]
         requires { IsNextWithin next self.now.bytes }
@@ -456,7 +457,7 @@ impl Joining {
         }
     }
 
-    // Returns the bytes collected for the current PES packet.
+    // Returns the collected bytes: those of the current PES packet, or only the last payload.
     pub(crate) fn bytes(&self) -> &[u8]
         ensures bytes { result.now ≡ self.now.bytes }
         ensures most { length result.now ≤ 1840 }

@@ -75,8 +75,8 @@ pub(crate) fn is_unit_of_pid(bytes: &[u8], place: usize, distance: usize, number
 }
 
 // Returns the number of bytes before the first sync byte, or of all bytes if there is none. When
-// reading is out of step, no transport packet begins in them. The caller must not pass the byte
-// with which the skipped bytes become a loss.
+// reading is out of step, no transport packet begins in them. The caller must not skip them if the
+// skipped bytes become a loss within them.
 #[tactic(auto, using(crate::proofs::StreamLemmas::junk))]
 pub(crate) fn junk_size(bytes: &[u8]) -> usize
     ensures within { result ≤ length bytes.now }

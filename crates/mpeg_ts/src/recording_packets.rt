@@ -64,8 +64,8 @@ impl<S: Source> RecordingPesPackets<S> {
     #[tactic(auto, using(crate::proofs::CarriedPacketLemmas::known_output_is_carried))]
     pub fn new(source: S, pid: Pid, packet_size: PacketSize) -> Self
         ensures start { result ≡ recording_at_start source pid (bytes_of packet_size) }
-        // The output of the reader is the PES packets that the transport packets of the PID carry,
-        // with gap markers where data is missing.
+        // The output of the reader is what `carried_bytes` defines: the PES packets of the PID,
+        // with gap markers where data is missing after the first of them.
         ensures carried_bytes { remaining_output result.stream (S.remaining result.device)
             ≡ option_map (carried_bytes pid (bytes_of packet_size)) (S.remaining source) }
     {
@@ -97,8 +97,8 @@ impl<S: Source> PesPackets for RecordingPesPackets<S> {
 
     ghost ready = { λ r. is_output_ready r.stream };
 
-    /// Lets `taker` process the next PES packet or gap marker. Reads more bytes if no item is
-    /// pending.
+    /// Lets `taker` process the next PES packet or gap marker, if there is one. Reads more bytes if
+    /// no item is pending.
     ///
     /// # Errors
     ///
@@ -140,7 +140,8 @@ impl<S: Source> PesPackets for RecordingPesPackets<S> {
         }
     }
 
-    /// Returns the remaining bytes, which do not begin with a PES packet: all collected bytes.
+    /// Copies the remaining bytes, which do not begin with a PES packet, to the front of `room`,
+    /// and returns their number. They are all collected bytes.
     #[tactic(auto, using(crate::proofs::RecordingLemmas::rests))]
     fn read_rest(&mut self, room: &mut [u8; REST_BUFFER_SIZE]) -> Result<usize, Failed> {
         let bytes = self.stream.bytes();
@@ -150,7 +151,7 @@ impl<S: Source> PesPackets for RecordingPesPackets<S> {
         Ok(count)
     }
 
-    /// Returns whether a PES packet or gap marker is pending.
+    /// Returns whether a PES packet, a gap marker, or bytes that are no PES packet are pending.
     #[inline(always)]
     fn is_ready(&self) -> bool {
         !self.stream.has_nothing_pending()

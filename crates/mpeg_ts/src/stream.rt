@@ -97,7 +97,7 @@ impl Stream {
     }
 
     // Reads until the buffered bytes determine the next item: a transport packet or a byte outside
-    // packets. Returns `false` if the recording ends before that.
+    // packets. Returns `false` if the recording ends, or 2^48 bytes were read, before that.
     #[tactic(auto, using(crate::proofs::StreamLemmas::needing))]
     fn read_needed<S: Source>(&mut self, source: &mut S) -> Result<bool, Failed>
         requires count { CanFail (S.failure_count source.old) }
@@ -280,7 +280,7 @@ impl Stream {
         }
     }
 
-    // Processes the next item. Returns `false` at the end of the recording.
+    // Processes the next item. Returns `false` if the bytes that may be read contain none.
     #[inline(never)]
     #[tactic(auto, using(crate::proofs::StreamLemmas::steps))]
     fn step<S: Source>(&mut self, source: &mut S) -> Result<bool, Failed>
@@ -310,9 +310,9 @@ impl Stream {
         Ok(true)
     }
 
-    // Skips transport packets of other PIDs in the source's buffer, without a copy, and processes
-    // the packet of the PID after them if all bytes up to the next packet are in the buffer.
-    // Returns whether any packet was skipped or processed.
+    // Skips packets of other PIDs in the source's buffer, without a copy, and processes the packet
+    // of the PID after them if the buffer has all bytes up to the next packet. Does nothing if
+    // reading is out of step, and in some other cases. Returns whether it did anything.
     #[inline(always)]
     #[tactic(auto, using(crate::proofs::StreamLemmas::skims))]
     fn take_borrowed<S: Source>(&mut self, source: &mut S) -> bool
@@ -362,7 +362,7 @@ impl Stream {
         self.joining.has_nothing_pending() && !self.joining.has_ended()
     }
 
-    // Reads until an item is pending or the recording ends.
+    // Reads until an item is pending, the recording ends, or no more output can follow.
     #[inline(always)]
     #[tactic(auto, using(crate::proofs::StreamLemmas::reads))]
     pub(crate) fn read_ahead<S: Source>(&mut self, source: &mut S) -> Result<(), Failed>
@@ -386,7 +386,8 @@ impl Stream {
         self.read_more(source)
     }
 
-    // Reads more bytes from the source if no item is pending.
+    // Reads from the source while no item is pending and more output may follow, up to the end of
+    // the recording.
     #[inline(always)]
     #[tactic(auto, using(crate::proofs::StreamLemmas::reads))]
     fn read_more<S: Source>(&mut self, source: &mut S) -> Result<(), Failed>
@@ -427,7 +428,7 @@ impl Stream {
         self.joining.take_next()
     }
 
-    // Returns the bytes collected for the current PES packet.
+    // Returns the collected bytes: those of the current PES packet, or only the last payload.
     pub(crate) fn bytes(&self) -> &[u8]
         ensures bytes { result.now ≡ self.now.joining.bytes }
         ensures most { length result.now ≤ 1840 }

@@ -119,7 +119,8 @@ impl Window {
         Ok(n)
     }
 
-    // Reads until the buffer has `count` bytes. Returns `false` if the recording ends before that.
+    // Reads until the buffer has `count` bytes. Returns `false` if the recording ends, or no more
+    // bytes may be read, before that.
     #[tactic(auto, using(crate::proofs::WindowLemmas::filling))]
     pub(crate) fn fill_window_to<S: Source>(
         &mut self,

@@ -1,5 +1,5 @@
--- If fewer than 15 consecutive TS packets with payload are missing, a recording carries exactly the
--- PES packets that arrive. Those without a gap marker between them were sent one after another.
+-- If fewer than 15 consecutive TS packets with payload are missing or damaged, a recording carries
+-- exactly the PES packets that arrive. Those with no gap marker between them were sent in sequence.
 use Rattle.std.proofs.Common.{◌≡◌, ℕ, inl, inr, Bool, true, false, ◌||◌, List, [], ◌∷◌, ◌++◌}
 use Rattle.std.proofs.Common.{length, refl, sym, ap, ◌∙◌}
 use Rattle.std.specs.List.{concat}
@@ -31,8 +31,8 @@ concat-alone : (marked : Bool) → concat (gap_markers_where marked) ≡ gap_mar
 concat-alone true = append-nil (gap_marker_where true)
 concat-alone false = refl
 
--- If fewer than 15 consecutive TS packets with payload are missing, the bytes that are read are
--- those of the PES packets that arrive, in order, with the gap markers between them.
+-- If fewer than 15 consecutive TS packets with payload are missing or damaged, the bytes that are
+-- read are those of the PES packets that arrive, in order, with the gap markers between them.
 reads-lead : (previous : PreviousResult) (sent : List (SentPes SentUnit))
     (pes_packets : List (List ℕ))
     → ReadsSent true previous sent pes_packets

@@ -130,8 +130,8 @@ module _ {A : Type 0} (packet_of : A → List ℕ) (number : ℕ) where
       ≡ good_packets_after (record (empty_history (Some p)) { has_repeat = is_some again }) ns
   good-again p again ns h1 = grind (arith, nat_tests, append-nil, good-repeat, is_repeat-again)
 
-  -- The items of a carrier add exactly one good packet, the carrier's TS packet, if this is no
-  -- repeat, whatever events follow.
+  -- If the carrier's TS packet with payload is no repeat of an earlier one, it is the only one of
+  -- the carrier's items that the reader accepts, whatever events follow.
   pub good-carrier : (history : PacketHistory) (c : Carrier A) (ns : List PidEvent) (first : Bool)
       → IsCarrier packet_of number first c
       → is_repeat history (packet_of c.packet) ≡ false
@@ -164,7 +164,8 @@ module _ {A : Type 0} (packet_of : A → List ℕ) (number : ℕ) where
           ≡ heard c.packet ++ (before ++ (again ++ (after ++ ns)))
       split = simp (flat_map-append, append_assoc)
 
-  -- The next TS packet with payload that a multiplexer may send is not a repeat.
+  -- If a multiplexer may send `d` as the next carrier after `c`, the reader does not take the TS
+  -- packet with payload of `d` for a repeat of that of `c`.
   pub next-fresh : (c d : Carrier A)
       → IsNextCarrier packet_of number c d
       → is_repeat (history_after_carrier c) (packet_of d.packet) ≡ false

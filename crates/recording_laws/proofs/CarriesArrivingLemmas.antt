@@ -11,7 +11,8 @@ use Rattle.recording_laws.specs.Losses.{units_before_copy}
 use Rattle.recording_laws.specs.Multiplex.{SentPes}
 use Rattle.recording_laws.proofs.LossyNoteLemmas.{or-true}
 
--- The bytes are those of the PES packets that arrive, followed by at most one gap marker.
+-- The bytes are those of the PES packets that arrive, with their gap markers (`arriving_bytes`).
+-- One more gap marker may be at the end, if a PES packet arrived before it.
 pub record CarriesArriving (given gap : Bool) (sent : List (SentPes SentUnit)) (bytes : List ℕ) :
     Type 0 where
   pub has_gap_marker : Bool

@@ -20,15 +20,16 @@ pub gap-before : (given gap here : Bool) (more : List PartOutcome)
 unfolding with_gap_markers
 gap-before given gap here more = grind (arith, nat_tests)
 
--- The bytes are `prefix`, followed by at most one gap marker, which is possible only after a PES
--- packet.
+-- The bytes are `prefix`, followed by at most one gap marker, and by none unless a PES packet was
+-- output before (`given`).
 pub record MayEndInGapMarker (given : Bool) (prefix bytes : List ℕ) : Type 0 where
   pub has_gap_marker : Bool
   pub marker_follows_packet : has_gap_marker ≡ true → given ≡ true
   pub bytes_are_equal : bytes ≡ prefix ++ gap_marker_where has_gap_marker
 
--- The output for the part is `prefix`, whatever parts follow. After the part, `given'` means that a
--- PES packet was output, and `gap'` that data was lost after it.
+-- The output for the part is `prefix`, whatever parts follow; at the end of the recording, one gap
+-- marker may follow. After the part, `given'` means that a PES packet was output, and `gap'` that
+-- data was lost after it.
 pub record ClosesPart (part : Part) (given gap : Bool) (prefix : List ℕ) (given' gap' : Bool)
     : Type 0 where
   pub next :

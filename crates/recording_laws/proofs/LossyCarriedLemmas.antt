@@ -240,8 +240,8 @@ module _ (distance number : ℕ) where
   counter-number : (a : ℕ) → a % 16 ≡ (15 + a % 16 + 1 + 0) % 16
   counter-number a = omega arith
 
-  -- Without announced jumps, the continuity counter increases by one from each TS packet with
-  -- payload to the next.
+  -- Without announced jumps, the continuity counter increases by one, modulo 16, from each TS
+  -- packet with payload to the next.
   all-rising : (cs : List (Carrier SentUnit))
       → AllByRecursion (IsAnyLossyCarrier distance number) cs
       → AreInSequence (sent_packet distance) number cs

@@ -25,8 +25,8 @@ use Rattle.recording_laws.proofs.CarrierLemmas.{counter-same}
 use Rattle.recording_laws.proofs.LossyNoteLemmas.{IsLossyUnit, IsLossyCarrier, repeat_or_packet}
 use Rattle.recording_laws.proofs.LossyNoteLemmas.{history_after_loss}
 
--- The TS packet `h` has the continuity counter and the payload of packet `p`, and announces no
--- jump.
+-- The TS packet `h` has the continuity counter and the payload of packet `p`, starts a PES packet
+-- exactly if `p` does, and announces no jump.
 pub record IsPacketCopy (p h : List ℕ) : Type 0 where
   pub counter : counter h ≡ counter p
   pub begins : begins h ≡ begins p
@@ -154,8 +154,8 @@ module _ (distance number : ℕ) where
       → 0 < length (payload (sent_packet distance c.packet))
   carrier-payload first c h1 = grind (arith, nat_tests, payload-long, length-packet)
 
-  -- The continuity counter increases by one from each TS packet with payload to the next, starting
-  -- with `j`.
+  -- The continuity counter of the first TS packet with payload is `j` modulo 16, and it increases
+  -- by one, modulo 16, from each TS packet with payload to the next.
   abbrev pub AreCountersConsecutive : ℕ → List (Carrier SentUnit) → Type 0
   AreCountersConsecutive j [] = ⊤
   AreCountersConsecutive j (c ∷ more) =

@@ -21,7 +21,8 @@ use Rattle.recording_laws.proofs.CarrierLemmas.{is_repeat-again}
 use Rattle.recording_laws.proofs.CarrierLemmas.{history_after_irrelevant}
 use Rattle.recording_laws.proofs.RecordingLemmas.{notes_of_packet}
 
--- The history of a PID since an accepted packet, without announced jumps and skipped bytes.
+-- The history of a PID since the last accepted packet, if any, without announced jumps and skipped
+-- bytes.
 abbrev pub history_after_loss : Option (List ℕ) → Bool → Bool → PacketHistory
 history_after_loss good again wrong = record {
   good = good;
@@ -198,7 +199,8 @@ module _ (distance number : ℕ) where
   good-empty_first_gives_nothing good again wrong first c ns h1 h2 =
       grind (arith, nat_tests, heard-carrier, good-lost, good-quiets-left, or-assoc)
 
-  -- If only the repeat of a TS packet is recorded intact, the reader accepts the repeat.
+  -- If only the repeat of a TS packet is recorded intact, and it does not repeat the last accepted
+  -- packet, the reader accepts it.
   pub good-second : (good : Option (List ℕ)) (again wrong : Bool) (p : List ℕ) (o : Option SentUnit)
       (after : List SentUnit) (ns : List PidEvent)
       → AllByRecursion (λ f. IsRepetition number p (sent_packet distance f)) (option_to_list o)

@@ -54,7 +54,8 @@ abbrev pub previous_with_marker : Bool → PreviousResult
 previous_with_marker true = PreviousMarker
 previous_with_marker false = Nothing
 
--- The bytes are the joined results of reading the PES packets `sent`, after the state `previous`.
+-- The bytes are PES packets and gap markers in an order that is possible (`ReadsSent`) if the PES
+-- packets `sent` follow the result `previous`.
 pub record YieldsResults (few : Bool) (previous : PreviousResult) (sent : List (SentPes SentUnit))
     (bytes : List ℕ)
     : Type 0 where
@@ -63,8 +64,8 @@ pub record YieldsResults (few : Bool) (previous : PreviousResult) (sent : List (
   pub joined : bytes ≡ concat pes_packets
   pub reads : ReadsSent few previous sent pes_packets
 
--- The bytes are the joined results of reading. The first result is for the PES packet `s`, and a
--- gap marker may be before it.
+-- The bytes start with a PES packet that has the same start as `s`, after a gap marker if `marked`.
+-- The results for the PES packets `sent` follow (`ReadsSent`). If `few`, `s` arrives unchanged.
 pub record YieldsOneResult (few marked : Bool) (s : SentPes SentUnit) (between : ℕ) (skipped : Bool)
     (sent : List (SentPes SentUnit)) (bytes : List ℕ) : Type 0 where
   pub pes_packet : List ℕ
@@ -76,7 +77,8 @@ pub record YieldsOneResult (few marked : Bool) (s : SentPes SentUnit) (between :
   pub joined : bytes ≡ gap_marker_where marked ++ (pes_packet ++ concat rest)
   pub reads : ReadsSent few (PreviousPes pes_packet s between skipped) sent rest
 
--- Either the first result is for the PES packet `s`, or `s` has no result.
+-- Either the bytes start with a result for the PES packet `s`, or they are only the results for the
+-- PES packets `sent` after it; if `few`, `s` then does not arrive.
 abbrev pub YieldsAtMostOneResult : Bool → Bool → Bool → SentPes SentUnit → ℕ → Bool → List
     (SentPes SentUnit) → List ℕ
     → Type 0
@@ -489,8 +491,8 @@ module _ (distance number : ℕ) (wrong_after few : Bool) where
       ClosesAsSent part given gap s
       ⊎ (ClosesPart part given gap [] given true × (few ≡ true → arrives s ≡ false))
 
-  -- If fewer than 15 consecutive TS packets with payload are missing, a PES packet is read
-  -- completely exactly if it arrives.
+  -- If fewer than 15 consecutive TS packets with payload are missing or damaged, a PES packet is
+  -- read completely exactly if it arrives.
   abbrev pub IsEndExact : Part → SentPes SentUnit → Type 0
   IsEndExact part s =
       few ≡ true

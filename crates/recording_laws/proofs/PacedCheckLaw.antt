@@ -1,4 +1,5 @@
--- The PES packets that `check --pace` accepts were sent one after another.
+-- Under the assumptions of the law of pace, the PES packets that `check --pace` accepts were sent
+-- one after another.
 use Rattle.std.proofs.Common.{◌≡◌, ℕ, ◌<◌, List, [], ◌∷◌, ◌++◌, length, refl, sym, ap, ◌∙◌}
 use Rattle.std.proofs.Common.{subst, arith, append_assoc}
 use Rattle.std.specs.List.{AllByRecursion, AllZip, concat}

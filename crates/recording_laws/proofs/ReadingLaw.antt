@@ -1,5 +1,6 @@
--- After few losses, or if each first TS packet contains the PTS, each PES packet that is read has
--- the same start as one that was sent. The laws of recordings follow.
+-- If fewer than 15 consecutive TS packets with payload are missing or damaged, or the first TS
+-- packet of each PES packet contains its PTS, each PES packet that is read has the same start as
+-- one that was sent. The laws of recordings follow.
 use Rattle.std.proofs.Common.{◌≡◌, ℕ, ◌+◌, inl, inr, Bool, true, false, ◌&&◌, ◌||◌, List, [], ◌∷◌}
 use Rattle.std.proofs.Common.{◌++◌, length, None, refl, sym, ap, ◌∙◌, subst, arith, nat_lt, ◌≤◌}
 use Rattle.std.specs.List.{AllByRecursion, flat_map}
@@ -453,7 +454,7 @@ module _ (distance number : ℕ) (wrong_after few : Bool) where
 
 -- Each PES packet in a recording, other than a gap marker, has the same start as a PES packet that
 -- was sent, in the same order. Assumption: fewer than 15 consecutive TS packets with payload are
--- missing, or the first TS packet of each PES packet contains its PTS.
+-- missing or damaged, or the first TS packet of each PES packet contains its PTS.
 pub law_of_reading : (number distance : ℕ) (few : Bool) (m : Multiplex SentUnit)
     (recording : List ℕ)
     → IsRecordingWithLosses number distance m recording

@@ -55,9 +55,10 @@ IsMarkerExpected few previous s marked =
     few ≡ true → marked ≡
     (has_previous previous && (is_gap previous || any_unit_damaged (units_before_copy s.first)))
 
--- The results of reading PES packets, in order, with gap markers between them. Each result that is
--- no gap marker has the same start as its PES packet. If fewer than 15 consecutive TS packets with
--- payload are missing, these results are exactly the PES packets that arrive.
+-- The results of reading PES packets, in order, with at most one gap marker before each of them and
+-- after the last. Each result that is no gap marker has the same start as its PES packet. If fewer
+-- than 15 consecutive TS packets with payload are missing or damaged (`few`), these results are
+-- exactly the PES packets that arrive.
 abbrev pub ReadsSent : Bool → PreviousResult → List (SentPes SentUnit) → List (List ℕ) → Type 0
 ReadsSent few previous [] pes_packets =
     (marked : Bool) × (pes_packets ≡ gap_markers_where marked) × (marked ≡ true → has_previous
@@ -122,7 +123,7 @@ module _ (few : Bool) (IsFar : List (SentPes SentUnit) → Type 0)
     more)
   where
     -- A result `x` other than a gap marker has the same start as one of the PES packets sent. It is
-    -- equal to that PES packet if fewer than 15 consecutive TS packets with payload are missing.
+    -- equal to it if fewer than 15 consecutive TS packets with payload are missing or damaged.
     pub record IsLocated
         (x : List ℕ) (tail : List (List ℕ)) (sent : List (SentPes SentUnit))
         : Type 0 where

@@ -83,8 +83,8 @@ module _ (distance number : ℕ) (few : Bool) where
   StepsToNextCopy good wrong c goods ns = Stays good c goods ns ⊎ CopyComesFirst good wrong c goods
       ns
 
-  -- If fewer than 15 consecutive TS packets with payload are missing, the next packet is never
-  -- taken for a repeat of the last accepted packet.
+  -- If fewer than 15 consecutive TS packets with payload are missing or damaged, the next packet is
+  -- never taken for a repeat of the last accepted packet.
   abbrev pub IsNeverRepeat : Option (List ℕ) → Carrier SentUnit → Type 0
   IsNeverRepeat good c =
       few ≡ true
@@ -248,8 +248,9 @@ module _ (distance number : ℕ) (few : Bool) where
       copy : IsPacketCopy p (repeat_or_packet distance number c.again p)
       copy = copy-again distance number p c.again none h.again h.is_carrier.again
 
-  -- If the accepted packet continues the one before it, the number n of TS packets missing between
-  -- them is a multiple of 16; after few losses it is 0, and no packet was damaged.
+  -- If the reader finds no break before the accepted packet, the number n of TS packets missing
+  -- before it is a multiple of 16. If fewer than 15 consecutive ones are missing or damaged, it
+  -- finds no break exactly if n is 0 and none was damaged.
   pub record IsLinkExact (n : ℕ) (wrong : Bool) (c : Carrier SentUnit) (g : GoodPacket) : Type 0
     where
       pub cut : is_unlinked g.link ≡ is_break g.link

@@ -1,4 +1,4 @@
--- Two complete recordings, byte by byte: one without losses and one with losses.
+-- Two recordings, byte by byte: one without losses and one with losses.
 use Rattle.std.specs.Prelude.{◌≡◌, ℕ, false, List, [], ◌∷◌, ◌++◌, None, replicate}
 use Rattle.mpeg_ts.specs.CarriedPackets.{gap_marker}
 use Rattle.recording_laws.specs.Losses.{UnitFate, SentUnit, HasOnlyShortLosses, RecordedIntact}

@@ -20,8 +20,8 @@ LawOfMultiplex =
 -- If at most 14 consecutive TS packets with payload are missing or damaged at a time, and the
 -- multiplexer announces no jump of the continuity counter, the recording carries exactly the PES
 -- packets that arrive, unchanged and in order. If a PES packet is missing between two of them,
--- there is a gap marker between these two. So no such loss creates a PES packet, and none between
--- two PES packets goes unnoticed.
+-- there is a gap marker between these two. So no such loss creates a PES packet, and no missing PES
+-- packet between two that arrive goes unnoticed.
 abbrev pub LawOfLosses : Type 0
 LawOfLosses =
     (number distance : ℕ) (m : Multiplex SentUnit) (recording : List ℕ)

@@ -78,20 +78,20 @@ any_unit_intact units = list_any (λ f. is_recorded_intact f.fate) units
 abbrev pub is_recorded : Carrier SentUnit → Bool
 is_recorded c = is_recorded_intact c.packet.fate || any_unit_intact (option_to_list c.again)
 
--- The units from a TS packet with payload up to its repeat, or none if the packet itself is
--- recorded intact.
+-- The units from a TS packet with payload up to, but not including, its repeat, or none if the
+-- packet itself is recorded intact.
 abbrev pub units_before_copy : Carrier SentUnit → List SentUnit
 units_before_copy c = if is_recorded_intact c.packet.fate then [] else c.packet ∷ c.before
 
--- The units between the first intact copy of a TS packet with payload and the next TS packet with
--- payload.
+-- The units after a TS packet with payload if it is recorded intact, otherwise those after its
+-- repeat, up to the next TS packet with payload.
 abbrev pub units_after_copy : Carrier SentUnit → List SentUnit
 units_after_copy c =
     if is_recorded_intact c.packet.fate then c.before ++ (option_to_list c.again ++ c.after)
     else c.after
 
--- Fewer than 15 consecutive TS packets with payload are missing, together with their repeats.
--- `gone` is the number of missing packets directly before the list.
+-- Fewer than 15 consecutive TS packets with payload are missing or damaged, together with their
+-- repeats, at a time. `gone` is the number of such packets directly before the list.
 abbrev pub loses_few_in_row : ℕ → List (Carrier SentUnit) → Bool
 loses_few_in_row gone [] = true
 loses_few_in_row gone (c ∷ more) =
@@ -126,7 +126,7 @@ is_damaged_after s = any_unit_damaged (units_after_copy (last_carrier s.first s.
 -- The bytes of the arriving PES packets, in order, with gap markers. `given` means that an earlier
 -- PES packet arrived, and `gap` that PES packets are missing, or a unit was damaged, after it.
 -- There is one gap marker between two arriving PES packets if PES packets are missing between them,
--- or if a unit of the PID was damaged between their first TS packets.
+-- or if a unit of the PID was damaged between the first intact copies of their first TS packets.
 unfoldable pub arriving_bytes : Bool → Bool → List (SentPes SentUnit) → List ℕ
 arriving_bytes given gap [] = []
 arriving_bytes given gap (s ∷ more) =
@@ -135,7 +135,8 @@ arriving_bytes given gap (s ∷ more) =
     ++ (s.bytes ++ arriving_bytes true (is_damaged_after s) more)
     else arriving_bytes given true more
 
--- The bytes of the arriving PES packets, with at most one gap marker after the last of them.
+-- The bytes of the arriving PES packets with their gap markers (`arriving_bytes`), and at most one
+-- gap marker after the last of them.
 pub record CarriesArrivingPackets (sent : List (SentPes SentUnit)) (bytes : List ℕ) : Type 0 where
   pub has_gap_marker : Bool
   pub marker_follows_packet : has_gap_marker ≡ true → list_any arrives sent ≡ true
@@ -157,7 +158,7 @@ pub record IsRecordingWithLosses (number distance : ℕ) (m : Multiplex SentUnit
       (items_of_multiplex m)
   pub left : recording ≡ concat (recorded_units (items_of_multiplex m))
 
--- A recording in which fewer than 15 consecutive TS packets with payload are missing.
+-- A recording in which fewer than 15 consecutive TS packets with payload are missing or damaged.
 pub record HasOnlyShortLosses (number distance : ℕ) (m : Multiplex SentUnit) (recording : List ℕ)
     : Type 0 where
   pub losses : IsRecordingWithLosses number distance m recording

@@ -75,7 +75,7 @@ items_of_multiplex m = m.lead ++ flat_map items_of_carrier (carriers_of m.sent)
 
 -- Requirements for a carrier of the PID: a TS packet with payload, and the items up to the next TS
 -- packet with payload. The packet starts a PES packet exactly if `first` is true. No jump is
--- announced between the packet and its repeat.
+-- announced by the items in `before`, which come between the packet and its repeat, if it has one.
 pub record IsCarrier {A : Type 0} (packet_of : A → List ℕ) (number : ℕ) (first : Bool)
     (c : Carrier A) : Type 0 where
   pub carries : carries number (packet_of c.packet) ≡ true
@@ -97,8 +97,8 @@ pub record IsSentPes {A : Type 0} (packet_of : A → List ℕ) (number : ℕ) (s
   pub joined : concat (map (λ c. payload (packet_of c.packet)) (carriers_of_pes s)) ≡ s.bytes
 
 -- A jump of the continuity counter is announced between the packets of the carriers `c` and `d`, by
--- a packet without payload or by the packet of `d`. A receiver can't take the packet of `d` for a
--- repeat, since `c` already has a repeat or the two packets differ.
+-- a packet without payload or by the packet of `d`. In the second case, a receiver can't take the
+-- packet of `d` for a repeat, since `c` already has a repeat or the two packets differ.
 abbrev pub IsJumpBetween : {A : Type 0} → (A → List ℕ) → ℕ → Carrier A → Carrier A → Type 0
 IsJumpBetween packet_of number c d =
     (list_any (λ x. pid_announces_jump number (packet_of x)) c.after ≡ true)

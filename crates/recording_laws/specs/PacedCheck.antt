@@ -36,8 +36,8 @@ pub record AreConsecutiveSent (sent packets : List (List ℕ)) : Type 0 where
 -- than `pace` frames apart by the clock of the options if 16 or more TS packets with payload come
 -- between their starts. If all PES packets in a recording, or a range, form a good transmission by
 -- options with this maximum distance, they were sent one after another, for any number of lost TS
--- packets. `check --pace` accepts only such transmissions. So if it accepts a recording, no loss
--- went unnoticed.
+-- packets. `check --pace` accepts only such transmissions. So if it accepts a recording, no PES
+-- packet is missing between the first and the last that it read.
 abbrev pub LawOfPacedCheck : Type 0
 LawOfPacedCheck =
     (number distance pace : ℕ) (m : Multiplex SentUnit) (recording : List ℕ)

@@ -1,4 +1,4 @@
-//! Examples of complete recordings: one without losses and one with losses.
+//! Examples of recordings: one without losses and one with losses.
 //!
 //! The examples show that the assumptions of the laws can be satisfied. The functions do nothing.
 ghost use Rattle.recording_laws.specs.Examples.{ExampleOfLosses, ExampleOfMultiplex};

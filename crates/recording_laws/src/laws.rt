@@ -34,7 +34,7 @@ pub fn law_of_neighbours()
 /// packet of each PES packet contains its PTS, and that PES packets with 16 or more TS packets with
 /// payload between their starts are sent more than `pace` frames apart. Then PES packets that are
 /// read at most `pace` frames apart, with no gap marker between them, were sent one after another,
-/// for any number of lost TS packets.
+/// for any number of lost TS packets. The last is known to have the sent bytes only up to its PTS.
 pub fn law_of_pace()
     ensures { LawOfPace }
 {}

@@ -1,6 +1,6 @@
 //! Laws about recordings: the PES packets that a multiplexer sends are read again; no loss of at
 //! most 14 consecutive TS packets with payload creates a PES packet; and under three assumptions
-//! about the multiplex, no loss goes unnoticed in a recording that `check --pace` accepts.
+//! about the multiplex, no PES packet is missing between those that `check --pace` accepts.
 //!
 //! `mpeg_ts` defines what the TS packets of a PID carry, and `sub_rules` the rules for a
 //! transmission. This crate contains no program: `specs/` defines what a multiplexer sends and

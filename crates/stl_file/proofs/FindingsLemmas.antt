@@ -61,7 +61,7 @@ module _ (scope : Scope) where
       (rw (take_at b rest 128 size, drop_at b rest 128 size) refl)
 
 -- The results depend only on the permitted blocks and the first byte after them, at which reading
--- stops.
+-- stops at the latest.
 pub findings_with_room-first : (scope : Scope) (room : ℕ) (begun : Option StartedSubtitle)
     (b : List ℕ)
     → findings_with_room scope room begun (take (128 * room + 1) b) ≡ findings_with_room scope room

@@ -1,4 +1,4 @@
--- Removing the subtitles outside the scope from a file changes no result except block numbers.
+-- If no fault ends reading, removing the subtitles outside the scope changes only block numbers.
 use Rattle.std.proofs.Common.{◌≡◌, ℕ, Bool, false, true, List, [], ◌∷◌, ◌++◌, length, refl}
 use Rattle.std.proofs.Common.{arith, length-append, Option, Some, None, Result, Ok, Err}
 use Rattle.std.proofs.Common.{zero, suc, ◌-◌, ◌<◌, ◌≤◌, ◌⊎◌, inl, inr, ◌∙◌, sym, ltb}

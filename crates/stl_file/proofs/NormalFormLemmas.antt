@@ -131,7 +131,7 @@ unfolding findings_within_scope
 subtitles_come_from_body s r e =
     rw (opened_reader_has_gsi (checked_gsi_of_file false s) r e).0 refl
 
--- If a TTI block is rejected, `normal` writes nothing and reports the file's first fault.
+-- If the file is rejected after its GSI block, `normal` writes nothing and reports the first fault.
 pub refused_body_writes_nothing : (s : List ℕ) (r : ReaderValue) (f : NormalFault)
     (old : Option (List ℕ))
     → open_result s ≡ good r

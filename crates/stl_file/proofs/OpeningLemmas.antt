@@ -1,4 +1,4 @@
--- A file is opened only if it has a valid GSI block, and no file begins with rejected bytes.
+-- A file is opened only if it has a valid GSI block; no file begins with a rejected GSI block.
 use Rattle.std.proofs.Common.{◌≡◌, ℕ, Bool, List, ◌++◌, length, refl, sym, ap, ◌∙◌, arith}
 use Rattle.std.proofs.Common.{length-append, take, drop, Option, Some, Result, Ok, Err, ◌<◌, ◌≤◌}
 use Rattle.std.proofs.Common.{length-take, false}

@@ -1,4 +1,4 @@
--- The bytes that a call of a reader consumes determine its result.
+-- Unless the source fails, the bytes that a call of a reader consumes determine its result.
 use Rattle.std.proofs.Common.{◌≡◌, ℕ, true, List, [], ◌∷◌, ◌++◌, refl, sym, ap, ◌∙◌}
 use Rattle.std.proofs.Common.{append_assoc, arith, Option, Some, None, Result, Ok, Err, ◌-◌, length}
 use Rattle.std.proofs.lemmas.Bool.Decides.{nat_tests}
@@ -50,7 +50,8 @@ stopped_findings_fail to next more s f = grind arith
 is_cut-by : (f : StlFault) → depends_on_end (found_of (Err f)) ≡ true → is_cut f ≡ true
 is_cut-by f e = grind arith
 
--- No subtitle file continues with the bytes that led to the first fault.
+-- No subtitle file continues with the bytes that led to a fault; after `Truncated` or `Unfinished`,
+-- none ends with them.
 pub refuses : (from to : ℕ) (old new : Option (List ℕ)) (s : SubtitleValue)
     (next : Option StartedSubtitle)
     (x : StlFault)

@@ -53,7 +53,8 @@ findings_with_enough_room : (few room : ℕ) (f g : Option StartedSubtitle → F
     → subtitles_of (stopped (findings_after_block room g b r)) ≡ Ok ss
 findings_with_enough_room few room f g b r ss same e = grind arith
 
--- Comments and user data between blocks do not change the subtitles that are read.
+-- If blocks without their comments and user data are read as subtitles without a fault, the blocks
+-- with them are read as the same subtitles, unless they are too many.
 result_without_skipped : (scope : Scope) (bs : List (List ℕ)) (begun : Option StartedSubtitle)
     (few room : ℕ)
     (ss : List SubtitleValue)
@@ -95,8 +96,8 @@ judged_after_started o tail j =
     (prepend_subtitle (record o.subtitle { text = o.subtitle.text ++ flat_map text_of_block tail })
     j)
 
--- If the remaining blocks of a subtitle are linked, reading them returns the subtitle, unless it is
--- skipped, and then the later subtitles.
+-- If the remaining blocks of a subtitle are linked and not too many, reading them returns the
+-- subtitle, unless it is skipped, and then the later subtitles.
 linked_blocks_are_read : (scope : Scope) (tail : List (List ℕ)) (room : ℕ)
     (begun : Option StartedSubtitle)
     (b rest : List ℕ) (o : StartedSubtitle)
@@ -122,7 +123,8 @@ linked_blocks_are_read scope (c ∷ tail) room begun b rest o step linked few le
     (omega arith) (omega arith) in
     grind (arith, nat_tests, append_assoc)
 
--- Reading the blocks of a subtitle outside the scope returns only the later subtitles.
+-- Reading the blocks of a subtitle outside the scope returns only the later subtitles, unless the
+-- blocks are too many.
 outside_group_is_skipped : (scope : Scope) (b : List ℕ) (others : List (List ℕ)) (room : ℕ)
     (rest : List ℕ)
     → AreOutside scope (b ∷ others)
@@ -140,7 +142,7 @@ outside_group_is_skipped scope b others room rest i le =
     (let few = i.few in omega arith) (omega arith)
 
 -- Reading the blocks of a subtitle inside the scope returns the subtitle and then the later
--- subtitles.
+-- subtitles, unless the blocks are too many.
 inside_group_yields_subtitle : (scope : Scope) (s : SubtitleValue) (g : List (List ℕ)) (room : ℕ)
     (rest : List ℕ)
     → is_outside scope g ≡ false
@@ -231,7 +233,8 @@ valid_blocks_are_read scope bs room ss r =
 
 -- ---- soundness: bytes that are read as subtitles are their blocks
 
--- The blocks that were read, after some blocks of the current subtitle, contain the subtitles ss.
+-- The bytes b are at most `room` blocks which, after the blocks `before` of the current subtitle,
+-- contain the subtitles ss.
 pub record ReadsAsGroups
     (scope : Scope) (room : ℕ) (before : List (List ℕ)) (b : List ℕ) (ss : List SubtitleValue)
     : Type 0 where
@@ -349,7 +352,7 @@ step_keeps_reading scope room begun before b ss (Ok (Yield s)) le rep e go all =
     (subst (λ (x : List SubtitleValue). AllZip AreBlocksOf x
     (filter (is_inside scope) (own ∷ r.groups))) (sym c.2) has.1)
 
--- If bytes are read as subtitles without a fault, the bytes are the blocks of these subtitles.
+-- If bytes are read as subtitles without a fault, they are blocks that contain these subtitles.
 pub accepted_bytes_are_valid_blocks : (scope : Scope) (room : ℕ) (begun : Option StartedSubtitle)
     (before : List (List ℕ))
     (b : List ℕ) (ss : List SubtitleValue)

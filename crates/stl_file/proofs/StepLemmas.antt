@@ -1,4 +1,4 @@
--- A block that is read without a fault belongs to the current subtitle or is skipped.
+-- A block that is read without a fault belongs to a subtitle or is skipped.
 use Rattle.std.proofs.Common.{◌≡◌, ℕ, Bool, false, true, cond, List, [], ◌∷◌, ◌++◌, length, refl}
 use Rattle.std.proofs.Common.{arith, length-append, Option, Some, None, Result, Ok, ◌+◌, ◌<◌, ◌≤◌}
 use Rattle.std.proofs.Common.{◌⊎◌}
@@ -46,7 +46,7 @@ abbrev pub started_by_first_block : SubtitleValue → List ℕ → StartedSubtit
 started_by_first_block s b =
     record { subtitle = record s { text = text_of_block b }; blocks = 1; is_skipped = false }
 
--- A reader accepts a block that begins a subtitle inside the scope.
+-- A reader accepts a block that begins a subtitle inside the scope, if its EBN and CF are valid.
 pub inside_first_block_starts : (scope : Scope) (s : SubtitleValue) (b : List ℕ)
     → begins_outside scope b ≡ false
     → Begins s b
@@ -67,7 +67,8 @@ extended_by_block o b = record o {
   blocks = o.blocks + 1;
 }
 
--- A reader accepts a later block with the subtitle's SGN and SN, up to nine blocks.
+-- A reader accepts a later block with the subtitle's SGN and SN, CF 0 and a valid EBN, up to nine
+-- blocks.
 pub later_block_extends : (scope : Scope) (o : StartedSubtitle) (b : List ℕ)
     → BelongsTo o.subtitle.sgn o.subtitle.sn b
     → o.blocks < 9
@@ -157,8 +158,8 @@ later_block_reaches_state scope o kept b r size none e h k =
       append-nil,
     )
 
--- If a block that is not skipped is read without a fault, the state after it agrees with the blocks
--- read.
+-- If the state of reading agrees with the blocks read, it still does after one more block that is
+-- not skipped and is read without a fault.
 subtitle_block_reaches_state : (scope : Scope) (begun : Option StartedSubtitle)
     (kept : List (List ℕ)) (b : List ℕ)
     (r : BlockStep)
@@ -178,8 +179,8 @@ unchanged_state_is_reached : (scope : Scope) (begun : Option StartedSubtitle) (k
     → ReachesState scope kept (More begun)
 unchanged_state_is_reached scope begun kept h = grind (arith, nat_tests)
 
--- If a block is read without a fault, the state after it agrees with the blocks read, without
--- skipped blocks.
+-- If the state of reading agrees with the blocks read, without skipped blocks, it still does after
+-- one more block that is read without a fault.
 pub any_block_reaches_state : (scope : Scope) (begun : Option StartedSubtitle)
     (kept : List (List ℕ))
     (b : List ℕ)
@@ -208,7 +209,7 @@ pub subtitle_block_has_subtitle_step : (scope : Scope) (begun : Option StartedSu
 unfolding tti_block_step
 subtitle_block_has_subtitle_step scope begun b e c = grind (arith, nat_tests)
 
--- Comments and user data do not change the current subtitle.
+-- A skipped block, which is a comment or user data, does not change the current subtitle.
 pub skipped_block_changes_nothing : (scope : Scope) (begun : Option StartedSubtitle) (b : List ℕ)
     → is_skipped_block b ≡ true
     → tti_block_step scope begun b ≡ Ok (More begun)

@@ -39,7 +39,7 @@ pub front_block_stays_linked : (sgn_is sn_is : ℕ) (b : List ℕ) (bs : List (L
     → AreLinked sgn_is sn_is (b ∷ bs)
 front_block_stays_linked sgn_is sn_is b bs h lt c = grind (arith, nat_tests)
 
--- The blocks of one subtitle have at most 112 bytes of text each.
+-- The blocks of one subtitle together have at most 112 bytes of text per block.
 pub linked_text_fits_in_blocks : (sgn_is sn_is : ℕ) (g : List (List ℕ))
     → AreLinked sgn_is sn_is g
     → length (flat_map text_of_block g) ≤ 112 * length g

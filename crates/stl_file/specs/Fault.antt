@@ -63,8 +63,8 @@ is_block_fault fault.Sequence = true
 is_block_fault fault.TooLong = true
 is_block_fault _ = false
 
--- The fault is in the fields of a subtitle's first block, so the end of the subtitle is still
--- known: its block with EBN FF.
+-- The fault is in CS, JC, VP, TCI or TCO of a subtitle's first block, so the end of the subtitle is
+-- still known: its block with EBN FF.
 abbrev pub is_first_block_fault : StlFault → Bool
 is_first_block_fault fault.Cumulative = true
 is_first_block_fault fault.Justify = true

@@ -1,6 +1,6 @@
 -- Definition of a subtitle file (EBU Tech 3264): an accepted GSI block, then at most 99,999 TTI
 -- blocks: the blocks of its subtitles, with comments, user data and subtitles outside the scope
--- between them.
+-- among them.
 use Rattle.std.specs.Prelude.{◌≡◌, ℕ, List, ◌++◌}
 use Rattle.std.specs.List.{concat}
 use Rattle.stl_file.specs.Tti.{max_blocks}

@@ -30,7 +30,7 @@ use Rattle.stl_file.specs.Questions.{Checks, result_of_checks}
 abbrev pub gsi_size : ℕ
 gsi_size = 1024
 
--- The `len` bytes of a block from the offset `at`.
+-- The `len` bytes of a block from the offset `at`; fewer if the block ends before.
 abbrev pub field : ℕ → ℕ → List ℕ → List ℕ
 field at len g = take len (drop at g)
 
@@ -114,12 +114,12 @@ checked_gsi takes_open g = result_of_checks (gsi_checks takes_open g) (Ok g)
 abbrev pub digit : ℕ → ℕ
 digit n = 0x30 + n
 
--- The five decimal digits of a number in ASCII, with leading zeros.
+-- The five decimal digits of a number below 100,000 in ASCII, with leading zeros.
 abbrev pub five_digits : ℕ → List ℕ
 five_digits n =
     digit (n / 10000) ∷ digit ((n / 1000) % 10) ∷ digit ((n / 100) % 10)
     ∷ digit ((n / 10) % 10) ∷ digit (n % 10) ∷ []
 
--- The GSI block g with other values of TNB and TNS. All other bytes stay the same.
+-- The GSI block g with TNB and TNS set to two numbers below 100,000. All other bytes stay the same.
 abbrev pub with_counts : ℕ → ℕ → List ℕ → List ℕ
 with_counts tnb tns g = take 238 g ++ (five_digits tnb ++ (five_digits tns ++ drop 248 g))

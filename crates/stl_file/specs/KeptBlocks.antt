@@ -18,7 +18,7 @@ abbrev pub stays : Scope → Option Bool → List ℕ → Bool
 stays scope None b = not (begins_outside scope b)
 stays scope (Some stayed) b = stayed
 
--- The argument `within` for the next block: a new subtitle begins after EBN FF.
+-- The argument `within` after the block b, which is not skipped: after EBN FF, a subtitle begins.
 abbrev pub within_for_next_block : Scope → Option Bool → List ℕ → Option Bool
 within_for_next_block scope within b =
     if ebn b == last_block_ebn then None else Some (stays scope within b)

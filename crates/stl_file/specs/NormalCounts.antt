@@ -12,13 +12,13 @@ abbrev pub accepted_subtitles : SubtitlesOrFault → List SubtitleValue
 accepted_subtitles (Ok ts) = ts
 accepted_subtitles (Err f) = []
 
--- The numbers of blocks and subtitles in the normal form of a file.
+-- The numbers of blocks and subtitles in the normal form of a file; the fault of a rejected file.
 abbrev pub normal_counts : SubtitlesOrFault → Result Counts NormalFault
 normal_counts (Ok ts) = Ok (record { tnb = length (blocks_of_subtitles ts); tns = length ts })
 normal_counts (Err f) = Err f
 
--- The subtitles of the next call of the reader and of all later calls, or the first fault, given the
--- result of the next call, its subtitle and block number, and the result of the later calls.
+-- The subtitles of the next call of the reader and of all later calls, or the first fault, given
+-- the result of the next call, its subtitle and block number, and the result of the later calls.
 abbrev pub subtitles_from_call : Result Bool StlFault → SubtitleValue → ℕ → SubtitlesOrFault
     → SubtitlesOrFault
 subtitles_from_call (Ok true) s block left = prepend_subtitle s left

@@ -41,7 +41,8 @@ yielded_subtitle (Err f) s = Err f
 
 -- ---- the results of all later calls of a reader
 
--- The results for the bytes b after `block` TTI blocks, if the next block begins a subtitle.
+-- The results for the bytes b after `block` TTI blocks, up to the first fault, if the next block
+-- begins a subtitle.
 abbrev pub outcome_from : ℕ → List ℕ → Outcome
 outcome_from block b = stopped (findings_from whole block None b)
 

@@ -21,16 +21,16 @@ use Rattle.stl_file.specs.declared.subtitle_blocks.BlocksRead.{BlocksRead}
 
 -- ---- reading one TTI block
 
--- A subtitle whose last block has not been read: its fields and the text so far, the number of its
--- blocks so far, 1 to 9, and whether the subtitle is skipped because it is outside the scope or was
--- rejected.
+-- A subtitle that has begun: its fields and the text so far (of a skipped subtitle, only SGN and SN
+-- matter), the number of its blocks so far, 1 to 9, and whether the subtitle is skipped because it
+-- is outside the scope or was rejected.
 pub record StartedSubtitle : Type 0 where
   pub subtitle : SubtitleValue
   pub blocks : ℕ
   pub is_skipped : Bool
 
--- The effect of a block. `More`: the current subtitle continues, or, if it is `None`, no subtitle
--- has begun. `Yield`: the block was the last block of this subtitle, which is not skipped.
+-- The effect of a block. `More`: this subtitle continues, or, if it is `None`, there is no current
+-- subtitle. `Yield`: the block was the last block of this subtitle, which is not skipped.
 pub data BlockStep : Type 0 where
   More : Option StartedSubtitle → BlockStep
   Yield : SubtitleValue → BlockStep
@@ -113,7 +113,7 @@ abbrev pub current_subtitle : SubtitleValue → BlocksRead → Option StartedSub
 current_subtitle s read = if read.count == 0 then None else Some (started_subtitle_of s read)
 
 -- The effect of a block, given the contents and the state that the block leaves, and whether the
--- subtitle is complete.
+-- subtitle is complete; or the block's fault.
 abbrev pub step_by_result : SubtitleValue → BlocksRead → Result Bool StlFault → Result BlockStep
     StlFault
 step_by_result s read (Err f) = Err f
@@ -150,7 +150,8 @@ pub data Findings : Type 0 where
   finds : SubtitleValue → ℕ → Findings → Findings
   refuses : StlFault → ℕ → Findings → Findings
 
--- The results after the block b, if `room` more blocks may follow.
+-- The result of the block b, whose effect is given, and the results `next` of the later blocks, if
+-- `room` more blocks may follow b.
 abbrev pub findings_after_block :
     ℕ → (Option StartedSubtitle → Findings) → List ℕ → Result BlockStep StlFault → Findings
 findings_after_block room next b (Err f) =
@@ -161,8 +162,8 @@ findings_after_block room next b (Ok (More begun)) = next begun
 findings_after_block room next b (Ok (Yield s)) = finds s (max_blocks - room) (next None)
 
 -- The results for bytes after the GSI block, if `room` blocks may still follow and `begun` is the
--- current subtitle. If the file ends within a subtitle, the last complete block is reported; for
--- every other fault, the block that was begun. A byte after 99,999 blocks is a block too many.
+-- current subtitle. `Unfinished` is reported for the last complete block, and every other fault for
+-- the block that was begun. A byte after 99,999 blocks is a block too many.
 unfoldable pub findings_with_room : Scope → ℕ → Option StartedSubtitle → List ℕ → Findings
 findings_with_room scope room None [] = no_more
 findings_with_room scope room (Some begun) [] = breaks fault.Unfinished (max_blocks - room)

@@ -16,7 +16,8 @@ use Rattle.stl_file.specs.Reader.{LastIsSubtitleBlock, checked_gsi_of_file}
 use Rattle.stl_file.specs.declared.scope.Scope.{Scope}
 
 -- The state of a reader: the scope, the number of the last TTI block that was read or begun (0
--- before the first), the progress, and the rejected subtitle, if more of its blocks may follow.
+-- before the first), the progress, and, until reading ends, the rejected subtitle whose later
+-- blocks may follow.
 pub record ResumingValue : Type 0 where
   pub scope : Scope
   pub block : ℕ

@@ -20,15 +20,15 @@ pub record EncodesFrame (b : List ℕ) (frame : ℕ) : Type 0 where
   pub in_range : is_valid_time_field b ≡ true
   pub is : frame ≡ frame_from_bytes b
 
--- The block has 128 bytes, is no comment, and has this SGN (subtitle group number) and SN (subtitle
--- number).
+-- The block has 128 bytes, is no comment (CF 0), and has this SGN (subtitle group number) and SN
+-- (subtitle number).
 pub record BelongsTo (sgn_is sn_is : ℕ) (b : List ℕ) : Type 0 where
   pub size : length b ≡ block_size
   pub is_subtitle : cf b ≡ no_comment
   pub same_sgn : sgn b ≡ sgn_is
   pub same_sn : sn b ≡ sn_is
 
--- The blocks belong to one subtitle: all have the same SGN and SN; EBN is FF in the last block, and
+-- The blocks, at least one, belong to one subtitle with this SGN and SN: EBN is FF in the last, and
 -- 00 to EF in the others. The order of extension block numbers is not checked.
 abbrev pub AreLinked : ℕ → ℕ → List (List ℕ) → Type 0
 AreLinked sgn_is sn_is [] = ⊥
@@ -36,8 +36,8 @@ AreLinked sgn_is sn_is (b ∷ []) = BelongsTo sgn_is sn_is b × (ebn b ≡ last_
 AreLinked sgn_is sn_is (b ∷ c ∷ bs) =
     BelongsTo sgn_is sn_is b × (ebn b < first_reserved_ebn) × AreLinked sgn_is sn_is (c ∷ bs)
 
--- The block b is a first block of the subtitle s: it has the fields of s. The text is not compared,
--- since s also has the text of later blocks.
+-- The block b can be the first of the subtitle s: it has CS 0 and the fields of s, and their values
+-- are valid. The text is not compared, since s also has the text of later blocks.
 pub record Begins (s : SubtitleValue) (b : List ℕ) : Type 0 where
   pub cumulative : cs b ≡ not_cumulative
   pub sgn_is : sgn b ≡ s.sgn
@@ -50,8 +50,8 @@ pub record Begins (s : SubtitleValue) (b : List ℕ) : Type 0 where
   pub vp_range : (1 ≤ s.vp) × (s.vp ≤ 23)
   pub jc_range : s.jc ≤ 3
 
--- The list has 1 to 9 blocks, and they are the blocks of the subtitle s: the first block has the
--- fields of s, and the text of s is the joined text of all blocks.
+-- The list has 1 to 9 blocks, and they are the blocks of the subtitle s: they are linked, the first
+-- block has the fields of s, and the text of s is the joined text of all blocks.
 pub record AreBlocksOf (s : SubtitleValue) (bs : List (List ℕ)) : Type 0 where
   pub first : List ℕ
   pub others : List (List ℕ)

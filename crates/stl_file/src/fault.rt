@@ -46,7 +46,7 @@ pub enum StlFault {
     TooManyBlocks,
     /// Fault code 26: the source failed.
     Read,
-    /// Fault code 27: the reader was called again after a fault.
+    /// Fault code 27: an `StlReader` was called again after a fault.
     Ended,
 }
 
@@ -79,8 +79,8 @@ impl StlFault {
         }
     }
 
-    // Returns whether the fault is in the fields of a subtitle's first block, so the end of the
-    // subtitle is still known.
+    // Returns whether the fault is in CS, JC, VP, TCI or TCO of a subtitle's first block, so the
+    // end of the subtitle is still known.
     pub(crate) fn is_first_block_fault(&self) -> bool
         ensures { result ≡ is_first_block_fault self.now }
     {

@@ -14,7 +14,7 @@ use std::marker::Model;
 /// A GSI block, the first 1024 bytes of a subtitle file: general information on the file. The bytes
 /// are not checked. The model is the list of the 1024 bytes.
 ///
-/// The methods return a field's bytes unchanged.
+/// The methods named after a field return its bytes unchanged.
 #[derive(Clone, Copy)]
 pub struct Gsi {
     bytes: [u8; 1024],
@@ -41,7 +41,7 @@ const STL_30: [u8; 8] = *b"STL30.01";
 /// The CCT for the Latin table.
 const LATIN: [u8; 2] = *b"00";
 
-/// Returns a number as five decimal digits in ASCII, as in TNB and TNS (EBU Tech 3264).
+/// Returns a number below 100,000 as five decimal digits in ASCII, as in TNB and TNS.
 pub fn five_digits_of(n: u32) -> [u8; 5]
     requires { n < 100000 }
     ensures { result ≡ five_digits n }

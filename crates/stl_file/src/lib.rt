@@ -9,8 +9,8 @@
 //! }
 //! ```
 //!
-//! The crate builds only on `sub_io`. `stl_rows` draws the subtitles as Teletext rows; the other
-//! crates use the subtitles and the definition of a file, `IsFile` in `specs/File.antt`.
+//! Of the project's crates it uses only `sub_io`. `stl_rows` draws the subtitles as Teletext rows;
+//! other crates use the subtitles and the definition of a file, `IsFile` in `specs/File.antt`.
 #![tactic(auto)]
 
 mod counts;

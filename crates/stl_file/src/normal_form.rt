@@ -51,7 +51,7 @@ pub fn normal<K: Sink>(file: &[u8], sink: &mut K) -> Result<u32, NormalFault>
     Ok(counts.tns)
 }
 
-// Reads all blocks after the GSI block, and computes the counts of the normal form.
+// Reads the blocks after the GSI block. Returns the counts of the normal form, or the first fault.
 #[tactic(auto, using(crate::proofs::NormalCountsLemmas::judging))]
 fn compute_counts(gsi: Gsi, body: &[u8]) -> Result<Counts, NormalFault>
     ensures exact { normal_counts (subtitles_of (outcome_from 0 body.now)) ≡ result }
@@ -79,8 +79,8 @@ fn compute_counts(gsi: Gsi, body: &[u8]) -> Result<Counts, NormalFault>
     }
 }
 
-// Reads the next subtitle. A subtitle in the file has at least as many blocks as its normal form,
-// so the counts cannot overflow.
+// Reads the next subtitle, and returns whether there is one. A subtitle in the file has at least as
+// many blocks as its normal form, so the counts cannot overflow.
 fn read_next_subtitle(
     reader: &mut StlReader,
     source: &mut MemSource,

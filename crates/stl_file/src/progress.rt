@@ -6,8 +6,9 @@ pub enum Progress {
     /// The reader can continue: the next block begins a subtitle or is skipped, or the file ends.
     /// In a `ResumingReader` the next block may also belong to a rejected subtitle.
     Reading,
-    /// The file has ended: each later call of an `StlReader` returns `None`.
+    /// The file has ended: each later call of `StlReader::next` returns `None`.
     AtEnd,
-    /// The reader has met a fault: each later call of an `StlReader` returns `Ended`.
+    /// The reader has met a fault that ends reading: each later call of `StlReader::next` returns
+    /// `Ended`.
     Broken,
 }

@@ -283,10 +283,10 @@ pub(crate) fn read_gsi<S: Source>(source: &mut S, scope: Scope) -> Result<Gsi, S
     Gsi::read(&bytes).validate(scope.takes_open)
 }
 
-// Reads blocks after `block`, up to the last block of a subtitle that is not skipped, the end of
-// the file or a fault. On entry, `refused` is the first block of a rejected subtitle that continues
-// here. After a fault in a subtitle's first block, `refused` is that block, unless the block is
-// also the subtitle's last.
+// Reads blocks after `block`, up to the last block of a subtitle that is not skipped (`true`), the
+// end of the file (`false`) or a fault. On entry, `refused` is the first block of a rejected
+// subtitle that continues here. If the fields of a subtitle's first block are rejected, `refused`
+// is then that block, or `None` if the block is also the subtitle's last.
 pub(crate) fn read_blocks<S: Source>(
     scope: Scope,
     block: &mut u32,

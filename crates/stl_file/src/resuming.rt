@@ -36,17 +36,17 @@ pub enum Found {
     End,
 }
 
-/// A reader of the subtitles in a scope. If the first block of a subtitle is rejected, the reader
+/// A reader of the subtitles in a scope. If a subtitle is rejected (`Found::Refused`), the reader
 /// continues after the subtitle's last block. The reader does not own the source.
 ///
 /// The model has the scope, the number of the last TTI block that was read or begun, the progress,
-/// and the rejected subtitle, if more of its blocks may follow.
+/// and, until reading ends, the rejected subtitle whose later blocks may follow.
 #[derive(Drop)]
 pub struct ResumingReader {
     scope: Scope,
     block: u32,
     progress: Progress,
-    // The first block of a rejected subtitle with more blocks to skip.
+    // Until reading ends: the first block of a rejected subtitle with more blocks to skip.
     refused: Option<Tti>,
 }
 
@@ -135,7 +135,7 @@ impl ResumingReader {
     /// # Errors
     ///
     /// Returns the first fault by block that ends reading: a fault of `StlReader::next` except the
-    /// five of `Found::Refused`.
+    /// five of `Found::Refused` and `Ended`.
     pub fn next_into<S: Source>(
         &mut self,
         source: &mut S,

@@ -173,7 +173,8 @@ impl Subtitle {
         }
     }
 
-    // Replaces the contents by the subtitle that starts with `block`, with the text of that block.
+    // Replaces the contents by the subtitle that starts with `block`, with the text of that block,
+    // or returns the first fault of `block`.
     #[tactic(auto, unfolding(crate::specs::Reading::subtitle_of_first_block))]
     pub(crate) fn begin(&mut self, block: &Tti) -> Result<(), StlFault>
         ensures ok { OnOk result (subtitle_of_first_block block.now ≡ Ok self.new) }
@@ -237,7 +238,7 @@ impl Subtitle {
     }
 }
 
-// Returns the time code of the four bytes of TCI or TCO.
+// Returns the time code of the four bytes of TCI or TCO, or the fault `Time`.
 fn parse_time_code(bytes: [u8; 4]) -> Result<TimeCode, StlFault>
     ensures valid_time { is_valid_time_field bytes ≡ is_ok result }
     ensures value { IfOk result (λ time. frame_from_bytes bytes ≡ time) }

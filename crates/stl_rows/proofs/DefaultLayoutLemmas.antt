@@ -1,4 +1,4 @@
--- The default layout draws a subtitle plainly, with each line in a box of its own.
+-- The default layout draws a subtitle plainly: a line gets a box if it has cells but no start box.
 use Rattle.std.proofs.Common.{◌≡◌, ℕ, ◌+◌, ◌≤◌, Bool, false, List, [], ◌∷◌, ◌++◌}
 use Rattle.std.proofs.Common.{length, map, refl, ap, ◌∙◌, arith}
 use Rattle.std.proofs.Common.{append_assoc, None, Some, Result}
@@ -36,7 +36,8 @@ default_layout_strips_nothing [] = refl
 default_layout_strips_nothing (b ∷ text) =
     grind (arith, nat_tests, get_or-replicate 32 b false false, default_layout_strips_nothing text)
 
--- The default layout changes a line only by adding a box, if the line has none.
+-- The default layout adds a box to each line that has cells but no start box, and changes no other
+-- line.
 boxed_line-default : (cells : List ℕ) → prepared_by_layout default_items cells ≡ boxed_line cells
 unfolding prepared_by_layout boxed_line line_with_layout_codes line_with_before_codes default_items
     attribute_code has_start_box_code

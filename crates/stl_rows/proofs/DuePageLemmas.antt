@@ -232,8 +232,8 @@ module _ (n : Drawing) (ts : List SubtitleValue) (f at : ℕ) (ok : IsProgramme 
           λ l. let following = after edge.0 edge.1 l edge.2 in grind arith in
           grind (arith, nat_tests, cases_lt)
 
--- If no cue is between two frames, both frames have the same expected page. A checker that looks at
--- earlier frames needs this.
+-- If no cue is after an earlier frame and at or before a frame, both frames have the same expected
+-- page. A checker that looks at earlier frames needs this.
 pub due_page_stays_without_edges : (n : Drawing) (ts : List SubtitleValue) (f j : ℕ)
     → j ≤ f
     → ((e : ℕ) → IsEdge ts e → f < e + j → e ≤ f → ⊥)
@@ -256,7 +256,7 @@ pub tcos_never_decrease : (n : Drawing) (ts : List SubtitleValue)
     → IsNonDecreasingBy (λ (t : SubtitleValue). t.tco) ts
 tcos_never_decrease n ts ok i j d le inside = grind (arith, nat_tests, cases_lt)
 
--- If a subtitle has ended by a frame, all subtitles before it have ended too.
+-- If a subtitle of a programme has ended by a frame, all subtitles before it have ended too.
 pub ended-until : (n : Drawing) (ts : List SubtitleValue) (f at : ℕ)
     → IsProgramme n ts
     → at < length ts

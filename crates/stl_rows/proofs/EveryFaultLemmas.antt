@@ -98,8 +98,8 @@ later_fault_is_at_block : (block at : ℕ) (kind : LoadFaultKind)
     → (kind ≡ File Unfinished) ⊎ (block ≤ at)
 later_fault_is_at_block block at kind h = grind (arith, nat_tests)
 
--- If the source failed at a block and no fault was reported, no fault of the file comes before that
--- block.
+-- If the source failed at a block and no fault was reported, no fault of the file is found before
+-- that block.
 pub none-reported : (drawing : Drawing) (old new : Option (List ℕ)) (block : ℕ)
     (reported : Option LoadFault)
     → (is_some reported ≡ true → ⊥)
@@ -153,8 +153,8 @@ ends-record drawing file block wants =
     ending_subtitle_ends_after_times drawing None block (findings_within_scope drawing.scope file)
     (rw (sym none) at wants.ends)
 
--- If the source failed or memory could not be allocated before any fault was reported, `load`
--- returns that error.
+-- If the source failed, or memory could not be allocated before any fault was reported, `load` may
+-- return that error.
 pub reports-failed : (drawing : Drawing) (file : List ℕ) (block : ℕ) (kind : LoadFaultKind)
     → (kind ≡ Memory) ⊎ (kind ≡ File Read)
     → (kind ≡ Memory → RunsOutOfMemory drawing file KeepsFirst None None block)

@@ -1,4 +1,4 @@
--- If the source fails, the faults of all earlier blocks were reported.
+-- If the source fails, exactly the faults that are found before the failure were reported.
 use Rattle.std.proofs.Common.{◌≡◌, ℕ, ◌+◌, ◌*◌, ◌/◌, List, ◌∷◌, ◌++◌, length, Option, [], Some}
 use Rattle.std.proofs.Common.{Result, true, refl, arith, length-append}
 use Rattle.std.specs.Prelude.{is_ok}
@@ -53,8 +53,8 @@ no_fault_before_block_0 [] = refl
 no_fault_before_block_0 (f ∷ fs) = grind
     (arith, nat_tests, no_fault_before_block_0 fs)
 
--- If the source fails while a subtitle is read, exactly the faults of earlier blocks have been
--- reported.
+-- If the source fails while a subtitle is read, exactly the faults that are found before the block
+-- of the failure have been reported.
 pub fails-next : {drawing : Drawing} {start old new : Option (List ℕ)} {before : Option Times}
     {kept : KeptRecords} {early : List LoadFault} {D : Type 0}
     {IsReported : D → LoadFault → D → Type 0} {reported_old reported_new : D} {scope : Scope}

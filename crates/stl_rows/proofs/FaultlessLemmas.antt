@@ -1,5 +1,5 @@
--- Each line without a fault fits on the page, and a line that is still being read has at most 40
--- cells.
+-- Each line without a fault fits on the page, and has at most 40 cells while it is still being
+-- read.
 use Rattle.std.proofs.Common.{◌≡◌, ℕ, zero, suc, ◌+◌, ◌<◌, ◌≤◌, Bool, List, [], ◌∷◌, ◌++◌, length}
 use Rattle.std.proofs.Common.{map, get_or, refl, arith}
 use Rattle.std.proofs.lemmas.Bool.Decides.{nat_tests}

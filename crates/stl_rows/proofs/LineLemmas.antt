@@ -1,4 +1,5 @@
--- The row that shows a line has the cells of the line and spaces, all below 128.
+-- The row that shows a line has 40 codes: the cells of the line, and spaces around them. If the
+-- cells are below 128, all codes of the row are.
 use Rattle.std.proofs.Common.{◌≡◌, ℕ, ◌+◌, ◌-◌, ◌<◌, ◌≤◌, List, [], ◌∷◌, ◌++◌, length, map, get_or}
 use Rattle.std.proofs.Common.{take, drop, replicate, arith, lit<}
 use Rattle.std.proofs.lemmas.Bool.Decides.{nat_tests}

@@ -1,4 +1,5 @@
--- A file is loaded if and only if its subtitles do not overlap and can all be drawn.
+-- Bytes are loaded as a programme if and only if they are a subtitle file whose subtitles within
+-- the scope are in order, do not overlap and can all be drawn.
 use Rattle.std.proofs.Common.{◌≡◌, ℕ, suc, ◌-◌, ◌<◌, ◌≤◌, List, [], ◌∷◌, ◌++◌, Some, None, Result}
 use Rattle.std.proofs.Common.{Ok, length, take, map, refl, sym, ◌∙◌, ap, arith, append_assoc}
 use Rattle.std.proofs.Common.{append-nil, length-append}
@@ -100,7 +101,8 @@ programme_has_no_follow_faults n records ts t ok =
           drawable,
     ) refl
 
--- If the subtitles of a file are a programme, the file has no faults.
+-- If the rest of a file is read, and the subtitles before it and in it are a programme together,
+-- the rest of the file has no faults.
 programme_is_faultless : (n : Drawing) (records : List SubtitleValue) (left : Findings)
     (ts : List SubtitleValue)
     → subtitles_of (stopped left) ≡ Ok ts

@@ -154,8 +154,8 @@ stops-last drawing before t block old mid new order row is_order is_row some p q
     )
 
 -- The faults reported so far, followed by the faults of the rest of the file, are all its faults.
--- The kept subtitles, followed by the reliable subtitles of the rest, are all its reliable
--- subtitles.
+-- The kept subtitles, but for the last if the next is not in order with it, followed by the
+-- reliable subtitles of the rest, are all its reliable subtitles.
 pub record LoadingInvariant (drawing : Drawing) (file : List ℕ) (left : Findings)
     (before : Option Times)
     (kept : KeptRecords) (early : List LoadFault) : Type 0 where
@@ -459,7 +459,8 @@ unread {drawing} {left = left} {before} {early = early} from block lt early_repo
       later_findings_are_not_before drawing before block left names,
     ) (append-nil early)
 
--- If the source failed at a block, exactly the faults before that block had been reported.
+-- If the source failed at a block, exactly the faults that are found before that block had been
+-- reported.
 pub reports-unread : {D : Type 0} {IsReported : D → LoadFault → D → Type 0} {old new : D}
     {drawing : Drawing} {file : List ℕ} {left : Findings} {before : Option Times}
     {kept : KeptRecords} {early : List LoadFault} (from block : ℕ)

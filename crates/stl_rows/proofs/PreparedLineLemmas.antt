@@ -1,4 +1,5 @@
--- The codes at the end of a line are counted, and only codes that fit in the row are added there.
+-- The codes at the end of a line are counted. With `fit`, only codes that fit in the row are added
+-- there; without `fit`, all codes are.
 use Rattle.std.proofs.Common.{◌≡◌, ℕ, zero, suc, ◌+◌, ◌-◌, ◌<◌, ◌≤◌, true, false, List, [], ◌∷◌}
 use Rattle.std.proofs.Common.{length}
 use Rattle.std.proofs.Common.{get_or, drop, refl, arith, ◌++◌, take, max, ap, ◌∙◌}

@@ -198,8 +198,8 @@ printed_part-prepared items cells = grind (
   printed_part-trimmed,
 )
 
--- The row that shows a line has the same cells as the line, from the first printable cell to the
--- last.
+-- If a line fits in its row, the row that shows the line has the same cells as the line, from the
+-- first printable cell to the last.
 pub printed_part-row : (start : ℕ) (line : List ℕ) → start + length line ≤ 40
     → printed_part (row_starting_at start line) ≡ printed_part line
 printed_part-row start line room =

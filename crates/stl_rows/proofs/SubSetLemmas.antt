@@ -89,7 +89,8 @@ have_names (r ∷ rows) e =
     let rest : words_of rows ≡ map (λ (n : National). (sub_set n).word) (nationals_of rows) = cc in
     (head, have_names rows rest)
 
--- If a table has all options in the order of the definition, a search finds the named option.
+-- If a table has all options in the order of the definition, each with its name, a search finds the
+-- named option.
 pub found_option_is_named : (rows : List SubSet) (text : List ℕ) (found : Option National)
     → found ≡ option_map (λ (r : SubSet). r.national)
     (find (λ (r : SubSet). bytes_eq r.word.now text) rows)

@@ -95,8 +95,8 @@ reported_fault_is_first before cells line ls h =
       option_or_assoc,
     )
 
--- The result is the fault of a rejected byte; otherwise a fault found before; otherwise the first
--- fault of the lines left.
+-- The first fault of text codes is the fault of the first rejected byte; otherwise a fault found
+-- before; otherwise the first fault of the lines left.
 abbrev IsReported : List (ℕ × TextCode) → Type 0
 IsReported ss =
     (before : Option RowFault) (cells : List ℕ) (line : OpenLine)

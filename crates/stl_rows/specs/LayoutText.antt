@@ -50,14 +50,14 @@ number_of_digits (tens ∷ units ∷ []) = do
   Some (10 * tens + units)
 number_of_digits _ = None
 
--- The value of one or two decimal digits, if it is from `least` to `most`.
+-- The value of one or two decimal digits, if it is from `least` to `most`; otherwise `None`.
 unfoldable pub number_within : ℕ → ℕ → List ℕ → Option ℕ
 number_within least most text = do
   n ← number_of_digits text
   if nat_le least n && nat_le n most then Some n else None
 
 -- The value of the layout item `row`, 0 to 22, with `-` before it to move lines up: how many rows
--- down, and how many rows up.
+-- down, and how many rows up. `None` for any other text.
 unfoldable pub rows_of_text : List ℕ → Option (ℕ × ℕ)
 rows_of_text text =
     if slice_index_or text 0 0 == 0x2D
@@ -73,7 +73,7 @@ hex_digit_value c =
     else (if is_within 0x41 0x46 c then Some (c - 0x37)
     else (if is_within 0x61 0x66 c then Some (c - 0x57) else None))
 
--- The byte that two hexadecimal digits describe.
+-- The byte that two hexadecimal digits describe; `None` if one of them is no such digit.
 abbrev pub byte_of_digits : ℕ → ℕ → Option ℕ
 byte_of_digits high low = do
   high ← hex_digit_value high
@@ -81,7 +81,8 @@ byte_of_digits high low = do
   Some (16 * high + low)
 
 -- Fills a list of places with the spacing attributes of pairs of hexadecimal digits. The first
--- `filled` places are taken.
+-- `filled` places are taken. `None` if a pair is no spacing attribute of a layout, a digit is left
+-- over, or no place is free.
 unfoldable pub places_with_codes :
     List (Option Attribute) → ℕ → List ℕ → Option (List (Option Attribute))
 places_with_codes places filled [] = Some places
@@ -93,12 +94,13 @@ places_with_codes places filled (high ∷ low ∷ digits) = do
       then places_with_codes (slice_set places filled (Some attribute)) (filled + 1) digits
       else None
 
--- The spacing attributes of pairs of hexadecimal digits: at most `most`, each from 01 to 0D.
+-- The spacing attributes of pairs of hexadecimal digits: at most `most`, each from 01 to 0D. `None`
+-- for any other text.
 abbrev pub codes_of_text : ℕ → List ℕ → Option (List (Option Attribute))
 codes_of_text most text = places_with_codes (empty_places most) 0 text
 
--- Adds the bytes of pairs of hexadecimal digits, 00 to 1F, to the bytes of the layout item `strip`.
--- A duplicate is rejected.
+-- Adds the bytes of pairs of hexadecimal digits to the bytes of the layout item `strip`. `None` if
+-- a pair is not 00 to 1F, a byte is a duplicate, or a digit is left over.
 unfoldable pub strip_with_bytes : List Bool → List ℕ → Option (List Bool)
 strip_with_bytes strip [] = Some strip
 strip_with_bytes strip (high ∷ []) = None
@@ -107,8 +109,8 @@ strip_with_bytes strip (high ∷ low ∷ digits) = do
   if slice_index_or strip code true then None
       else strip_with_bytes (slice_set strip code true) digits
 
--- The codes of the layout item `before`, given the parts of its value around `*`: at most 6 codes
--- in total.
+-- The codes of the layout item `before`, given the parts of its value around `*`. `None` if a part
+-- is no list of codes, or there are more than 6 codes in total.
 abbrev pub before_codes_of_parts :
     List ℕ → Option (List ℕ) → Option (List (Option Attribute) × List (Option Attribute))
 before_codes_of_parts ahead None = option_map (λ codes. (codes, empty_places 6))
@@ -119,7 +121,7 @@ before_codes_of_parts ahead (Some following) = do
   if nat_le (length ahead + length following) 12 then Some (first, second) else None
 
 -- The codes of the layout item `before`: those before a line's own leading codes, and those after
--- them.
+-- them. `None` if the value is not valid.
 unfoldable pub before_codes_of_text :
     List ℕ → Option (List (Option Attribute) × List (Option Attribute))
 before_codes_of_text text =
@@ -129,7 +131,7 @@ before_codes_of_text text =
 -- ---- layout items by name and value
 
 -- Sets the layout item with this name, which takes no value. Returns the number of the item, to
--- find duplicates, and the changed items.
+-- find duplicates, and the changed items; `None` if there is no such item.
 unfoldable pub items_with_flag : LayoutItems → List ℕ → Option (ℕ × LayoutItems)
 items_with_flag items name =
     if bytes_eq name (codes "fit") then Some (0, record items { fit = true })
@@ -143,7 +145,7 @@ items_with_flag items name =
     else None)))))))
 
 -- Sets the layout item with this name to a decimal value. Returns the number of the item, to find
--- duplicates, and the changed items.
+-- duplicates, and the changed items; `None` if there is no such item or the value is not valid.
 unfoldable pub items_with_number : LayoutItems → List ℕ → List ℕ → Option (ℕ × LayoutItems)
 items_with_number items name value =
     if bytes_eq name (codes "left")
@@ -158,7 +160,7 @@ items_with_number items name value =
     else None)))
 
 -- Sets the layout item with this name to a value. Returns the number of the item, to find
--- duplicates, and the changed items.
+-- duplicates, and the changed items; `None` if there is no such item or the value is not valid.
 unfoldable pub items_with_value : LayoutItems → List ℕ → List ℕ → Option (ℕ × LayoutItems)
 items_with_value items name value =
     if bytes_eq name (codes "strip")
@@ -174,20 +176,20 @@ items_with_value items name value =
     else items_with_number items name value))
 
 -- Sets the layout item with this name, with or without a value. Returns the number of the item, to
--- find duplicates, and the changed items.
+-- find duplicates, and the changed items; `None` if the item is not valid.
 abbrev pub items_with_parts : LayoutItems → List ℕ → Option (List ℕ) → Option (ℕ × LayoutItems)
 items_with_parts items name None = items_with_flag items name
 items_with_parts items name (Some value) = items_with_value items name value
 
 -- Sets the layout item that a text names, with the value after an equals sign, if any. Returns the
--- number of the item, to find duplicates, and the changed items.
+-- number of the item, to find duplicates, and the changed items; `None` if the item is not valid.
 unfoldable pub items_with_item : LayoutItems → List ℕ → Option (ℕ × LayoutItems)
 items_with_item items text =
     let parts : List ℕ × Option (List ℕ) = split_at_mark equals_sign text in
     items_with_parts items parts.0 parts.1
 
--- Sets the layout items that several texts name. `None` if a text names no item, or an item that
--- was already set.
+-- Sets the layout items that several texts name. `None` if a text is no valid item, or names an
+-- item that was already set.
 unfoldable pub items_with_all : LayoutItems → List Bool → List (List ℕ) → Option LayoutItems
 items_with_all items already_set [] = Some items
 items_with_all items already_set (text ∷ texts) = do

@@ -70,8 +70,8 @@ empty_line number row is_below_double_height =
 abbrev pub next_empty_line : OpenLine → OpenLine
 next_empty_line line = empty_line (line.number + 1) (line.row + 1) line.has_double_height
 
--- The faults of a line, in the order of reports. A line without a start box gets two codes on each
--- side.
+-- The faults of a line, in the order of reports. A line with cells but no start box gets two codes
+-- on each side.
 unfoldable pub shape_fault_kinds : OpenLine → List RowFaultKind
 shape_fault_kinds line =
     fault_if (nat_lt columns (if line.has_start_box_code then line.len else line.len + 4))

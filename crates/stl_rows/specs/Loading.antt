@@ -21,7 +21,7 @@ use Rattle.stl_rows.specs.DrawnPage.{drawn}
 use Rattle.stl_rows.specs.EveryFault.{faults, load_fault}
 use Rattle.stl_rows.specs.Programme.{AreInOrder, ProgrammeValue, faults_of_next_subtitle, times_of}
 
--- The subtitles of a file that are not rejected.
+-- The subtitles that are found in a file and are not rejected.
 abbrev pub subtitles_of_findings : Findings → List SubtitleValue
 subtitles_of_findings no_more = []
 subtitles_of_findings (breaks fault block) = []
@@ -77,8 +77,8 @@ NoFaultBefore drawing file block =
     → (fault.kind ≡ File Unfinished) ⊎ (block ≤ fault.block)
 
 -- The place of a failure of the source. If the source's bytes are known, `block` is the block of
--- the first byte that was not read, and no fault comes before that block, since it would have been
--- returned instead. That the source failed is not part of this definition.
+-- the first byte that was not read, and no fault is found before that block, since it would have
+-- been returned instead. That the source failed is not part of this definition.
 pub record FailsLoading (drawing : Drawing) (old new : Option (List ℕ)) (block : ℕ) : Type 0 where
   pub bytes : List ℕ
   pub consumed : Consumes old new bytes
@@ -86,8 +86,9 @@ pub record FailsLoading (drawing : Drawing) (old new : Option (List ℕ)) (block
   pub none : IfKnown old (λ all. NoFaultBefore drawing all block)
 
 -- Bytes are loaded as a programme if and only if they are a subtitle file whose subtitles within
--- the scope do not overlap and can all be drawn, and the programme consists of these subtitles. So
--- `load` accepts each such file, unless memory cannot be allocated or the source fails.
+-- the scope are in order, do not overlap and can all be drawn, and the programme consists of these
+-- subtitles. So `load` accepts each such file, unless memory cannot be allocated or the source
+-- fails.
 abbrev pub LawOfLoading : Type 0
 LawOfLoading =
     (drawing : Drawing) (s : List ℕ) (ts : List SubtitleValue)

@@ -51,8 +51,8 @@ abbrev pub codes_with_colour : LayoutItems → List ℕ → List ℕ
 codes_with_colour items codes =
     if items.white && not (list_any (is_within 0x01 0x07) codes) then codes ++ 0x07 ∷ [] else codes
 
--- The layout item `before`: a line with the codes of the layout before and after the line's own
--- leading codes.
+-- The layout items `before` and `white`: a line with the codes that a layout adds before and after
+-- the line's own leading codes.
 unfoldable pub line_with_before_codes : LayoutItems → List ℕ → List ℕ
 line_with_before_codes items cells =
     codes_of_places items.ahead
@@ -95,8 +95,8 @@ uncounted_cells items line =
     )
     else (0, 0)
 
--- The layout item `free`: the JC to use for a subtitle whose JC is 0 (EBU Tech 3264, TTI block,
--- field JC).
+-- The JC to use for a subtitle: the value of the layout item `free` if the subtitle's JC is 0 (EBU
+-- Tech 3264, TTI block, field JC), otherwise the subtitle's own JC.
 abbrev pub effective_jc : LayoutItems → ℕ → ℕ
 effective_jc items jc = if jc == 0 then items.free_jc else jc
 

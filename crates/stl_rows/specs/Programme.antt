@@ -1,4 +1,4 @@
--- A programme is a list of subtitles that do not overlap and can all be drawn.
+-- A programme is a list of valid subtitles that are in order, do not overlap and can all be drawn.
 use Rattle.std.specs.Prelude.{ℕ, ◌-◌, ◌<◌, ◌≤◌, List, [], ◌∷◌, ◌++◌, Option, Some, None, option_map}
 use Rattle.std.specs.Prelude.{Result, Ok, Err, nat_lt, if◌then◌else◌, length, slice_get}
 use Rattle.std.specs.Prelude.{slice_index_or, All, IsOk}
@@ -31,11 +31,11 @@ pub record IsProgramme (drawing : Drawing) (records : List SubtitleValue) : Type
   pub in_order : AreInOrder records
   pub drawable : All (λ t. IsOk (drawn drawing t)) records
 
--- The TCI of the first subtitle, as a frame of the day.
+-- The TCI of the first subtitle, as a frame of the day; `None` if the list is empty.
 abbrev pub first_tci : List SubtitleValue → Option ℕ
 first_tci records = option_map (λ t. t.tci) (slice_get records 0)
 
--- The TCO of the last subtitle, as a frame of the day.
+-- The TCO of the last subtitle, as a frame of the day; `None` if the list is empty.
 abbrev pub last_tco : List SubtitleValue → Option ℕ
 last_tco records = option_map (λ t. t.tco) (slice_get records (length records - 1))
 
@@ -47,12 +47,13 @@ last_element xs = slice_get xs (length xs - 1)
 abbrev pub times_of : SubtitleValue → Times
 times_of t = record { tci = t.tci; tco = t.tco }
 
--- TCI and TCO of the last subtitle in the list.
+-- TCI and TCO of the last subtitle in the list; `None` if the list is empty.
 abbrev pub times_before : List SubtitleValue → Option Times
 times_before records = option_map times_of (last_element records)
 
--- The fault of a subtitle's times, compared with the times of the previous subtitle: `OutOfOrder`
--- if the TCI is before the previous TCI, otherwise `Overlap` if the TCI is before the previous TCO.
+-- The fault of a subtitle's times, compared with the times of the previous subtitle, if any:
+-- `OutOfOrder` if the TCI is before the previous TCI, otherwise `Overlap` if the TCI is before the
+-- previous TCO.
 abbrev pub order_faults : Option Times → Times → List LoadFaultKind
 order_faults None t = []
 order_faults (Some before) t =

@@ -294,7 +294,7 @@ options =
     English ∷ German ∷ Swedish ∷ Italian ∷ French ∷ Spanish ∷ Czech
     ∷ Polish ∷ Turkish ∷ Croatian ∷ Romanian ∷ Estonian ∷ Lithuanian ∷ []
 
--- The national option with this name, in lower case.
+-- The national option with this name, in lower case; `None` for any other text.
 unfoldable pub named_option : List ℕ → Option National
 named_option text = find (λ n. bytes_eq (sub_set n).word text) options
 

@@ -44,13 +44,13 @@ use sub_io::{ReportSink, Source, Stopped};
 ///   compared as if it did not exist.
 /// - `OutOfOrder` or `Overlap` at the last block of any other subtitle, compared with the times of
 ///   the previous subtitle even if that has faults; then the first fault of `draw`, as `Row`.
-/// - `File` for the fault that ends reading.
+/// - `File` for the fault that ends reading, except `Read`.
 ///
 /// If the file has no fault, returns all its subtitles, as `load` does. Otherwise returns the
 /// subtitles that have no fault and are in order with the next subtitle that is not rejected, if
-/// any. Returns `None` if a transmission cannot be checked against the returned subtitles: the file
-/// was not read to its end, no subtitle is left, or a subtitle starts before an earlier one has
-/// ended. Also returns `None` if `report_sink` stops.
+/// any; or `None` if a transmission cannot be checked against these subtitles: the file was not
+/// read to its end, no subtitle is left, or a subtitle starts before an earlier one has ended. Also
+/// returns `None` if `report_sink` stops.
 ///
 /// # Errors
 ///

@@ -10,7 +10,7 @@ use sub_io::FaultCode;
 /// others by line, and for one line in the order of the variants.
 #[derive(Clone, Copy, Debug, PartialEq, Eq)]
 pub enum RowFaultKind {
-    /// Fault code 50: a byte without a cell in the national option's character set.
+    /// Fault code 50: a byte that is no control code, and has no cell in the national option's set.
     Character,
     /// Fault code 51: an unsupported control code, 00 to 1F or 80 to 9F.
     Control,
@@ -85,7 +85,7 @@ impl LoadFaultKind {
 }
 
 /// A fault that was found while a subtitle file was loaded. `load` returns the first one and no
-/// programme; `load_all` reports each and still loads the reliable subtitles.
+/// programme; `load_all` reports each fault of the file, and returns only `Memory` and `Read`.
 #[derive(Clone, Copy, Debug, PartialEq, Eq)]
 pub struct LoadFault {
     /// The number of the TTI block with the fault, counted from 1; 0 for the GSI block. A fault of

@@ -19,7 +19,8 @@ use stl_file::Subtitle;
 /// rejected, if any, is in order with it.
 ///
 /// The model has the subtitles; for each, a bit that says whether an unreliable subtitle of the
-/// file directly precedes it; and whether an unreliable subtitle follows the last.
+/// file directly precedes it; whether an unreliable subtitle follows the last; and whether the
+/// times of the next subtitle are compared with those of the last.
 #[derive(Drop)]
 pub struct KeptSubtitles<A: Allocator + Copy> {
     pub(crate) subtitles: StoredSubtitles<A>,

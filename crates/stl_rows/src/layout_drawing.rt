@@ -45,7 +45,8 @@ fn text_after_strip(items: &LayoutItems, text: &[u8]) -> TextCells
     bytes
 }
 
-// Decodes a text into its cells, with 8A for each new line.
+// Decodes a text into its cells, with 8A for each new line, or returns the fault of the first
+// rejected byte.
 fn read_cells(national: National, text: &[u8], cells: &mut TextCells) -> Result<(), RowFault>
     requires none { cells.old.items ≡ [] }
     requires at_most_1008 { length text.now ≤ 1008 }
@@ -93,7 +94,8 @@ fn first_line(cells: &[u8]) -> (&[u8], Option<&[u8]>)
     (cells, None)
 }
 
-// Returns the depth of the last line that is not empty, if line 0 has depth 0.
+// Returns the depth of the last line that is not empty, if line 0 has depth 0; 0 if all lines are
+// empty.
 fn last_depth(items: &LayoutItems, cells: &[u8]) -> u16
     requires { length cells.now ≤ 1008 }
     ensures value { result ≡ last_depth items.now 0 0 (prepared_cut_lines items.now cells.now) }

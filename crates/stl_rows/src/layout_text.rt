@@ -18,7 +18,8 @@ ghost use Rattle.stl_rows.specs.Layout.{default_items, empty_places};
 
 use crate::layout::{Attribute, Layout, LayoutItems};
 
-// Returns the text before the first `mark`, and the text after it, if the text has a `mark`.
+// Returns the text before the first `mark`, and the text after it; the whole text and `None` if the
+// text has no `mark`.
 #[tactic(auto, unfolding(crate::specs::LayoutText::split_at_mark))]
 fn split_at_mark(text: &str, mark: char) -> (&str, Option<&str>)
     requires { mark < 128 }
@@ -41,7 +42,8 @@ fn decimal_digit(byte: u8) -> Option<u8>
     }
 }
 
-// Parses one or two decimal digits as a number from `least` to `most`.
+// Parses one or two decimal digits as a number from `least` to `most`. Returns `None` for any other
+// text.
 #[tactic(auto, unfolding(crate::specs::LayoutText::number_within))]
 fn number_within(least: u8, most: u8, text: &[u8]) -> Option<u8>
     ensures { result ≡ number_within least most text.now }
@@ -62,7 +64,8 @@ fn number_within(least: u8, most: u8, text: &[u8]) -> Option<u8>
     }
 }
 
-// Parses the value of the layout item `row`: how many rows down, and how many rows up.
+// Parses the value of the layout item `row`: how many rows down, and how many rows up. Returns
+// `None` if the value is not valid.
 #[tactic(auto, unfolding(crate::specs::LayoutText::rows_of_text))]
 fn rows_of_text(text: &[u8]) -> Option<(u8, u8)>
     ensures { result ≡ rows_of_text text.now }
@@ -91,7 +94,7 @@ fn hex_digit_value(byte: u8) -> Option<u8>
     }
 }
 
-// Returns the byte that two hexadecimal digits describe.
+// Returns the byte that two hexadecimal digits describe, or `None` if one of them is no such digit.
 fn byte_of_digits(high: u8, low: u8) -> Option<u8>
     ensures { result ≡ byte_of_digits high low }
 {
@@ -100,7 +103,8 @@ fn byte_of_digits(high: u8, low: u8) -> Option<u8>
     Some(16 * high + low)
 }
 
-// Parses pairs of hexadecimal digits as spacing attributes, at most `N`.
+// Parses pairs of hexadecimal digits as spacing attributes, at most `N`. Returns `None` for any
+// other text.
 fn codes_of_text<const N: usize>(text: &[u8]) -> Option<[Option<Attribute>; N]>
     ensures { result ≡ codes_of_text N text.now }
 {
@@ -124,7 +128,7 @@ fn codes_of_text<const N: usize>(text: &[u8]) -> Option<[Option<Attribute>; N]>
 }
 
 // Parses the value of the layout item `strip`: pairs of hexadecimal digits, 00 to 1F, without
-// duplicates.
+// duplicates. Returns `None` for any other text.
 fn stripped_of_text(text: &[u8]) -> Option<[bool; 32]>
     ensures { result ≡ strip_with_bytes (replicate 32 false) text.now }
 {
@@ -145,7 +149,7 @@ fn stripped_of_text(text: &[u8]) -> Option<[bool; 32]>
 }
 
 // Parses the value of the layout item `before`: the codes before and after a line's own leading
-// codes.
+// codes. Returns `None` if the value is not valid.
 #[tactic(auto, unfolding(crate::specs::LayoutText::before_codes_of_text))]
 fn before_codes_of_text(text: &str) -> Option<([Option<Attribute>; 6], [Option<Attribute>; 6])>
     ensures { result ≡ before_codes_of_text text.now }
@@ -163,7 +167,8 @@ fn before_codes_of_text(text: &str) -> Option<([Option<Attribute>; 6], [Option<A
     }
 }
 
-// Sets the layout item with this name, which takes no value, and returns the item's number.
+// Sets the layout item with this name, which takes no value, and returns the item's number; `None`
+// if there is no such item.
 #[tactic(auto, unfolding(crate::specs::LayoutText::items_with_flag))]
 fn set_flag(items: &mut LayoutItems, name: &str) -> Option<usize>
     ensures value { option_map (λ n. (n, items.new)) result ≡ items_with_flag items.old name.now }
@@ -206,7 +211,8 @@ fn set_flag(items: &mut LayoutItems, name: &str) -> Option<usize>
     }
 }
 
-// Sets the layout item with this name to a decimal value, and returns the item's number.
+// Sets the layout item with this name to a decimal value, and returns the item's number; `None` if
+// there is no such item or the value is not valid.
 #[tactic(auto, unfolding(crate::specs::LayoutText::items_with_number))]
 fn set_number(items: &mut LayoutItems, name: &str, value: &[u8]) -> Option<usize>
     ensures value { option_map (λ n. (n, items.new)) result
@@ -236,7 +242,8 @@ fn set_number(items: &mut LayoutItems, name: &str, value: &[u8]) -> Option<usize
     }
 }
 
-// Sets the layout item with this name to a value, and returns the item's number.
+// Sets the layout item with this name to a value, and returns the item's number; `None` if there is
+// no such item or the value is not valid.
 #[tactic(auto, unfolding(crate::specs::LayoutText::items_with_value))]
 fn set_value(items: &mut LayoutItems, name: &str, value: &str) -> Option<usize>
     ensures value { option_map (λ n. (n, items.new)) result
@@ -262,7 +269,8 @@ fn set_value(items: &mut LayoutItems, name: &str, value: &str) -> Option<usize>
     }
 }
 
-// Sets the layout item that a text names, and returns the item's number.
+// Sets the layout item that a text names, and returns the item's number; `None` if the item is not
+// valid.
 #[tactic(auto, unfolding(crate::specs::LayoutText::items_with_item))]
 fn set_item(items: &mut LayoutItems, text: &str) -> Option<usize>
     ensures value { option_map (λ n. (n, items.new)) result ≡ items_with_item items.old text.now }
@@ -275,7 +283,8 @@ fn set_item(items: &mut LayoutItems, text: &str) -> Option<usize>
     }
 }
 
-// Returns the text before the first comma, and the text after it, if the text has a comma.
+// Returns the text before the first comma, and the text after it; the whole text and `None` if the
+// text has no comma.
 fn split_first_item(text: &str) -> (&str, Option<&str>)
     ensures texts { slice_split (λ c. c == 0x2C) text.now ≡ result.0.now
         ∷ option_map_or (λ more. slice_split (λ c. c == 0x2C) more.now) result.1 [] }
@@ -285,7 +294,7 @@ fn split_first_item(text: &str) -> (&str, Option<&str>)
     split_at_mark(text, ',')
 }
 
-// Parses the items of a layout, without duplicates.
+// Parses the items of a layout, without duplicates. Returns `None` for any other text.
 fn items_of_text(text: &str) -> Option<LayoutItems>
     ensures { items_with_all default_items (replicate 15 false) (slice_split (λ c. c == 0x2C)
         text.now)

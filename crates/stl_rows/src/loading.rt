@@ -58,7 +58,7 @@ pub fn load<S: Source>(
     ensures drawing { IfOk result (λ programme.
         programme.drawing ≡ drawing_within national layout scope) }
     // If the source failed and its bytes are known, the error has the block of the byte that could
-    // not be read, and no fault comes before that block.
+    // not be read, and no fault is found before that block.
     ensures read { IfErr result (λ f. is_load_read_failure f ≡ true →
         FailsLoading (drawing_within national layout scope)
         (S.remaining source.old) (S.remaining source.new) f.block) }
@@ -107,7 +107,8 @@ pub fn load_with_allocator<A: Allocator + Copy, S: Source>(
 }
 
 /// Bytes are loaded as a programme if and only if they are a subtitle file whose subtitles within
-/// the scope do not overlap and can all be drawn, and the programme consists of these subtitles.
+/// the scope are in order, do not overlap and can all be drawn, and the programme consists of these
+/// subtitles.
 pub fn law_of_loading()
     ensures { LawOfLoading }
 {

@@ -90,7 +90,8 @@ impl NationalCharacter {
     }
 }
 
-// Returns the national option of the first row of the table whose name is `text`.
+// Returns the national option of the first row of the table whose name is `text`, or `None` if no
+// row has this name.
 fn find_option(rows: &[SubSet], text: &str) -> Option<National>
     ensures { result ≡ option_map (λ (r : SubSet). r.national)
         (find (λ (r : SubSet). bytes_eq r.word.now text.now) rows.now) }

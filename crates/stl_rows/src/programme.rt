@@ -42,7 +42,8 @@ impl Model for Programme {
     ghost invariant = { λ p. IsProgramme p.drawing p.subtitles };
 }
 
-// Returns the index of the first subtitle whose TCO is after a frame, by binary search.
+// Returns the index of the first subtitle whose TCO is after a frame, by binary search; the number
+// of subtitles if there is none.
 fn first_ending_after(drawing: &Drawing, subtitles: &StoredSubtitles<Global>, frame: u32) -> usize
     requires { IsProgramme drawing.now subtitles.now }
     ensures bound { result ≤ length subtitles.now }
@@ -82,8 +83,8 @@ fn is_first_ending_after(
     }
 }
 
-// Returns the index of the first subtitle whose TCO is after a frame. Tries `guess` and the next
-// index before a binary search.
+// Returns the index of the first subtitle whose TCO is after a frame; the number of subtitles if
+// there is none. Tries `guess` and the next index before a binary search.
 fn find_first_ending_after(
     drawing: &Drawing,
     subtitles: &StoredSubtitles<Global>,
@@ -109,8 +110,8 @@ fn find_first_ending_after(
     first_ending_after(drawing, subtitles, frame)
 }
 
-// Draws the expected page at a frame. Returns the next cue after the frame, and the index of the
-// subtitle found.
+// Draws the expected page at a frame. Returns the next cue after the frame, if any, and the index
+// of the first subtitle whose TCO is after the frame; the number of subtitles if there is none.
 fn draw_expected(
     drawing: &Drawing,
     subtitles: &StoredSubtitles<Global>,
@@ -138,7 +139,7 @@ fn draw_expected(
     (Some(tco), at)
 }
 
-// Returns the next cue (TCI or TCO) after a frame.
+// Returns the next cue (TCI or TCO) after a frame, or `None` if there is none.
 fn next_cue_after(drawing: &Drawing, subtitles: &StoredSubtitles<Global>, frame: u32) -> Option<u32>
     requires { IsProgramme drawing.now subtitles.now }
     ensures { ReportsNextEdge subtitles.now frame result }
@@ -170,7 +171,7 @@ fn tco_before(subtitles: &StoredSubtitles<Global>, at: usize) -> Option<u32>
     Some(tco)
 }
 
-// Returns the last cue (TCI or TCO) at or before a frame.
+// Returns the last cue (TCI or TCO) at or before a frame, or `None` if there is none.
 fn last_cue_until(drawing: &Drawing, subtitles: &StoredSubtitles<Global>, frame: u32) -> Option<u32>
     requires { IsProgramme drawing.now subtitles.now }
     ensures { ReportsLastEdge subtitles.now frame result }
@@ -187,7 +188,7 @@ fn last_cue_until(drawing: &Drawing, subtitles: &StoredSubtitles<Global>, frame:
     tco_before(subtitles, at)
 }
 
-// Returns the TCI of the subtitle whose TCO is the frame.
+// Returns the TCI of the subtitle whose TCO is the frame, or `None` if no subtitle ends there.
 fn tci_of_ending_subtitle(
     drawing: &Drawing,
     subtitles: &StoredSubtitles<Global>,
@@ -373,8 +374,8 @@ impl Programme {
         tci_of_ending_subtitle(&self.drawing, &self.subtitles, frame)
     }
 
-    // Returns whether the expected page is unknown at a frame, given the bits of the subtitles that
-    // directly follow an unreliable subtitle.
+    // Returns whether the expected page is unknown at a frame, given for each subtitle whether it
+    // directly follows an unreliable subtitle, and whether an unreliable subtitle follows the last.
     #[tactic(auto, unfolding(crate::specs::Judged::is_undecided_in))]
     pub(crate) fn is_undecided(
         &self,
@@ -399,8 +400,9 @@ impl Programme {
     }
 }
 
-/// If subtitles do not overlap, the expected page at a frame is the page of the subtitle whose TCI
-/// is at or before the frame and whose TCO is after it, or blank if that subtitle cannot be drawn.
+/// If subtitles are in order and do not overlap, the expected page at a frame is the page of the
+/// subtitle whose TCI is at or before the frame and whose TCO is after it, or blank if that
+/// subtitle cannot be drawn.
 #[tactic(auto, using(crate::proofs::DuePageLemmas::due_subtitle_is_drawn))]
 pub fn law_of_due_subtitles()
     ensures { LawOfDueSubtitles }

@@ -111,8 +111,8 @@ impl OpenLine {
     }
 }
 
-// Returns the first fault of a text whose first line is in row VP. Rejected bytes are reported
-// before the faults of lines.
+// Returns the first fault of a text whose first line is in row VP, if any. Rejected bytes are
+// reported before the faults of lines.
 fn fault_of_text(national: National, vp: u8, text: &[u8]) -> Option<RowFault>
     requires last { vp ≤ 23 }
     requires at_most_1008 { length text.now ≤ 1008 }

@@ -29,7 +29,7 @@ impl Times {
         }
     }
 
-    // Returns the fault of these times, compared with the times of the previous subtitle.
+    // Returns the fault of these times, if any, compared with the times of the previous subtitle.
     pub(crate) fn order_fault_after(self, before: Option<Times>) -> Option<LoadFaultKind>
         ensures { result ≡ first_of (order_faults before self) }
     {

@@ -1,5 +1,5 @@
 -- The result of `check_files` determines the status of a check: it is 0 exactly if the files are
--- accepted.
+-- accepted, unless a device failed or memory ran out.
 use Rattle.std.proofs.lemmas.Bool.Decides.{nat_tests}
 use Rattle.std.proofs.Common.{◌≡◌, ◌≢◌, ◌↔◌, ℕ, List, Some, Result, Ok, Err, true, false}
 use Rattle.std.proofs.Common.{ap, arith, refl, sym, subst, Bool}

@@ -1,5 +1,5 @@
--- If the bytes of both files are known and no device failed, the status of a check is 0 exactly if
--- these bytes are accepted.
+-- If the bytes of both files are known, and neither a device failed nor memory ran out, the status
+-- of a check is 0 exactly if these bytes are accepted.
 use Rattle.std.proofs.Common.{◌≡◌, ◌≢◌, ◌↔◌, ◌∙◌, ap, arith, refl, sym, ℕ, List, Bool, true}
 use Rattle.std.proofs.Common.{false, Result, Ok, Err}
 use Rattle.std.specs.Prelude.{IsFalse, IsOk}
@@ -77,8 +77,8 @@ memory-fault (Err (fault.Subtitles f)) fails read fine =
 memory-fault (Err (fault.Pes pes pes_fault.Read)) fails read fine = cc
 memory-fault (Err f) fails read fine = cc
 
--- If no device failed and the subtitle file contains a programme, the answer is `Ok` exactly if the
--- files are accepted.
+-- If no source failed, memory did not run out and the subtitle file contains a programme, the
+-- answer is `Ok` exactly if the files are accepted. An accepted subtitle file contains a programme.
 pub record AcceptsExactly
     (drawing : Drawing) (file : List ℕ) (answer : Result Accepted CheckFault) (Means : Type 0)
     : Type 0 where

@@ -1,5 +1,6 @@
--- What is known at the end of a run remains true for weaker properties of its devices. All bytes
--- were written and flushed before a source failed.
+-- If each property of the inputs and the file that is known at the end of a run is replaced by a
+-- weaker one, the result is still true. The same applies to the bytes that were written and flushed
+-- before a source failed.
 use Rattle.std.proofs.lemmas.Bool.Decides.{nat_tests}
 use Rattle.std.proofs.Common.{arith}
 use Rattle.std.proofs.Common.{◌≡◌, ◌∙◌, ap, refl, subst, ℕ, List, [], ◌∷◌, ◌++◌}

@@ -1,4 +1,5 @@
--- The bytes of a part of a source are those of the PES packets that the request selects.
+-- If a request reads a part of a source, its input has exactly the bytes of the PES packets that
+-- the request selects; otherwise its input is the entire source.
 use Rattle.std.proofs.lemmas.Bool.Decides.{nat_tests}
 use Rattle.std.proofs.Common.{◌≡◌, ◌∙◌, ap, arith, ℕ, List, Option, Some, None, true, false}
 use Rattle.std.specs.Prelude.{◌⊎◌, option_map}

@@ -100,7 +100,8 @@ pub record AnswersCheck
 
 -- The output shows the state of a receiver after the frames of the PES file up to TIME, or the
 -- fault. In a cell whose byte has even parity, the receiver stores the code that `leaves` returns
--- for the cell's old code. The argument `first` is the number of the first PES packet in its file.
+-- for the cell's old code, unless it drops the row. The argument `first` is the number of the first
+-- PES packet in its file.
 pub record PrintsReceived
     (leaves : ℕ → ℕ) (listening : Listening) (first : ℕ) (pes : SourceCall) (out : SinkCall)
     (status : Status)
@@ -176,7 +177,7 @@ reads_pes_packets (ask.Listen pes listening) = true
 reads_pes_packets (ask.Extract recording pes stream) = true
 reads_pes_packets _ = false
 
--- The first input of the request is a source, but not of PES packets.
+-- The first input of the request is read as plain bytes, not as PES packets.
 abbrev pub reads_plain_source : Request → Bool
 reads_plain_source request = reads_input (files_of_request request) && not
     (reads_pes_packets request)
@@ -241,12 +242,12 @@ pub record CountsDeviceFailures
       → first.old_count + second.old_count + file.old_count + out.old_count
       < first.new_count + second.new_count + file.new_count + out.new_count
 
--- If the status is `Done`, no bytes are left in the buffer of the output file.
+-- If the request writes a file and the status is `Done`, no bytes are left in the file's buffer.
 abbrev pub FlushesOutputFile : Request → Status → ℕ → Type 0
 FlushesOutputFile request status buffered =
     writes_file (files_of_request request) ≡ true → status ≡ Done → buffered ≡ 0
 
--- If the status is `Done`, the system has stored the output file.
+-- If the request writes a file and the status is `Done`, the system has stored the file.
 abbrev pub StoresOutputFile : Request → Status → Bool → Type 0
 StoresOutputFile request status is_stored =
     writes_file (files_of_request request) ≡ true → status ≡ Done → is_stored ≡ true
@@ -280,11 +281,13 @@ pub record AnswersFromInputs
   -- The output and the output file, for each command.
   pub answers :
       Answers request (first_input request source pes_packets) pes_packets Untouched file out status
-  -- All bytes are written to the device of the output file before the recording's device is read.
+  -- If the device of the recording failed, `extract` has left no bytes in the buffer of the output
+  -- file (`BuffersNothing`).
   pub written :
       WritesBeforeRead request (fails (first_input request source pes_packets)) BuffersNothing
-  -- All output is flushed before the device of a PES file or recording is read. So if this read
-  -- fails, at most the line about the failure is still in the buffer.
+  -- If the device of the PES file or recording failed, `packets`, `survey` and `check --all` have
+  -- flushed all output before. So at most the line about the failure is still in the buffer
+  -- (`IsAlone`).
   pub followed :
       FlushesBeforeRead request (fails (first_input request source pes_packets)) (fails pes_packets)
       IsAlone

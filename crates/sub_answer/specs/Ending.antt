@@ -137,8 +137,9 @@ pub record EndsWith
         new_count = printed.count;
       })
       status
-  -- All output is flushed before the device of a PES file or recording is read. So if this read
-  -- fails, at most the line about the failure is still in the buffer.
+  -- If the buffer was empty, `packets`, `survey` and `check --all` flush all output before the
+  -- device of the PES file or recording is read. So if this read fails, at most the line about the
+  -- failure is still in the buffer.
   pub followed :
       old.buffered ≡ [] → FlushesBeforeRead request (fails first) (fails second) (IsAlone printed)
   pub flushed : FlushesBuffer printed status new result
@@ -163,8 +164,8 @@ pub record IsClosedAfter
   pub closed : IsClose left.device new.device
   -- Closing the file does not change the bytes in the file's buffer.
   pub buffered_eq : new.buffered ≡ left.buffered
-  -- All bytes are written to the device of the output file before the recording's device is read.
-  -- So if this read fails, the buffer of the file is empty.
+  -- If the device of the recording failed, `extract` has written all bytes to the device of the
+  -- output file before, so the buffer of the file is empty.
   pub written : WritesBeforeRead request (first.call.old_count < first.call.new_count)
       (left.buffered ≡ [])
 

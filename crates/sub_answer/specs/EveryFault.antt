@@ -95,8 +95,8 @@ ListsAllEvents drawing options file pes events (Err (Pes n Read)) =
     ListsBothFiles drawing options file pes events (Err n)
 ListsAllEvents drawing options file pes events (Err f) = ⊥
 
--- The source of the subtitle file failed while this block was read, directly after the consumed
--- bytes.
+-- The place of a failure of the subtitle file's source: the block of the first byte that was not
+-- consumed. That the source failed is not part of this definition.
 pub record FailsAtBlock (known left : Option (List ℕ)) (block : ℕ) : Type 0 where
   pub bytes : List ℕ
   pub consumed : Consumes known left bytes
@@ -111,7 +111,7 @@ IsCheckAnswer programme options bytes answer =
     IsCheckedBy programme options bytes answer
     × (IsFalse options.keeps → options.within ≡ 0 → IsChecked programme options bytes answer)
 
--- If no subtitle was rejected and the PES file was read completely, the first fault among the
+-- If the subtitle file has no fault and the PES file was read completely, the first fault among the
 -- events determines the answer of `check`, which is correct for the bytes of both files
 -- (`IsCheckAnswer`).
 abbrev pub FitsCheckAnswer :
@@ -154,7 +154,8 @@ pub record ReportsPes
   pub count : CountRisesIf pes.old_count (is_err answer) pes.new_count
   pub read : (n : ℕ) → answer ≡ Err n → FailsAtPesPacket n pes.known pes.left
   pub cut : new.failed ≡ true → IsOk answer
-  -- If no subtitle was rejected, the first fault among the events determines the answer of `check`.
+  -- If all subtitles are reliable, the first fault among the events determines the answer of
+  -- `check`.
   pub checked :
       new.failed ≡ false
       → IfKnown pes.known (λ bytes.
@@ -225,8 +226,8 @@ pub record AnswersCheckAll
       status ≢ Fault
       → answer ≡ Ok None
       → IfKnown stl.known (λ file. can_judge drawing file ≡ false)
-  -- Unless a device failed, memory ran out or a subtitle was rejected, the answer of `check`, which
-  -- follows from the events, is correct for the bytes of both files.
+  -- Unless a device failed, memory ran out or the subtitle file has a fault, the answer of `check`,
+  -- which follows from the events, is correct for the bytes of both files.
   pub checked :
       status ≢ Fault
       → IfKnown stl.known (λ file.

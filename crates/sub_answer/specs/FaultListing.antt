@@ -22,8 +22,8 @@ abbrev pub fault_count_listing : ℕ → Listing
 fault_count_listing n = record { text = decimal n ++ codes " faults\n"; status = Refused }
 
 -- The last line after `refused` faults: the line about a failed device or a lack of memory;
--- otherwise the number of faults or, if there are none, the line of the accepted transmission.
--- `None` means that the PES file can't be checked against the subtitle file.
+-- otherwise the number of faults or, if there are none and the PES file was checked, the line of
+-- the accepted transmission. `None` means that the PES file can't be checked.
 abbrev pub last_listing : ℕ → ℕ → Result (Option Accepted) CheckFault → Listing
 last_listing first refused (Err f) = fault_listing (counted_from first (check_line f))
 last_listing first refused (Ok None) = fault_count_listing refused

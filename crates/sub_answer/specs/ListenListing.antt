@@ -29,8 +29,8 @@ tuned_to_old_page page = record {
   screen = None;
 }
 
--- The line of a fault of `listen`. A lost header is reported with the number of its Teletext
--- packet.
+-- The line of a fault of `listen`. A packet that is listed as lost but must not be lost is reported
+-- with its frame and its number.
 abbrev pub listen_line : ListenFault → FaultLine
 listen_line (listen.File f) = check_line f
 listen_line (listen.LostHeader frame packet) =
@@ -45,8 +45,8 @@ listing_of first asks_complete end (Err f) = fault_listing (counted_from first (
 
 -- The output of `listen` for a file with these frames: the page or screen of a receiver that
 -- started with an old page, or a fault. In a cell whose byte has even parity, the receiver stores
--- the code that `leaves` returns for the cell's old code. The remaining bytes of the file are
--- `known` before and `left` after the run.
+-- the code that `leaves` returns for the cell's old code, unless it drops the row. The remaining
+-- bytes of the file are `known` before and `left` after the run.
 pub record Listens
     (leaves : ℕ → ℕ) (l : Listening) (first : ℕ) (frames : Transmission)
     (unread : Option UnreadReason)

@@ -30,12 +30,13 @@ carried_bytes_if_stream None known_bytes = known_bytes
 carried_bytes_if_stream (Some s) known_bytes = option_map
     (carried_bytes s.pid (bytes_of s.packet_size)) known_bytes
 
--- The bytes of the PES packets in a range, or all bytes if no range is selected.
+-- The bytes of a range of PES packets (`range_bytes`), or all bytes if no range is selected.
 abbrev pub bytes_in_range : Option PesPacketRangeValue → Option (List ℕ) → Option (List ℕ)
 bytes_in_range None known_bytes = known_bytes
 bytes_in_range (Some r) known_bytes = option_map (range_bytes r) known_bytes
 
--- The number of the first selected PES packet in the file or the stream.
+-- The number of the first selected PES packet in the file or the stream; the number of PES packets
+-- if there are fewer; `None` if a range is selected and the bytes are not known.
 abbrev pub first_number_in_range : Option PesPacketRangeValue → Option (List ℕ) → Option ℕ
 first_number_in_range None known_bytes = Some 0
 first_number_in_range (Some r) known_bytes = option_map (first_index r) known_bytes

@@ -10,7 +10,7 @@ use Rattle.sub_listing.specs.declared.status.Status.{Status}
 use Rattle.sub_listing.specs.declared.status.Status.TheVariants.{Done, Fault}
 use Rattle.ts_survey.specs.Listed.{IsSurveyOutput}
 
--- The text ends with the line of a fault.
+-- The text ends with the line of a fault whose exit status is `Fault`.
 pub record EndsInFault (text : List ℕ) : Type 0 where
   pub before : List ℕ
   pub fault : FaultLine

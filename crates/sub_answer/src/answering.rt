@@ -42,7 +42,8 @@ use ttx_pes::{FilePesPackets, NumberedPesPackets};
 /// Answers a request that `Request::parse` returned.
 ///
 /// `first` is the subtitle file or the only input, `second` the PES file of a check, `file` the
-/// output file, and `out` standard output. All PES packets of a file are read. Devices that the
+/// output file, and `out` standard output. PES packets are read from the start of a file of PES
+/// packets; a PID or a range that the request gives for them has no effect. Devices that the
 /// request does not name are not used. Returns `Fault` if a device failed or memory ran out;
 /// everything printed before remains.
 pub fn answer<S: Source, T: Source, F: Close, K: Flush>(
@@ -84,14 +85,16 @@ pub fn answer<S: Source, T: Source, F: Close, K: Flush>(
     ensures buffered { FlushesOutputFile request.now result (F.buffered file.new) }
     ensures stored { StoresOutputFile request.now result (F.is_stored file.new) }
 
-    // All output is flushed before the device of a PES file or recording is read. So if this read
-    // fails, at most the line about the failure is still in the buffer.
+    // If the buffer was empty, `packets`, `survey` and `check --all` flush all output before the
+    // device of the PES file or recording is read. So if this read fails, at most the line about
+    // the failure is still in the buffer.
     ensures followed { K.buffered out.old ≡ 0 → FlushesBeforeRead request.now
         (S.failure_count first.old < S.failure_count first.new)
         (T.failure_count second.old < T.failure_count second.new)
         (BuffersLastLineOnly K.contents K.buffered K.is_push out.new) }
 
-    // All bytes are written to the device of `file` before the recording's device is read.
+    // If the buffer of `file` was empty, `extract` writes all bytes to the device of `file` before
+    // the recording's device is read.
     ensures written { F.buffered file.old ≡ 0 → WritesBeforeRead request.now
         (S.failure_count first.old < S.failure_count first.new) (F.buffered file.new ≡ 0) }
 {
@@ -207,7 +210,8 @@ fn drawing_of(request: &Request<'_>) -> Drawing
     }
 }
 
-/// Prints the line about invalid arguments or a file that can't be opened, and returns `Fault`.
+/// Prints the line about invalid arguments, a lack of memory or a file that can't be opened, and
+/// returns `Fault`.
 ///
 /// If `out` fails, it received a prefix of the line.
 pub fn print_usage_fault<K: Sink>(fault: &UsageFault, out: &mut K) -> Status

@@ -174,7 +174,8 @@ fn answer_and_flush<S: Source, P: NumberedPesPackets, F: Close, O: FlushPending<
     out.flush_pending(status, file)
 }
 
-/// Prints and flushes the line about a fault of the arguments.
+/// Prints and flushes the line about invalid arguments, a lack of memory or a file that can't be
+/// opened, and returns `Fault`.
 pub fn print_and_flush_usage_fault<K: Sink>(
     fault: &UsageFault,
     out: &mut BufferedSink<'_, K>,

@@ -23,7 +23,8 @@ use Rattle.sub_check.specs.CheckedFiles.{events_of_first_pes_packets}
 use Rattle.sub_rules.specs.PesPacketEvents.{events_of_pes_packets}
 use Rattle.sub_rules.specs.Trusted.{events_reported_after}
 
--- If a PES file is read without a fault to its end, no PES packet is skipped.
+-- If reading a PES file up to its first skipped PES packet finds no reason to stop, no PES packet
+-- is skipped, no bytes remain unread, and the frames are those of all its PES packets.
 complete_read_sends_all_frames : (pes_packets : List PesPacket) (unread : Option UnreadReason)
     → (read_until_skipped pes_packets unread).unread ≡ None
     → ((read_until_skipped pes_packets unread).frames ≡ frames_of pes_packets)

@@ -98,8 +98,8 @@ module _ (programme : ProgrammeValue) (options : OptionsValue) (is : IsOptions o
       (sent_frames_are_complete file.pes_packets (file_pes_packets_sound (clock_of options) 0
       bytes).each)))
 
-  -- No fault is reported exactly if all PES packets are readable, the transmission is good, and no
-  -- bytes remain.
+  -- No fault is reported exactly if no PES packet is skipped, the transmission is good, and the
+  -- file was read to its end.
   reported_none :
       (first_reported_fault (all_events_of programme options bytes) ≡ None)
       ↔ ((length (frames_of file.pes_packets) ≡ length file.pes_packets)
@@ -165,7 +165,8 @@ module _ (programme : ProgrammeValue) (options : OptionsValue) (is : IsOptions o
       → ⊥
   not_refused f first all good none = none-some f (sym (reported_none.1 (all, good, none)) ∙ first)
 
-  -- The file is accepted exactly if its bytes carry a good transmission.
+  -- If the events decide the result, the file is accepted exactly if its bytes carry a transmission
+  -- that is good by the options.
   accepted_from :
       (result : Result Accepted CheckFault)
       → Decides programme options bytes result

@@ -10,7 +10,8 @@ use Rattle.sub_checker.specs.declared.accepted.Accepted.{Accepted}
 use Rattle.sub_check.specs.CheckedFiles.{IsResultOfCheckFiles}
 
 -- A subtitle file and a PES file that are accepted with some delay of `within` frames, possibly 0,
--- are also accepted with any greater delay, unless a source fails or an allocation is refused.
+-- are also accepted with any greater delay, unless a source fails or an allocation is refused. The
+-- PTS of frame 0 is less than 2^33.
 abbrev pub LawOfAcceptedWithinMore : Type 0
 LawOfAcceptedWithinMore =
     (drawing : Drawing) (options : OptionsValue) (more : ℕ) (stl pes : List ℕ)

@@ -44,7 +44,7 @@ use Rattle.sub_rules.specs.declared.fault.CheckFault.TheVariants as fault
 
 -- ---- faults and counts of an answer
 
--- If the result is a fault of the subtitle file, it is the fault that loading this file reports.
+-- If the result is a fault of the subtitle file, it is a fault that loading this file may report.
 abbrev pub ReportsSubtitles : Drawing → List ℕ → Result Accepted CheckFault → Type 0
 ReportsSubtitles drawing file (Err (fault.Subtitles f)) = IsErrorOfLoad drawing file f.block f.kind
 ReportsSubtitles drawing file _ = ⊤
@@ -64,8 +64,8 @@ pub record FilesMean
     (drawing : Drawing) (origin : ℕ) (stl pes : List ℕ)
     (subtitles : List SubtitleValue) (transmission : Transmission)
     : Type 0 where
-  -- The subtitle file consists of a GSI block and the TTI blocks of these subtitles (EBU Tech
-  -- 3264).
+  -- The subtitle file consists of a GSI block and TTI blocks (EBU Tech 3264). Its subtitles in the
+  -- scope of the drawing are these.
   pub gsi : List ℕ
   pub subtitle_file : IsFileFor drawing.scope stl gsi subtitles
   -- The subtitles are in time order and do not overlap, and each can be drawn as a page.
@@ -76,8 +76,8 @@ pub record FilesMean
   pub carries : Carries origin pes transmission
 
 -- Both files are accepted with options that allow no delay and require C4 (erase page) in each
--- header of the page: they contain some subtitles and a good transmission of these, with complete
--- pages if the options require them.
+-- header of the page: they contain subtitles, possibly none, and a good transmission of these, with
+-- complete pages if the options require them.
 pub record IsAccepted
     (drawing : Drawing) (options : OptionsValue) (stl pes : List ℕ) : Type 0 where
   pub subtitles : List SubtitleValue
@@ -119,8 +119,8 @@ pub record FilesMeanWithin
   pub drawable : All (λ t. IsOk (drawn drawing t)) subtitles
   pub carries : CarriesOnClock (clock_of options) options.within pes transmission
 
--- Both files are accepted with these options: they contain some subtitles and a transmission of
--- these that is good by the options.
+-- Both files are accepted with these options: they contain subtitles, possibly none, and a
+-- transmission of these that is good by the options.
 pub record IsAcceptedBy
     (drawing : Drawing) (options : OptionsValue) (stl pes : List ℕ) : Type 0 where
   pub subtitles : List SubtitleValue
@@ -174,8 +174,8 @@ pub record IsCheckedBy
     (programme : ProgrammeValue) (options : OptionsValue) (bytes : List ℕ)
     (answer : Result Accepted CheckFault)
     : Type 0 where
-  -- Unless a device fails or an allocation is refused, the file is accepted exactly if it carries a
-  -- transmission of the programme that is good by the options.
+  -- Unless the result is a fault of the subtitle file or a failed read, the file is accepted
+  -- exactly if it carries a transmission of the programme that is good by the options.
   pub accepted :
       failed is_subtitle_fault answer ≡ false
       → failed is_pes_read_failure answer ≡ false
@@ -196,7 +196,8 @@ pub record IsCheckedBy
       (transmission : Transmission)
       → CarriesOnClock (clock_of options) options.within bytes transmission
       → IfOk answer (HasCounts options.page transmission)
-  -- The returned fault is the first fault among all events.
+  -- A returned fault, unless it is in the subtitle file or a failed read, is the first fault among
+  -- all events.
   pub first :
       failed is_subtitle_fault answer ≡ false
       → failed is_pes_read_failure answer ≡ false
@@ -217,8 +218,9 @@ pub record IsCheckedBy
       → answer ≡ Err (fault.Content frame row column)
       → IsNotRightOnAir programme options
       (joined options.within (pes_file_of (clock_of options) bytes).frames) frame row column
-  -- The transmission that `schedule` makes for the programme and the same options is accepted,
-  -- unless the maximum distance of PES packets is less than the maximum distance of repeats.
+  -- If the programme has subtitles, the transmission that `schedule` makes for it and the same
+  -- options is accepted, unless the pace is less than the repeat bound, or the result is a fault of
+  -- the subtitle file or a failed read.
   pub schedule :
       (serial : Bool)
       → bytes ≡ plan programme options serial
@@ -234,8 +236,9 @@ pub record IsChecked
     (programme : ProgrammeValue) (options : OptionsValue) (bytes : List ℕ)
     (answer : Result Accepted CheckFault)
     : Type 0 where
-  -- Unless a device fails or an allocation is refused, the file is accepted exactly if it carries a
-  -- good transmission of the programme, with complete pages if the options require them.
+  -- Unless the result is a fault of the subtitle file or a failed read, the file is accepted
+  -- exactly if it carries a good transmission of the programme, with complete pages if the options
+  -- require them.
   pub accepted :
       failed is_subtitle_fault answer ≡ false
       → failed is_pes_read_failure answer ≡ false
@@ -272,7 +275,8 @@ pub record AreChecked
   pub refused :
       ((programme : ProgrammeValue) → loaded_programme drawing file ≢ Ok programme)
       → failed is_subtitle_fault answer ≡ true
-  -- The PES file is checked against the programme of the subtitle file.
+  -- The PES file is checked against the programme of the subtitle file: in terms of the seven rules
+  -- with options that allow no delay and require C4 (erase page), and with any options.
   pub checked :
       (programme : ProgrammeValue)
       → loaded_programme drawing file ≡ Ok programme
@@ -330,8 +334,8 @@ TrustedFramesMayStayWithin judged options bytes =
     → StaysAsReadFromFile (criteria_of_judged judged options file.unread) file.pes_packets from to
     (λ on_air. MayStayWithRepeats judged.programme on_air options from to)
 
--- At each frame that is reported as trusted, and at each of the `within` frames before it that were
--- read, the expected page is known.
+-- At each frame that is reported as trusted, and at each of the `within` frames before it from the
+-- first frame read on, the expected page is known.
 abbrev pub TrustedFramesAreKnown : JudgedValue → OptionsValue → List ℕ → Type 0
 TrustedFramesAreKnown judged options bytes =
     let file = pes_packet_file_of (clock_of options) bytes in

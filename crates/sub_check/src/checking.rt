@@ -40,13 +40,15 @@ pub fn check_pes_packets<P: PesPackets>(
     options: &Options,
 ) -> Result<Accepted, CheckFault>
     requires { CanFail (P.failure_count source.old) }
-    // If the bytes of the source are known, the PES file is accepted exactly if it carries a good
-    // transmission of the programme. Such a transmission is robust.
+    // Unless the source fails, a PES file whose bytes are known is accepted, with options that
+    // allow no delay and require C4 in each header, exactly if it carries a good transmission of
+    // the programme, with complete pages if required. Such a transmission is robust.
     ensures checked { IsFalse options.now.keeps → options.now.within ≡ 0
         → IfKnown (P.remaining source.old) (λ bytes.
         IsChecked programme.now options.now bytes result) }
     // With any options, the PES file is accepted exactly if its transmission is good by these
-    // options. Options may allow late pages, or repeats that keep the page.
+    // options, unless the source fails. Options may allow late pages, or repeats that keep the
+    // page.
     ensures answer_is_checked_within { IfKnown (P.remaining source.old) (λ bytes.
         IsCheckedBy programme.now options.now bytes result) }
     // A failure of the source is reported at the PES packet that could not be read; the packets
@@ -69,8 +71,8 @@ pub fn check_pes_packets<P: PesPackets>(
     }
 }
 
-// Checks PES packets against a programme, and reports all faults. For a subtitle file without
-// refused subtitles.
+// Checks PES packets against a programme, all of whose subtitles are reliable, and reports all
+// faults, until `report_sink` stops the check.
 fn report_all_faults<P: PesPackets, A: LiveReportSink<Event>>(
     programme: &Programme,
     source: &mut P,
@@ -99,7 +101,7 @@ fn report_all_faults<P: PesPackets, A: LiveReportSink<Event>>(
 }
 
 /// Checks PES packets against the reliable subtitles of a subtitle file, and reports all faults, as
-/// `check_all` does for the PES packets of a source.
+/// `check_all` does for the PES packets of a source, until `report_sink` stops the check.
 ///
 /// # Errors
 ///

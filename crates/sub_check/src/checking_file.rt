@@ -56,13 +56,15 @@ pub fn check<S: Source>(
     options: &Options,
 ) -> Result<Accepted, CheckFault>
     requires { CanFail (S.failure_count source.old) }
-    // If the bytes of the source are known, the PES file is accepted exactly if it carries a good
-    // transmission of the programme. Such a transmission is robust.
+    // Unless the source fails, a PES file whose bytes are known is accepted, with options that
+    // allow no delay and require C4 in each header, exactly if it carries a good transmission of
+    // the programme, with complete pages if required. Such a transmission is robust.
     ensures checked { IsFalse options.now.keeps → options.now.within ≡ 0
         → IfKnown (S.remaining source.old) (λ bytes.
         IsChecked programme.now options.now bytes result) }
     // With any options, the PES file is accepted exactly if its transmission is good by these
-    // options. Options may allow late pages, or repeats that keep the page.
+    // options, unless the source fails. Options may allow late pages, or repeats that keep the
+    // page.
     ensures answer_is_checked_within { IfKnown (S.remaining source.old) (λ bytes.
         IsCheckedBy programme.now options.now bytes result) }
     // A failure of the source is reported at the PES packet that could not be read; the packets

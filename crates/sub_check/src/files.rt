@@ -41,17 +41,18 @@ pub fn check_files<S: Source, P: Source>(
 ) -> Result<Accepted, CheckFault>
     requires stl { CanFail (S.failure_count stl.old) }
     requires pes { CanFail (P.failure_count pes.old) }
-    // If the bytes of both sources are known, the files are accepted exactly if the PES file has a
-    // good transmission of the subtitles, unless a source fails or an allocation is refused. An
-    // accepted transmission is robust.
+    // With options that allow no delay and require C4 in each header, files whose bytes are known
+    // are accepted exactly if the PES file has a good transmission of the subtitles, unless a
+    // source fails or an allocation is refused. An accepted transmission is robust.
     ensures accepted { IsFalse options.now.keeps → options.now.within ≡ 0
         → IfKnown (S.remaining stl.old) (λ file.
         IfKnown (P.remaining pes.old) (λ bytes.
         IsResultWithoutDelay (drawing_within national layout scope) options.now file bytes
         result)) }
     // With any options, the files are accepted exactly if the transmission is good by these
-    // options, and an accepted transmission has the properties of `HasPromisesWithRepeats`. Options
-    // may allow late pages, or repeats that keep the page.
+    // options, unless a source fails or an allocation is refused. An accepted transmission has the
+    // properties of `HasPromisesWithRepeats`. Options may allow late pages, or repeats that keep
+    // the page.
     ensures is_accepted_within { IfKnown (S.remaining stl.old) (λ file.
         IfKnown (P.remaining pes.old) (λ bytes.
         IsResultOfCheckFiles (drawing_within national layout scope) options.now file bytes

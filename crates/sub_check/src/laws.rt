@@ -6,7 +6,8 @@ ghost use Rattle.sub_check.specs.AcceptedKeeping.{LawOfAcceptedKeeping};
 ghost use Rattle.sub_check.specs.AcceptedKeeping.{LawOfAcceptedWithoutKeeping};
 ghost use Rattle.sub_check.specs.AcceptedWithin.{LawOfAcceptedWithinMore};
 
-/// Files that are accepted with some delay `within` are also accepted with any greater delay.
+/// Files that are accepted with some delay `within` are also accepted with any greater delay. The
+/// PTS of frame 0 is less than 2^33.
 pub fn law_of_accepted_within_more()
     ensures { LawOfAcceptedWithinMore }
 {}

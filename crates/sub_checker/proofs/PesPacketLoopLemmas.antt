@@ -67,8 +67,8 @@ steps_of_all_pes_packets g done = steps_of_each g [] 0 done
 abbrev pub frames_sent_by : Criteria → List PesPacket → Transmission
 frames_sent_by g done = joined_after g.within [] (frames_of done)
 
--- The checker and its reports have this state after the first PES packets of a file; `last` are the
--- Teletext packets of the last valid PES packet.
+-- After the first PES packets of a file, `done`, the states of the checker and of the reporter are
+-- those of the rules; `last` are the Teletext packets of the last valid PES packet.
 pub record TracksPesPackets
     (g : Criteria) (done : List PesPacket) (last : List (List ℕ)) (c : CheckerValue) (p : Relay) :
     Type

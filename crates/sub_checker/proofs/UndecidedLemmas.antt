@@ -1,5 +1,5 @@
--- The expected page is known or unknown in all frames between two of its changes. So the checker
--- can compute from which frame on it is known.
+-- Up to the next cue, the expected page is known in all frames or unknown in all of them. So the
+-- checker can compute from which frame on it is known.
 use Rattle.std.proofs.lemmas.Bool.Decides.{nat_tests}
 use Rattle.std.proofs.Common.{◌≡◌, ℕ, zero, suc, ◌+◌, ◌-◌, ◌<◌, ◌≤◌, ◌⊎◌, Bool, true, false, ◌&&◌}
 use Rattle.std.proofs.Common.{List, [], ◌∷◌, Option, Some, None, refl, sym, ap, ◌∙◌, arith}

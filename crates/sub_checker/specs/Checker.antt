@@ -41,7 +41,8 @@ abbrev pub with_open_frame : ℕ → ℕ → Counts → Counts
 with_open_frame headers packets n =
     record n { headers_before = n.headers - headers; packets = packets; is_open = true }
 
--- The counts are at most those that `pes` PES packets can have, so none can overflow.
+-- The counts are bounded for `pes` PES packets: at most one frame, 255 headers and 255 Teletext
+-- packets for each of them.
 pub record AreCountsBounded (pes : ℕ) (n : Counts) : Type 0 where
   pub frames : n.frames ≤ pes
   pub headers : n.headers ≤ 255 * pes
@@ -162,22 +163,22 @@ abbrev pub current_wrong_cell : CheckerValue → Option (ℕ × ℕ)
 current_wrong_cell c = if is_due_page_undecided c c.frame then None else first_wrong_kept_cell
     c.listener
 
--- The expected page is unknown at the current frame or at one of the `within` frames before it.
--- Frames before the first frame do not count.
+-- The expected page is unknown at the current frame or at one of the `within` frames before it, of
+-- which those before the first frame do not count.
 abbrev pub is_currently_undecided : CheckerValue → Bool
 is_currently_undecided c = was_undecided (is_due_page_undecided c) c.first c.frame c.within
 
 -- The first cell with a code, other than a space, that was not expected at the current frame or at
--- one of the `within` frames before it. `None` if one of these expected pages is unknown. Frames
--- before the first frame do not count.
+-- one of the `within` frames before it, of which those before the first frame do not count. `None`
+-- if one of these expected pages is unknown.
 abbrev pub current_unexpected_cell : CheckerValue → Option (ℕ × ℕ)
 current_unexpected_cell c =
     if is_currently_undecided c
     then None
     else first_unexpected_kept_cell c.listener (due_page_in c.programme) c.first c.frame c.within
 
--- The page is unfinished at the end of the current frame: a cell is wrong, or complete pages are
--- required and the page is open.
+-- The page is unfinished at the end of the current frame: a cell differs from an expected page that
+-- is known, or complete pages are required and the page is open.
 abbrev pub is_currently_unfinished : CheckerValue → Bool
 is_currently_unfinished c = is_some (current_wrong_cell c) || is_kept_page_incomplete c.listener
 
@@ -242,9 +243,9 @@ is_currently_pending c =
 
 -- ---- the invariant of the checker
 
--- For each frame from `frame` up to the next cue, the expected page is unknown at that frame or at
--- one of the `within` frames before it exactly if it comes before `first_known_from`. Frames before
--- `first` do not count.
+-- For each frame from `frame` on that comes before the next cue, the expected page is unknown at
+-- that frame or at one of the `within` frames before it exactly if that frame comes before
+-- `first_known_from`. Of the `within` frames before it, those before `first` do not count.
 abbrev pub IsKnownFrom : (ℕ → Bool) → ℕ → ℕ → ℕ → Option ℕ → ℕ → Type 0
 IsKnownFrom undecided first within frame edge first_known_from =
     (f : ℕ)

@@ -12,7 +12,7 @@ use Rattle.sub_rules.specs.Transmission.{SentFrame, Transmission}
 use Rattle.sub_checker.specs.declared.accepted.Accepted.{Accepted}
 
 -- The counts agree with the frames that were sent: the number of frames from the first to the
--- greatest frame number, and the number of headers of the page.
+-- greatest frame number (0 if no frame was sent), and the number of headers of the page.
 pub record AreCountsOfFrames (page : PageIdValue) (frames : Transmission) (a : Accepted) : Type 0
   where
     pub none : length frames ≡ 0 → a.frames ≡ 0

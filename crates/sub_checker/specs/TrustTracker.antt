@@ -9,8 +9,9 @@ use Rattle.sub_rules.specs.declared.event.Event.TheVariants.{Reported}
 use Rattle.sub_rules.specs.declared.fault.CheckFault.TheVariants as fault
 use Rattle.sub_checker.specs.declared.trust_tracker.TrustTracker.{TrustTracker}
 
--- The first frame that is no longer trusted because of the event. `last` is the frame of the last
--- PES packet; `late` is the first frame with the unfinished page, if the page is overdue.
+-- The first frame that is no longer trusted because of the event, if there is one. `last` is the
+-- frame of the last PES packet that was not skipped; `late` is the first frame with the unfinished
+-- page, if the page is overdue.
 unfoldable pub invalidated : ℕ → Option ℕ → Event → Option ℕ
 invalidated last late (Reported f) = invalidated_frame last late (fault_row f).invalidates
     (fault_row f).place

@@ -11,7 +11,7 @@ pub struct Accepted {
     /// The number of frames from the frame of the first PES packet that was not skipped to the
     /// greatest frame number; 0 if there is none.
     pub frames: u64,
-    /// The number of headers of the page in the file.
+    /// The number of headers of the page in the PES packets that were not skipped.
     pub headers: u64,
 }
 

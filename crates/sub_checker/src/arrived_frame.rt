@@ -127,8 +127,9 @@ impl<'a> Checker<'a> {
         self.counts.packets += units.len() as u32;
     }
 
-    // Passes Teletext packets of the current frame to the listener, and returns the number of
-    // headers of the page. `from` is the number of the first packet in its frame.
+    // Passes Teletext packets of the current frame to the listener, adds the headers of the page
+    // to the counts, and returns their number. `from` is the number of the first packet in its
+    // frame.
     #[inline(always)]
     fn hear<A: ReportSink<Event>>(
         &mut self,

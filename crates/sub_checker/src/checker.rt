@@ -17,7 +17,7 @@ use sub_packets::Listener;
 use sub_plan::Options;
 use sub_rules::{ActiveFaults, Event, Watched};
 
-/// The state of the checker after the packets received so far.
+/// The state of the checker after the PES packets received so far. Skipped PES packets don't count.
 #[derive(Drop)]
 pub(crate) struct Checker<'a> {
     pub judging: &'a Judging<'a>,
@@ -42,8 +42,9 @@ pub(crate) struct Checker<'a> {
     // The number of a subtitle near `frame`, where the search for the next expected page starts.
     // Contracts do not use this hint.
     pub near: usize,
-    // Up to the next cue, the expected page of a frame and those of the `within` frames before it
-    // are known exactly from this frame on.
+    // For frames from `frame` on, before the next cue: the expected page of the frame and those of
+    // the `within` frames before it, except for frames before `first`, are known exactly from this
+    // frame on.
     pub first_known_from: u64,
     // The frame that was ended last; `active_faults` are the faults at its end.
     pub last: u32,
@@ -136,7 +137,7 @@ impl<'a> Checker<'a> {
     }
 
     /// Moves the checker to frame `f`. Draws the expected page again if `f` is an earlier frame, or
-    /// if a subtitle begins or ends in between.
+    /// is not before the next cue.
     pub fn move_to(&mut self, f: u32)
         requires day { f < day }
         ensures { self.new ≡ at_frame f self.old }
@@ -196,7 +197,8 @@ impl<'a> Checker<'a> {
         self.latest_frame = greater(self.latest_frame, frame);
     }
 
-    /// Tells the reporter that the next Teletext packets belong to the current frame.
+    /// Tells the reporter that the next Teletext packets belong to the current frame, and calls
+    /// `go_back`.
     #[inline(always)]
     pub fn begin_frame<A: ReportSink<Event>>(&self, reporter: &mut Reporter<'_, A>)
         ensures begun { reporter.new
@@ -220,7 +222,7 @@ impl<'a> Checker<'a> {
     }
 
     /// Adds the page headers of a PES packet of the current frame to the counts. If there are any,
-    /// the deadline for the next header moves.
+    /// moves the deadline for the next header, unless it is already as late or later.
     pub fn count(&mut self, headers: u8)
         requires room { self.old.counts.headers < 0xFFFF_FFFF_FF00 }
         ensures { self.new ≡ checker_after_headers headers self.old }

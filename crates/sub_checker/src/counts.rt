@@ -1,4 +1,4 @@
-//! Counts of the PES packets received so far.
+//! Counts of the contents of the PES packets received so far.
 ghost use Rattle.std.specs.Prelude.{◌≡◌, ◌≤◌};
 ghost use Rattle.sub_checker.specs.Checker.{with_open_frame, no_counts};
 

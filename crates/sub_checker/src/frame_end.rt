@@ -89,7 +89,7 @@ impl<'a> Checker<'a> {
     }
 
     // Returns whether the expected page is unknown at the current frame or at one of the `within`
-    // frames before. Frames before the first frame do not count.
+    // frames before, of which those before the first frame do not count.
     #[inline(always)]
     fn is_undecided(&self) -> bool
         ensures { result ≡ is_currently_undecided self.now }
@@ -104,8 +104,8 @@ impl<'a> Checker<'a> {
         self.has_unreliable_subtitle && self.judging.is_undecided(self.frame)
     }
 
-    // Returns the row (1 to 24) and column (0 to 39) of the first wrong cell; `None` if the
-    // expected page is unknown.
+    // Returns the row (1 to 24) and column (0 to 39) of the first wrong cell; `None` if no cell is
+    // wrong or the expected page is unknown.
     fn first_wrong(&self, is_undecided: bool) -> Option<(u8, u8)>
         requires { is_undecided ≡ is_due_page_undecided self.now self.now.frame }
         ensures { result ≡ current_wrong_cell self.now }

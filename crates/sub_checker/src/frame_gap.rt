@@ -17,7 +17,9 @@ use sub_packets::report_if;
 use sub_rules::{CheckFault, Event};
 
 impl<'a> Checker<'a> {
-    /// Moves the checker to the frame of a PES packet that begins a new frame.
+    /// Moves the checker to the frame of a PES packet that begins a new frame. For the first PES
+    /// packet, reports a subtitle that begins before it; for a later one, reports a frame number
+    /// that does not increase, and ends the frames without a PES packet in between.
     pub fn reach<A: ReportSink<Event>>(&mut self, frame: u32, reporter: &mut Reporter<'_, A>)
         requires day { frame < day }
         ensures counts { self.new.counts ≡ self.old.counts }
@@ -35,7 +37,8 @@ impl<'a> Checker<'a> {
         }
     }
 
-    // Moves the checker to the frame of the first PES packet.
+    // Moves the checker to the frame of the first PES packet. Reports a subtitle that begins before
+    // it.
     fn begin<A: ReportSink<Event>>(&mut self, frame: u32, reporter: &mut Reporter<'_, A>)
         requires day { frame < day }
         ensures counts { self.new.counts ≡ self.old.counts }
@@ -55,7 +58,8 @@ impl<'a> Checker<'a> {
         self.start(frame);
     }
 
-    // Moves the checker to the frame of a later PES packet.
+    // Moves the checker to the frame of a later PES packet. Reports a frame number that does not
+    // increase, and ends the frames without a PES packet in between.
     fn go_to<A: ReportSink<Event>>(&mut self, frame: u32, reporter: &mut Reporter<'_, A>)
         requires day { frame < day }
         ensures counts { self.new.counts ≡ self.old.counts }
@@ -77,7 +81,8 @@ impl<'a> Checker<'a> {
         self.arrive(frame);
     }
 
-    // Ends the frames between the last PES packet and frame `to`, which have no PES packet.
+    // Ends the frames between the greatest frame number so far and frame `to`, which have no PES
+    // packet.
     fn end_gap_frames<A: ReportSink<Event>>(&mut self, to: u32, reporter: &mut Reporter<'_, A>)
         requires day { to < day }
         ensures counts { self.new.counts ≡ self.old.counts }

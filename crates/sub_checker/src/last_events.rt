@@ -13,7 +13,7 @@ use sub_rules::{ActiveFaults, CheckFault, Event};
 
 impl<'a> Checker<'a> {
     /// Reports the events after the end of the last frame and `pes` PES packets: the active faults
-    /// end, and the last fault follows. `fault` is the fault that ended reading.
+    /// end, and the last fault follows, if there is one. `fault` is the fault that ended reading.
     pub fn close<A: Taker>(&self, pes: u32, fault: Option<CheckFault>, taker: &mut A)
         ensures { Reports A.is_reported taker.old taker.new
             (closing_events_of_checker pes fault self.now) }
@@ -31,7 +31,7 @@ impl<'a> Checker<'a> {
         is_reported || !self.active_faults.has_none()
     }
 
-    // Returns the last fault to report, after `pes` PES packets.
+    // Returns the last fault to report after `pes` PES packets, if there is one.
     fn last_fault(&self, pes: u32, fault: Option<CheckFault>) -> Option<CheckFault>
         ensures { result ≡ last_fault pes fault self.now }
     {
@@ -72,7 +72,7 @@ fn report_fault<A: Taker>(fault: Option<CheckFault>, taker: &mut A)
     }
 }
 
-// Returns whether a subtitle ends after `frame`, the last frame of the file.
+// Returns whether the last TCO is after `frame`, the frame that was ended last.
 fn ends_too_early(last_tco: Option<u32>, frame: u32) -> bool
     ensures { result ≡ ends_too_early last_tco frame }
 {

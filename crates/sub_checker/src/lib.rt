@@ -5,7 +5,7 @@
 //!
 //! ```text
 //! report_pes_packets(&Judging::known(&programme), &mut source, &options, &mut audience)?;
-//! // Accepted { frames: 51, .. }
+//! // Some(Accepted { frames: 51, .. })
 //! ```
 #![tactic(auto)]
 

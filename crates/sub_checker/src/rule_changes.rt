@@ -34,7 +34,7 @@ pub(crate) fn report_change<A: Taker>(
     }
 }
 
-// Reports whether a fault of this rule became active or ended.
+// Reports that a fault of this rule ended, became active, or is now at another cell, if it did.
 fn report_rule_change<A: Taker>(
     rule: EndRule,
     old: &ActiveFaults,
@@ -50,7 +50,7 @@ fn report_rule_change<A: Taker>(
     report_place_change(rule, old.at(rule), before, new.at(rule), frame, taker)
 }
 
-// Reports that a fault ended, became active, or is now at another cell.
+// Reports that a fault ended, became active, or is now at another cell, if it did.
 #[tactic(auto, using(sub_io::proofs::ReportingLemmas::tellings))]
 fn report_place_change<A: Taker>(
     rule: EndRule,
@@ -83,7 +83,7 @@ fn report_place_change<A: Taker>(
     taker.report(reported);
 }
 
-// Returns the fault for a broken rule, with the wrong cell.
+// Returns the fault for a broken rule. Only `Content` contains the cell.
 fn fault_of(rule: EndRule, frame: u32, cell: (u8, u8)) -> CheckFault
     ensures { result ≡ end_rule_fault rule frame cell }
 {

@@ -59,7 +59,7 @@ impl StoredSkippedRun {
     }
 
     /// Returns the event that reports the last packet of the run; `None` if the run has only one
-    /// packet.
+    /// packet or there is no run.
     pub fn ended(&self) -> Option<Event>
         ensures { first_as_list result ≡ run_ending_events (skipped_run_of self.now) }
     {
@@ -70,8 +70,8 @@ impl StoredSkippedRun {
     }
 }
 
-// Returns whether `fault` belongs to the PES packet right after the packet of `last` and has the
-// same number; `false` if `last` is `None`.
+// Returns whether `fault` is the fault of a skipped PES packet right after the packet of `last` and
+// has the same number; `false` if `last` is `None`.
 fn follows(last: &Option<CheckFault>, fault: &CheckFault) -> bool
     ensures { result ≡ continues_after last.now fault.now }
 {

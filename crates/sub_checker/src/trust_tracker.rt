@@ -25,8 +25,8 @@ pub(crate) struct TrustTracker {
     pub last: u32,
     /// Whether frame numbers have increased so far.
     pub rises: bool,
-    /// Whether frame numbers have increased, and no packet of the current frame has a fault that
-    /// affects receivers.
+    /// Whether frame numbers have increased, and no fault that affects receivers was reported since
+    /// the current frame began.
     pub is_clean: bool,
     /// The first frame of the current run of frames with an unfinished page, if `within` is not 0.
     pub first_unfinished: Option<u32>,
@@ -117,7 +117,7 @@ impl TrustTracker {
     }
 
     // Returns whether there is a run of trusted frames, the page was finished at the end of one of
-    // its frames, and no packet of the current frame has a fault that affects receivers.
+    // its frames, and `is_clean` is true.
     #[inline(always)]
     fn run_stays_trusted(&self) -> bool
         ensures { result
@@ -193,7 +193,8 @@ impl TrustTracker {
         last
     }
 
-    // Returns the trusted frames of the last run at the end of the file.
+    // Returns the trusted frames of the last run at the end of the file; `None` if there are none,
+    // or if nothing was reported and `reports_more` is false.
     #[tactic(auto, unfolding(crate::specs::TrustTracker::events_of_step))]
     fn last_trusted_frames(&self, are_left: bool, reports_more: bool) -> Option<Event>
         ensures { first_as_list result ≡ events_of_step (Closes are_left reports_more) self.now }
@@ -261,8 +262,9 @@ fn trusted(run: Option<u32>, finished: Option<u32>, frame: u64) -> Option<Event>
     }
 }
 
-// Returns the first frame that is no longer trusted because of the event. `last` is the frame of
-// the last PES packet; `late` is the first frame with the unfinished page, if the page is overdue.
+// Returns the first frame that is no longer trusted because of the event, if there is one. `last`
+// is the frame of the last PES packet that was not skipped; `late` is the first frame with the
+// unfinished page, if the page is overdue.
 #[tactic(auto, unfolding(crate::specs::TrustTracker::invalidated))]
 fn invalidated(last: u32, late: Option<u32>, event: &Event) -> Option<u32>
     ensures { result ≡ invalidated last late event.now }

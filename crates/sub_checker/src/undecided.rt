@@ -9,7 +9,7 @@ ghost use Rattle.sub_checker.specs.Checker.{IsKnownFrom};
 use stl_rows::Judging;
 
 /// Returns the frame from which on, up to the next cue after `frame`, the expected page of a frame
-/// and those of the `within` frames before it are known. Frames before `first` do not count.
+/// and those of the `within` frames before it, except for frames before `first`, are known.
 /// Returns 0 if none of these pages is unknown, and a number above all frames if the expected page
 /// of `frame` is unknown.
 pub(crate) fn first_known_from(
@@ -46,8 +46,8 @@ fn earliest(first: u32, frame: u32, within: u32) -> u32
     if from < first { first } else { from }
 }
 
-// Returns the last frame before `frame`, from `least` on, whose expected page is unknown. The
-// expected page of `frame` is known.
+// Returns the last frame before `frame`, from `least` on, whose expected page is unknown; `None` if
+// there is none. The expected page of `frame` is known.
 fn last_undecided(judging: &Judging<'_>, frame: u32, least: u32) -> Option<u32>
     requires known { is_undecided_in judging.now frame ≡ false }
     ensures { MatchOption result

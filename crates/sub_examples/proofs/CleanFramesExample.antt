@@ -1,5 +1,5 @@
--- The transmission of the example is rejected, but has a range of frames without faults that affect
--- receivers.
+-- The transmission of the example is rejected, but some of its consecutive frames have no fault
+-- that affects receivers.
 use Rattle.std.proofs.lemmas.Bool.Decides.{nat_tests}
 use Rattle.std.proofs.Common.{ℕ, inl, inr, List, [], ◌∷◌, None, false, refl, arith}
 use Rattle.std.specs.Int.RustNames.{count_ones}

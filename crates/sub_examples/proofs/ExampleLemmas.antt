@@ -1,4 +1,5 @@
--- A transmission without events is good.
+-- If `within` is 0, `every` is not 0 and C4 must always be set, a transmission of packets of 42
+-- bytes without events is good.
 use Rattle.std.proofs.lemmas.Bool.Decides.{Decides-and, Decides-like, Decides-eqb, Decides-ltb}
 use Rattle.std.proofs.Common.{arith, ◌≡◌, ℕ, ◌<◌, inl, inr, ◌==◌, ◌&&◌, Bool, true, false}
 use Rattle.std.proofs.Common.{List, [], length, nat_lt, slice_index, None}

@@ -1,5 +1,5 @@
--- For each fault that affects receivers, a transmission that has only this fault fails at one
--- receiver. Each example gives the receiver's start and the packets that it receives.
+-- For each of eight faults that affect receivers, a transmission with none of the other seven fails
+-- at a receiver. Each example gives the receiver's start and the packets that it receives.
 use Rattle.std.proofs.Common.{List, [], ◌∷◌, refl, ℕ}
 use Rattle.std.specs.Int.RustNames.{count_ones}
 use lib.Count.{ones_in}
@@ -34,7 +34,7 @@ abbrev header_with_two_wrong_bits : List ℕ
 header_with_two_wrong_bits =
     header_of_coded_bytes (0x16 ∷ 0x15 ∷ 0xD0 ∷ 0xD0 ∷ 0x15 ∷ 0xD0 ∷ 0x15 ∷ 0xD0 ∷ 0x02 ∷ 0x15 ∷ [])
 
--- The transmission of each example breaks only one rule, and fails at one receiver.
+-- The transmission of each example breaks only one of the eight rules, and fails at a receiver.
 pub examples_of_needed_rules : ExamplesOfNeededRules
 unfolding are_code_words is_word_below first_even_parity_column breaks differing_column_count is_gap
     packet_rules active_faults_at is_late first_wrong_cell_after first_cell is_incomplete

@@ -63,9 +63,9 @@ listening frames a b g j f e = grind (arith, nat_tests, and_parts, nat_le, leb-t
 abbrev is_wrong : ℕ → ℕ → Bool
 is_wrong code due = not (code == due) && not (code == space)
 
--- The receiver fails: it received no header within the repeat bound; or it has a header although
--- none was sent, or none although one was sent; or the cell in row 1 and column 0 has neither the
--- expected code nor a space after a header.
+-- The receiver fails: no header was sent within the repeat bound; or it has received a header
+-- although none was sent, or none although one was sent; or a header was sent, and the cell in row
+-- 1 and column 0 has neither the expected code nor a space.
 abbrev is_not_served : ProgrammeValue → OptionsValue → ℕ → ℕ → List (List ℕ) → State → Bool
 is_not_served programme o g f sent new =
     (nat_le (g + o.every) f && not (has_page_header (kind o.page) sent))
@@ -74,7 +74,7 @@ is_not_served programme o g f sent new =
     && is_wrong (cell new.page 1 0) (cell (due_page_in programme f) 1 0)))
 
 -- A receiver that starts at packet `j` of frame `g`, stops after frame `f` and receives the packets
--- `got` fails.
+-- `got`, with at most one wrong bit in each byte, fails.
 abbrev pub has_counterexample :
     ProgrammeValue → Transmission → OptionsValue → ℕ → ℕ → ℕ → List (List ℕ) → Bool
 has_counterexample programme frames o g j f got =

@@ -1,5 +1,5 @@
 -- Examples of trusted frames: which frames are reported as `trusted`, and before which events. The
--- files have PES packets for frames 0 and 50.
+-- files have PES packets for frame 0 and, except in the last example, frame 50.
 use Rattle.std.specs.Prelude.{◌≡◌, ℕ, ◌++◌, true, false, List, [], ◌∷◌, Some, None}
 use Rattle.ttx_pes.specs.declared.fault.PesFault.TheVariants.{DataId, Truncated}
 use Rattle.sub_rules.specs.Trusted.{CheckStep, events_reported_after}
@@ -17,11 +17,11 @@ AreReportedEvents events steps = events_reported_after [] steps ≡ events
 abbrev pub steps_of_good_frame : ℕ → ℕ → List CheckStep
 steps_of_good_frame pes f = AtPes pes ∷ Begins f ∷ Ends f true true ∷ []
 
--- The steps at the end of a file without unread bytes.
+-- The steps at the end of a file without unread bytes, rejected subtitles and further events.
 abbrev pub closing_steps : ℕ → List CheckStep
 closing_steps pes = AtPes pes ∷ Closes false false ∷ []
 
--- One example for each kind of event: the steps, and the reported events with the trusted frames.
+-- Examples for several kinds of faults: the steps, and the reported events with the trusted frames.
 pub record ExamplesOfTrustedFrames : Type 0 where
   -- If there are no faults, no frame is reported as `trusted`, since nothing is reported.
   pub nothing :

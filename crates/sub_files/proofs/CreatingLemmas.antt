@@ -1,5 +1,5 @@
 -- After the input was opened, the output file is created only if this empties neither the input
--- file nor the file that receives standard output.
+-- file nor, as far as is known, the file that receives standard output.
 use Rattle.std.proofs.Common.{◌≡◌, ℕ, Bool, true, false, List, [], ◌∷◌, Option, Some, None}
 use Rattle.std.proofs.Common.{option_map, refl, ◌∙◌}
 use Rattle.sub_files.specs.DistinctFiles.{may_create}

@@ -17,7 +17,7 @@ differs_from_input (At device inode) (At other_device other_inode) =
 differs_from_input input output = false
 
 -- The output is not known to be the file that receives standard output: either of them was not
--- found, or they differ in device or inode.
+-- found or could not be looked up, or they differ in device or inode.
 abbrev pub differs_from_standard_output : (standard_output output : LookupResult) → Bool
 differs_from_standard_output (At device inode) (At output_device output_inode) =
     not ((device == output_device) && (inode == output_inode))

@@ -35,8 +35,7 @@ abbrev pub empty_file_with_capacity : ℕ → MemSinkValue
 empty_file_with_capacity room = record { bytes = []; room = room; failure_count = 0 }
 
 -- The effect of each call on files in memory. An input file is the list of its bytes that are still
--- to be read, and an output file is the list of the bytes written to it. At most one file is
--- created.
+-- to be read, and an output file is the model of a sink in memory. At most one file is created.
 abbrev pub IsMemoryCall : MemFilesValue → FileCall (List ℕ) MemSinkValue → MemFilesValue → Type 0
 IsMemoryCall old (LookUp name found) new = (new ≡ old) ×
     (found ≡ lookup_result_for_bytes (bytes_at name old))

@@ -84,8 +84,8 @@ total_buffer_size (names.Extract recording output) = 2 * buffer_size
 total_buffer_size _ = buffer_size
 
 -- The reason why no files are opened. `Memory`: memory ran out before any call. `Open`: the call
--- for one of the files failed, or the output might overwrite the input or the file that receives
--- standard output.
+-- for one of the files failed, or creating the output might empty the input or is known to empty
+-- the file that receives standard output.
 abbrev pub IsOpeningFault :
     {I O : Type 0} → (List (FileCall I O) → Type 0) → FileNames → UsageFault → Type 0
 IsOpeningFault AreMade names usage.Memory = AreMade []

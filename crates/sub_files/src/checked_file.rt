@@ -19,8 +19,8 @@ pub trait SizeLookup {
     // Relates the device's state and the expected number of bytes to the result of `has_all_bytes`.
     ghost is_size_lookup: { Self → ℕ → Bool → Type 0 };
 
-    /// Returns whether the closed file has this many bytes. Also returns `true` for a pipe, a
-    /// terminal or another device, which stores nothing.
+    /// Returns `true` only if the closed file has this many bytes, or is a pipe, a terminal or
+    /// another device, which stores nothing.
     fn has_all_bytes<W: Write>(&self, file: &IntoFile<W>, length: u64) -> bool
         requires { file.now.device ≡ None }
         ensures { is_size_lookup self.now length result };
@@ -117,11 +117,11 @@ impl<W: Write + Release + Store, L: SizeLookup> Close for CheckedFile<W, L> {
     ///
     /// # Errors
     ///
-    /// Returns `Failed` if the writer fails, if bytes are lost, if the closed file has another
-    /// size, or if the file was closed before.
+    /// Returns `Failed` if the writer fails, if bytes are lost, if `has_all_bytes` returns `false`
+    /// for the closed file, or if the file was closed before.
     fn store(&mut self) -> Result<(), Failed>
         requires { CanFail self.old.file.failure_count }
-        // On success, the file was closed, and all written bytes were found afterwards.
+        // On success, the file was closed, and `has_all_bytes` returned `true` afterwards.
         ensures closed { OnOk result (self.new.file.device ≡ None) }
         ensures lookup { OnOk result (L.is_size_lookup self.new.lookup
             (u64_saturate (length self.new.file.taken)) true) }

@@ -62,7 +62,8 @@ impl<'a, T, E: Eprint> ErrorReporter<'a, T, E> {
         }
     }
 
-    // Prints which operation of the device failed, and the reason.
+    // Prints which operation of the device failed, and the reason; nothing if the reader of
+    // standard output has exited.
     fn explain(&self, what: &str, error: &io::Error) {
         if !self.is_standard_output {
             explain(self.errors, what, self.name, error);

@@ -124,8 +124,8 @@ fn reason_for_refusal(found: LookupResults) -> Option<&'static str> {
 }
 
 /// Creates a file for writing, if the lookups show that this does not empty the input, and do not
-/// show that it empties the file that receives standard output. Otherwise returns `None` without a
-/// call.
+/// show that it empties the file that receives standard output. Otherwise creates nothing. Returns
+/// `None` if no file was created.
 pub fn create_distinct_file<D: FileSystem>(
     files: &mut D,
     output: &Output<'_>,

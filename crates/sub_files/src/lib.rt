@@ -1,8 +1,8 @@
 //! Opens the files of a request.
 //!
-//! `sub_request` has the names of the files. This crate depends only on `sub_request` and `sub_io`,
-//! so it is proved in parallel with the crates that carry out a request. `sub_answer` reads and
-//! writes the opened files.
+//! `sub_request` has the names of the files. Of the project's crates, this one uses only
+//! `sub_request` and `sub_io`, so it is proved in parallel with the crates that carry out a
+//! request. `sub_answer` reads and writes the opened files.
 //!
 //! ```text
 //! open(&mut SystemFiles::new(rt, &mut names, ..), &request.files());

@@ -53,8 +53,8 @@ pub fn required_buffer_size(names: &FileNames<'_>) -> usize
 }
 
 /// Opens the files of a request in the order of its arguments, and creates the output. Returns
-/// `None` without further calls if a file can't be opened or created, or if the output might
-/// overwrite another file.
+/// `None` without further calls if a file can't be opened or created, or if creating the output
+/// might empty the input or is known to empty the file that receives standard output.
 pub fn open<D: FileSystem>(
     files: &mut D,
     names: &FileNames<'_>,

@@ -33,7 +33,7 @@ pub struct StreamInPlace<F> {
 ///
 /// # Errors
 ///
-/// Fails if the stream is closed, and the folder can't be opened.
+/// Fails if the stream is closed, and the folder can't be opened or looked up.
 pub fn occupy_closed_stream<R: Files, S: AsFd>(
     rt: &R,
     stream: &S,

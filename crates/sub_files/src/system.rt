@@ -27,9 +27,10 @@ const STANDARD_OUTPUT: &str = "/proc/self/fd/1";
 /// The files of the operating system.
 ///
 /// No contract says what the system returns. Each method that opens, creates or looks up a file
-/// calls a function of `std::fs`, but a name that leads to a closed standard stream is not opened.
-/// If the call fails, the reason is printed on standard error, unless no file has the name that was
-/// looked up, or standard output was looked up.
+/// calls a function of `std::fs`, but a name that leads to a closed standard stream is not opened,
+/// and an output whose name is too long is not created. If the call fails, the reason is printed on
+/// standard error, unless no file has the name that was looked up, or standard output was looked
+/// up.
 #[derive(Drop)]
 pub struct SystemFiles<'a, R> {
     rt: &'a R,
@@ -37,7 +38,7 @@ pub struct SystemFiles<'a, R> {
     names: Option<&'a mut [u8]>,
     // Receives the formats of the opened files.
     kinds: &'a InputKinds,
-    // The number of opened files.
+    // The number of files opened for reading.
     opened: u8,
     // The folder in the place of closed standard streams; `NothingFound` if none is closed.
     closed_stream: LookupResult,
@@ -62,7 +63,7 @@ impl<'a, R: Files + Eprint> SystemFiles<'a, R> {
         }
     }
 
-    // Returns whether a name leads to a standard stream that is closed.
+    // Returns whether a name leads to the folder in the place of closed standard streams.
     fn is_closed_stream(&self, name: &str) -> bool {
         match self.closed_stream {
             LookupResult::At(device, inode) => match fs::metadata(self.rt, name) {
@@ -73,7 +74,7 @@ impl<'a, R: Files + Eprint> SystemFiles<'a, R> {
         }
     }
 
-    // Returns where the format of the next opened file is stored.
+    // Counts a file opened for reading, and returns where its format is stored.
     fn next_kind(&mut self) -> &'a Cell<InputKind> {
         self.opened = self.opened.saturating_add(1);
         if self.opened == 1 {
@@ -208,15 +209,16 @@ fn lookup_result_from_metadata(looked_up: io::Result<Metadata>) -> LookupResult
 pub struct SystemSizeLookup<'a, R> {
     rt: &'a R,
     name: &'a str,
-    // Whether the file was a regular file when it was created: no pipe, terminal or other device.
+    // Whether the file was a regular file when it was created, no pipe, terminal or other device;
+    // also `true` if this is unknown.
     is_file: bool,
 }
 
 impl<R: Files + Eprint> SizeLookup for SystemSizeLookup<'_, R> {
     ghost is_size_lookup = { λ _ _ _. Unit {0} };
 
-    /// Also synchronises the file's folder to disk, if the folder can be opened: a new file can't
-    /// be found if its entry in the folder is lost.
+    /// If the file has all bytes, also synchronises its folder to disk, if opening the folder is
+    /// permitted: a new file can't be found if its entry in the folder is lost.
     fn has_all_bytes<W: Write>(&self, _file: &IntoFile<W>, length: u64) -> bool {
         if !self.is_file {
             return true;
@@ -238,8 +240,8 @@ impl<R: Files + Eprint> SizeLookup for SystemSizeLookup<'_, R> {
     }
 }
 
-// Returns the number of bytes of a file: of the file opened again, or looked up by its name if the
-// file can't be read.
+// Returns the number of bytes of a file: of the file opened again, or looked up by its name if
+// reading the file is not permitted.
 fn file_length<R: Files>(rt: &R, name: &str) -> io::Result<u64> {
     let found_file = match fs::open(rt, name) {
         Ok(file) => file.metadata(),
@@ -254,8 +256,8 @@ fn file_length<R: Files>(rt: &R, name: &str) -> io::Result<u64> {
     }
 }
 
-// Synchronises the folder of a file to disk. Returns `true` if the folder can't be opened for lack
-// of permission, because it can't be synchronised then.
+// Synchronises the folder of a file to disk, and returns whether this succeeded. Also returns
+// `true` if opening the folder is not permitted, because it can't be synchronised then.
 fn store_folder<R: Files + Eprint>(rt: &R, name: &str) -> bool {
     let folder = match Path::new(name).parent() {
         Some(folder) if !folder.as_str().is_empty() => folder.as_str(),

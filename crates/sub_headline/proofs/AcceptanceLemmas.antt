@@ -1,5 +1,5 @@
 -- If `within` is 0 and each header of the page has to erase the page, files are accepted exactly if
--- they contain subtitles and a good transmission of them.
+-- they contain subtitles and a good transmission of them, with complete pages if required.
 use Rattle.std.proofs.Common.{◌≡◌, ℕ, Bool, List, [], ◌∷◌, sym, subst}
 use Rattle.std.specs.Prelude.{All, IsFalse}
 use Rattle.std.specs.List.{AllZip}
@@ -37,8 +37,8 @@ module _ (drawing : Drawing) (options : OptionsValue) (stl pes : List ℕ)
     drawable = files_mean.drawable;
   }
 
-  -- If `within` is 0, the contents that files have with PTS values within their tolerance are also
-  -- their contents with exact PTS values.
+  -- If `within` is 0, the subtitles and frames that two files contain by the clock of the options
+  -- are also their contents with exact PTSs.
   exact_of :
       options.within ≡ 0
       → FilesMeanWithin drawing options stl pes subtitles t

@@ -65,7 +65,8 @@ use Rattle.sub_headline.proofs.RowLemmas.{or_default}
 abbrev values_after_parts : Text → List (List Text) → List CheckRecordingOption → List (List Text)
 values_after_parts id vs parts = fold (values_with_choice id) vs parts
 
--- The first text among an argument's values, or the default text if there are none.
+-- The first text in the first of these lists of values, or the default text if there are no lists;
+-- empty if the first list is empty.
 abbrev text_or_default : Text → List (List Text) → Text
 text_or_default default vs = unwrap_or (first_text (or_default vs (default ∷ []))) []
 
@@ -605,7 +606,8 @@ options_are_equal : (o : OptionsValue)
     → options_in o ≡ o
 options_are_equal o within keeps = grind (arith, nat_tests)
 
--- With any of these options `within` is 0, and each header of the page has to erase the page.
+-- With any options of `CheckRecordingOption`, `within` is 0, and each header of the page has to
+-- erase the page.
 pub options_allow_no_delay_or_keeping : (parts : List CheckRecordingOption)
     → ((settings_of_options parts).reading.options.within ≡ 0)
     × IsFalse (settings_of_options parts).reading.options.keeps

@@ -42,7 +42,7 @@ single_byte_entry_adds_no_pair : (x : Bool) (a rest : Option ℕ) → rest ≡ N
 single_byte_entry_adds_no_pair true a rest e = e
 single_byte_entry_adds_no_pair false a rest e = e
 
--- English has no characters that are encoded as two bytes.
+-- The national option English has no characters that are encoded as two bytes.
 english_has_no_second_cell : (byte next : ℕ) → cell_of_character (sub_set English).characters
     (Some byte) next ≡ None
 unfolding sub_set is_encoded_by
@@ -300,8 +300,8 @@ pub due_eq : (ts : List SubtitleValue) (f : ℕ)
 unfolding due
 due_eq ts f each = equal_searches_find_subtitle ts f each
 
--- English subtitles in the default layout. The selected part of the file does not affect how a
--- subtitle is drawn.
+-- The drawing of English subtitles in the default layout, for a selected part of the file. The part
+-- does not affect how a subtitle is drawn.
 abbrev pub english_within : Scope → Drawing
 english_within scope = drawing_within English default_layout scope
 

@@ -1,5 +1,5 @@
 -- A run of `check` on files in memory that does not end with exit code 2 ends with 0 exactly if the
--- bytes are accepted.
+-- bytes of both files are accepted.
 use Rattle.std.proofs.Common.{◌≡◌, ◌≢◌, ◌↔◌, ◌⊎◌, ◌∙◌, ℕ, List, [], ◌∷◌, Option, Some, None, Ok}
 use Rattle.std.proofs.Common.{Result}
 use Rattle.std.proofs.Common.{Bool, ap, arith, codes, refl, subst, sym}
@@ -298,7 +298,7 @@ laws_hold_for_bytes options stl pes is fits IsSo so =
     (subst (λ (t : Transmission). IsSo is.subtitles t)
     (sym (bytes_give_transmission options.origin pes is.transmission fits of.carries)) so)
 
--- The selected part of the subtitle file does not affect the expected page.
+-- The selected part of the subtitle file does not affect how a subtitle is drawn.
 scope_keeps_drawn_page : (national : National) (layout : Layout) (scope : Scope)
     (o : Option SubtitleValue)
     → drawn_or_blank (drawing_within national layout scope) o
@@ -381,8 +381,8 @@ part_of_known_bytes None size range bytes = range_of_known_bytes range bytes
 part_of_known_bytes (Some pid) size range bytes = range_of_known_bytes range
     (bytes_carried_in_pid (Some pid) size bytes)
 
--- The arguments request a check of the given files and of the given part of the recording, with
--- `within` 0, and each header of the page has to erase the page.
+-- If the arguments are a request, it is a check of the given files and of the given part of the
+-- recording. `within` is 0, and each header of the page has to erase the page.
 record ArgumentsRequestCheck
     (arguments : List Text) (stl pes : Text) (stream : Option TransportStream)
     (range : Option PesPacketRangeValue) (options : OptionsValue) (national : National)

@@ -470,7 +470,7 @@ option_sets_row h (NationalChoice text national name is) = refl
 option_sets_row h (LayoutChoice text layout name is) = refl
 
 -- The values of the argument `id` after one more option: the option's values if it sets this
--- argument.
+-- argument, otherwise the earlier values.
 abbrev pub values_with_choice : Text → List (List Text) → CheckRecordingOption → List (List Text)
 values_with_choice id vs choice = if bytes_eq (key choice) id then option_values choice ∷ [] else vs
 

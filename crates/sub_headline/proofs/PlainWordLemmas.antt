@@ -80,7 +80,7 @@ name_is_plain_word c position word h name =
     ∙ ap (λ o. long_or_other c idle word o h) (name_is_no_long_option word name)
     ∙ ap (λ o. short_or_plain c idle word o h) (name_is_no_short_option word name)
 
--- The state of the argument parser `clap` if no option lacks its value.
+-- The state of the argument parser `clap` between two words, if no option still needs its value.
 abbrev pub walk_at_position : Held → ℕ → Walk
 walk_at_position h position =
     record {

@@ -16,7 +16,7 @@ abbrev pub values_at : Text → List Row → List (List Text)
 values_at id [] = []
 values_at id (r ∷ rs) = if bytes_eq r.id id then r.values ∷ values_at id rs else values_at id rs
 
--- The first text among an argument's values, if any.
+-- The first text in the first of these lists of values, if any.
 abbrev pub first_text : List (List Text) → Option Text
 first_text [] = None
 first_text (v ∷ vs) = slice_get v 0

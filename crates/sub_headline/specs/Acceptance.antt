@@ -9,7 +9,8 @@ use Rattle.sub_check.specs.CheckedFiles.{IsAccepted, IsAcceptedBy}
 use Rattle.sub_headline.specs.PlainAcceptance.{IsAcceptedInPlainTerms}
 
 -- If `within` is 0 and each header of the page has to erase the page, files are accepted exactly if
--- they contain subtitles and a good transmission of these subtitles.
+-- they contain subtitles and a good transmission of these, with complete pages if the options
+-- require them.
 abbrev pub LawOfPlainAcceptance : Type 0
 LawOfPlainAcceptance =
     (drawing : Drawing) (options : OptionsValue) (stl pes : List ℕ)
@@ -22,8 +23,8 @@ LawOfPlainAcceptance =
 abbrev pub default_drawing : Drawing
 default_drawing = drawing_by English default_layout
 
--- For English subtitles in the default layout, files are accepted exactly if they satisfy
--- `IsAcceptedInPlainTerms`.
+-- If `within` is 0 and each header of the page has to erase the page, files with English subtitles
+-- in the default layout are accepted exactly if they satisfy `IsAcceptedInPlainTerms`.
 abbrev pub LawOfEnglishAcceptance : Type 0
 LawOfEnglishAcceptance =
     (options : OptionsValue) (stl pes : List ℕ)

@@ -62,7 +62,8 @@ settings_of_options choices =
     choices
 
 -- If the arguments `check STL RECORDING` and these options are a request, it is a check of the two
--- files with the settings of the options, and the PTS of frame 0 is less than 2^33.
+-- files with the settings of the options, and the PTS of frame 0 is less than 2^33. STL and
+-- RECORDING do not begin with `-`.
 abbrev pub LawOfCheckRecordingArguments : Type 0
 LawOfCheckRecordingArguments =
     (program stl recording : Text) (choices : List CheckRecordingOption) (request : Request)

@@ -33,7 +33,8 @@ IsName word = slice_get word 0 ≢ Some 0x2D
 abbrev pub entire_pes_file : Text → PesSelectionValue
 entire_pes_file name = record { name = name; stream = None; range = None }
 
--- The arguments `check STL PES` request a check of these two files with the default options.
+-- If the arguments `check STL PES` are a request, it is a check of these two files with the default
+-- options. STL and PES do not begin with `-`.
 abbrev pub LawOfPlainArguments : Type 0
 LawOfPlainArguments =
     (program stl pes : Text) (request : Request)

@@ -49,7 +49,7 @@ abbrev pub options_of_check_options : List CheckOption → OptionsValue
 options_of_check_options choices = fold with_check_option default_options choices
 
 -- If the arguments `check STL PES` and these options are a request, it is a check of the two files
--- with the options, and the PTS of frame 0 is less than 2^33.
+-- with the options, and the PTS of frame 0 is less than 2^33. STL and PES do not begin with `-`.
 abbrev pub LawOfChosenArguments : Type 0
 LawOfChosenArguments =
     (program stl pes : Text) (choices : List CheckOption) (request : Request)

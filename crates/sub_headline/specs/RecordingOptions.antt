@@ -113,7 +113,8 @@ requested_recording name r = record {
 }
 
 -- If the arguments `check STL RECORDING` and these options are a request, it is a check of the two
--- files with the settings of the options, and the PTS of frame 0 is less than 2^33.
+-- files with the settings of the options, and the PTS of frame 0 is less than 2^33. STL and
+-- RECORDING do not begin with `-`.
 abbrev pub LawOfRecordingArguments : Type 0
 LawOfRecordingArguments =
     (program stl recording : Text) (parts : List RecordingOption) (request : Request)

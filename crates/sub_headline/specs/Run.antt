@@ -28,9 +28,9 @@ pub record RunAnswers
   pub requested : IsRequestOf arguments request
   pub ends : Ends AreMade known IsClose request IsAlone old new result
 
--- The fault that prevents an answer: a file could not be opened or created, the output file might
--- overwrite another file, memory ran out, or the arguments are invalid. In the last two cases no
--- file was opened.
+-- The fault that prevents an answer: a file could not be opened or created, the output might empty
+-- the input file or the file that receives standard output, memory ran out, or the arguments are
+-- invalid. In the last two cases no file was opened.
 abbrev pub IsRefusalReason :
     {I O : Type 0} → (List (FileCall I O) → Type 0) → List Text → UsageFault → Type 0
 IsRefusalReason AreMade arguments usage.Memory = AreMade []

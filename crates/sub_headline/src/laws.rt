@@ -11,18 +11,19 @@ use sub_io::Sink;
 
 /// With options that require the expected page at the end of each frame, and each header of the
 /// page to erase the page, files are accepted exactly if they contain subtitles and a good
-/// transmission of these subtitles.
+/// transmission of these, with complete pages if the options require them.
 pub fn law_of_plain_acceptance()
     ensures { LawOfPlainAcceptance }
 {}
 
-/// For English subtitles in the default layout, files are accepted exactly if they satisfy a short
-/// form of the rules.
+/// With such options, files with English subtitles in the default layout are accepted exactly if
+/// they satisfy a short form of the rules.
 pub fn law_of_english_acceptance()
     ensures { LawOfEnglishAcceptance }
 {}
 
-/// The arguments `check STL PES` request a check of these two files with the default options.
+/// If the arguments `check STL PES` are a request, it is a check of these two files with the
+/// default options.
 pub fn law_of_plain_arguments()
     ensures { LawOfPlainArguments }
 {}

@@ -1,5 +1,5 @@
--- The contents of a buffered device are its buffered bytes followed by the contents of the inner
--- device.
+-- A buffered source returns its buffered bytes before those of the inner source. The contents of a
+-- buffered sink are those of the inner sink followed by the buffered bytes.
 use Rattle.std.proofs.Common.{◌≡◌, ℕ, ◌+◌, ◌-◌, ◌≤◌, List, [], ◌++◌, length, take, drop}
 use Rattle.std.proofs.Common.{slice_range, ◌<◌, append_assoc, length-take-le, take-append-drop}
 use Rattle.std.proofs.Common.{Option, Some, None, Result, sym, ap, ◌∙◌, arith, drop-drop}

@@ -1,5 +1,5 @@
--- All calls of the device in `fill` or `put_all` are one call of it, followed by the remaining
--- calls of that function.
+-- If the first call of `fill` or `put_all` transfers bytes, the calls of that function are this
+-- call and the calls for the bytes that remain.
 use Rattle.std.proofs.Common.{◌≡◌, ℕ, ◌-◌, ◌<◌, Bool, List, ◌∷◌, length}
 use Rattle.std.proofs.Common.{Option, Some, ◌+◌, arith, drop}
 use Rattle.std.proofs.Common.{drop-drop, length-drop}

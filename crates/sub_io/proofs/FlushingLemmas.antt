@@ -12,8 +12,8 @@ module _
     (buffered : D → ℕ)
     (IsFlushed : D → Bool → D → Type 0)
     (stays : FlushKeepsReports IsReported has_stopped has_pending_reports buffered IsFlushed) where
-  -- If the report sink is flushed after the last report, all items still count as reported, by
-  -- induction over the items.
+  -- If a report sink with pending reports is flushed after one or more items, all these items still
+  -- count as reported.
   flushing_keeps_report_order : (a b c : D) (x : A) (items : List A) (ok : Bool)
       → has_pending_reports b ≡ true
       → IsFlushed b ok c
@@ -27,8 +27,8 @@ module _
   flushing_keeps_report_order a b c x (y ∷ items) ok has_pending on (mid, first, rest) =
       (mid, first, flushing_keeps_report_order mid b c y items ok has_pending on rest)
 
-  -- If no report was pending before the first item, all items still count as reported after a
-  -- flush.
+  -- If no report was pending before the first item and some are pending after the last, all items
+  -- still count as reported after a flush.
   flushing_keeps_pending_reports : (a b c : D) (items : List A) (ok : Bool)
       → has_pending_reports a ≡ false
       → has_pending_reports b ≡ true

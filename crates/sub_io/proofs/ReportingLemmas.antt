@@ -40,8 +40,8 @@ module _ {A D : Type 0} {IsReported : D → A → D → Type 0} where
       let same = sym (take-append-le p.0 xs ys room) in
       (p.0, omega (arith, length-append xs ys), subst (Reports IsReported old new) same p.2)
 
-  -- If the report sink stops within the second of two lists, it has received the first list and a
-  -- prefix of the second.
+  -- If the report sink receives the first of two lists and stops within the second, it has received
+  -- a prefix of both lists together.
   pub ReportsPrefix-second : (old mid new : D) (xs ys : List A)
       → Reports IsReported old mid xs
       → ReportsPrefix IsReported mid new ys

@@ -102,8 +102,8 @@ pub record PullsBuffered
   pub reads_device_directly : old.buffered ≡ [] → old.room ≤ count → IsPull old.device count
       answer
       new.device
-  -- If no bytes are buffered, a pull shorter than the buffer requests as many bytes as the buffer
-  -- holds from the inner source, once.
+  -- If no bytes are buffered, a pull shorter than the buffer requests as many bytes as fit in the
+  -- buffer from the inner source, once.
   pub ahead :
       old.buffered ≡ []
       → count < old.room

@@ -23,8 +23,8 @@ pub record FlushKeepsReports
       → has_pending_reports new ≡ false
       → buffered new ≡ 0
 
--- The report sink is unchanged, or its pending reports were flushed; `ok` is true if flushing
--- succeeded.
+-- The report sink is unchanged, or its pending reports were flushed; `ok` is false if flushing
+-- failed.
 abbrev pub FlushesOnlyIfPending :
     {D : Type 0} → (D → Bool) → (D → Bool → D → Type 0) → D → Bool → D → Type 0
 FlushesOnlyIfPending has_pending_reports IsFlushed old ok new =

@@ -114,9 +114,9 @@ impl<'a, K: Sink> BufferedSink<'a, K> {
     }
 }
 
-// Pushes the first `len` bytes of the buffer `room` into the sink. `room` is not changed; it is
-// `&mut` only because the sink and a shared slice of the buffer cannot be borrowed at the same
-// time.
+// Pushes the first `len` bytes of the buffer `room` into the sink. If a push fails, returns the
+// number of bytes written before it as the error. `room` is not changed; it is `&mut` only because
+// the sink and a shared slice of the buffer cannot be borrowed at the same time.
 fn push_buffered<K: Sink>(sink: &mut K, room: &mut [u8], len: usize) -> Result<(), usize>
     requires within { len ≤ length room.old }
     requires count { CanFail (K.failure_count sink.old) }

@@ -189,7 +189,8 @@ impl<S: Source> Source for BufferedSource<'_, S> {
         &self.room[self.start..self.end]
     }
 
-    /// Skips buffered bytes without a call of the inner source.
+    /// Skips `count` buffered bytes without a call of the inner source. Returns `false` and does
+    /// nothing if fewer bytes are buffered.
     #[inline(always)]
     fn skip_bytes(&mut self, count: usize) -> bool
         requires some { 0 < count }

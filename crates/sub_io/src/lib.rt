@@ -1,8 +1,8 @@
 //! Devices that read and write bytes, and count their failures.
 //!
 //! The lowest crate of `subttx`. All other crates read and write files only through these traits.
-//! Their contracts state which bytes a device read or wrote, also if the contents of the device are
-//! unknown.
+//! Their contracts state which bytes a device read or wrote if its contents are known, and how many
+//! of its calls failed.
 //!
 //! ```
 //! let mut source = MemSource::new(b"EBU STL");

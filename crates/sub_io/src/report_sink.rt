@@ -8,7 +8,7 @@ ghost use Rattle.sub_io.specs.Reporting.{KeepsFirst, Reports};
 use crate::{Live, LiveReportSink};
 use std::marker::Model;
 
-/// The error of a report sink that wants no more items.
+/// The error of a report sink that wants no more items or has failed.
 #[derive(Clone, Copy, Debug, PartialEq, Eq)]
 pub struct Stopped;
 
@@ -27,8 +27,8 @@ pub trait ReportSink<T> {
     ///
     /// # Errors
     ///
-    /// Returns `Stopped` if the report sink wants no further items. It has received `item` all the
-    /// same.
+    /// Returns `Stopped` if the report sink wants no further items or has failed. The item still
+    /// counts as reported.
     fn report(&mut self, item: T) -> Result<(), Stopped>
         requires { has_stopped self.old ≡ false }
         ensures reported { Reports is_reported self.old self.new (item ∷ []) }

@@ -1,5 +1,5 @@
--- At the end of each frame, a fault is active exactly if the transmission does not meet the
--- requirement of its rule.
+-- If `within` is 0, a fault is active at the end of a frame exactly if the transmission does not
+-- meet the requirement of its rule.
 use Rattle.std.proofs.Common.{◌≡◌, ◌↔◌, ℕ, zero, suc, ◌+◌, ◌-◌, ◌<◌, ◌≤◌, Bool, true, false, []}
 use Rattle.std.proofs.Common.{length, take, Option, Some, None, refl, sym, subst, arith, not, ◌||◌}
 use Rattle.std.proofs.Common.{◌&&◌, ◌==◌, ◌∙◌, ap, get_or, is_some, option_map, inl, inr, ◌⊎◌}
@@ -233,7 +233,7 @@ module _ (g : Criteria) (frames : Transmission) (n f : ℕ) where
   gap_test_is_exact l = let near = recent_headers_test_is_exact n l in grind (arith, nat_tests)
 
   -- One of the first m frames of the transmission is less than `pace` frames before frame f, or is
-  -- not before it.
+  -- after it.
   abbrev HasRecentPacketAmong : ℕ → ℕ → Type 0
   HasRecentPacketAmong pace m = (j : ℕ) × (j < m) × (f < frame_at frames j + pace)
 

@@ -1,5 +1,5 @@
--- A transmission keeps rules 1 to 6, and no fault is active at any frame end, if and only if it has
--- no faults.
+-- A transmission without faults keeps rules 1 to 6. A fully read transmission that keeps them has
+-- no faults if none is active at any frame end and no unfinished page may still become correct.
 use Rattle.std.proofs.lemmas.Bool.Decides.{nat_tests}
 use Rattle.std.proofs.Common.{◌≡◌, ℕ, ◌+◌, ◌-◌, ◌<◌, ◌≤◌, inl, inr, true, false, List, [], ◌∷◌}
 use Rattle.std.proofs.Common.{◌++◌, Option, Some, None, length, take, get_or, refl, sym, ap, ◌∙◌}

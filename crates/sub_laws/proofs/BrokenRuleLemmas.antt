@@ -1,5 +1,5 @@
--- A packet breaks a rule for packets exactly if the checker's test for the rule is true. For
--- changed rows, the test requires earlier packets without faults.
+-- A packet breaks a rule for packets exactly if the checker's test for the rule is true; for
+-- changed rows, if the earlier packets have no fault and the packet has no coding error.
 use Rattle.std.proofs.Common.{◌≡◌, ℕ, zero, suc, ◌<◌, ◌≤◌, inl, inr, Bool, true, false, not}
 use Rattle.std.proofs.Common.{◌&&◌, List, [], ◌∷◌, Option, Some, None, option_map, refl, sym, ◌∙◌}
 use Rattle.std.proofs.Common.{◌↔◌, arith, length, get_or, subst, is_some, take, All, IsTrue, ◌++◌}

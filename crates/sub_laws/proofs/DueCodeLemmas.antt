@@ -21,8 +21,8 @@ use Rattle.sub_laws.proofs.ActiveFaultsLemmas.{found_cell_is_the_first, no_first
 use Rattle.sub_laws.proofs.ActiveFaultsLemmas.{failing_cells_leave_no_first_cell}
 
 module _ (due : ℕ → Rows) (first f row column code : ℕ) where
-  -- The code was expected in the cell at frame f or at one of the n frames before f. Frames before
-  -- `first` do not count.
+  -- The code was expected in the cell at frame f or at one of the n frames before f. Of the frames
+  -- before f, those before `first` do not count.
   abbrev pub WasDue : ℕ → Type 0
   WasDue n =
       (e : ℕ)
@@ -73,13 +73,13 @@ module _ (keeps : Bool) (page : PageIdValue) (packets : List (List ℕ)) (due : 
   abbrev code_at : ℕ → ℕ → ℕ
   code_at row column = kept keeps page packets row column
 
-  -- The cell has a space, or a code that was expected in it at frame f or in the n frames before f.
+  -- The cell has a space, or a code that was expected in it at frame f or before, as in `WasDue`.
   abbrev pub MayShow : ℕ → ℕ → Type 0
   MayShow row column =
       (code_at row column ≡ space) ⊎ WasDue due first f row column (code_at row column) n
 
   -- The cell has a code other than a space that was not expected in it at frame f or in the n
-  -- frames before f.
+  -- frames before f, from frame `first` on.
   abbrev is_unexpected : ℕ → ℕ → Bool
   is_unexpected row column =
       not (code_at row column == space)

@@ -1,5 +1,5 @@
 -- If each header must have C4 (erase page) set and `within` is 0, the sufficient conditions for
--- repeats are those of the main theorem.
+-- repeats imply those of the main theorem.
 use Rattle.std.proofs.lemmas.Bool.Decides.{nat_tests}
 use Rattle.std.proofs.Common.{◌≡◌, ℕ, Bool, false, Option, IsTrue, subst, arith, refl}
 use Rattle.stl_rows.specs.Programme.{ProgrammeValue}

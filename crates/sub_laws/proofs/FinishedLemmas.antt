@@ -124,7 +124,7 @@ module _ (programme : ProgrammeValue) (options : OptionsValue) (unread : Option 
       ∙ ap un at
       ∙ absent_run_means_finished_frame un first (f - first) (sym (first_unfinished_eq n f end) ∙ e)
 
-  -- If the page is not overdue, an unfinished page is a fault only if `within` is 0.
+  -- If the page is not overdue, an unfinished page is a fault if and only if `within` is 0.
   pub late_eq : (n f : ℕ) → is_overdue g first (unfinished_run_start g t n f) f ≡ false
       → is_late g t n f ≡ (options.within == 0)
   unfolding is_late

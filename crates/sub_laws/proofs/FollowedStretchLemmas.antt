@@ -1,5 +1,5 @@
--- If each packet in a range of frames is allowed after the packets before it, receivers recover in
--- that range.
+-- If each packet in a range of frames is allowed after the packets before it, and a header is sent
+-- within the repeat bound, the range meets the conditions for recovery, apart from the text.
 use Rattle.std.proofs.lemmas.Bool.Decides.{nat_tests}
 use Rattle.std.proofs.Common.{◌≡◌, ℕ, ◌+◌, ◌-◌, ◌<◌, ◌≤◌, inl, inr, Bool, List, [], ◌++◌, length}
 use Rattle.std.proofs.Common.{take, slice_index_or, sym, ◌∙◌, subst, arith}

@@ -1,5 +1,5 @@
 -- A transmission has no fault if it has frames, none of them has a fault, the entire file was read,
--- and it does not end too early.
+-- and after its last frame no subtitle ends and no unfinished page may still become correct.
 use Rattle.std.proofs.Common.{◌≡◌, ℕ, ◌+◌, ◌-◌, ◌<◌, ◌≤◌, ◌⊎◌, length, Some, None, IsFalse}
 use Rattle.sub_rules.specs.Events.{is_pending, no_active_faults, active_faults_at}
 use Rattle.sub_rules.specs.FrameRules.{Criteria, HasHeader, end_frame, frame_at, packets_of_frame}
@@ -40,8 +40,8 @@ pub record MeetsRequirements (g : Criteria) (frames : Transmission) : Type 0 whe
   pub late : (last : ℕ) → g.last_tco ≡ Some last → last ≤ end_frame frames
   pub whole : IsFalse (is_pending g frames)
 
--- The first n frames of the transmission are those up to frame f. Their frame numbers increase,
--- their packets keep all rules, and the first frame has a header of the page.
+-- Frame f is the last of the first n frames of the transmission, or comes after it and before the
+-- next. These n frames have rising numbers and packets that keep all rules; the first has a header.
 pub record IsReadTo (g : Criteria) (frames : Transmission) (n f : ℕ) : Type 0 where
   pub some : 0 < n
   pub fits : n ≤ length frames

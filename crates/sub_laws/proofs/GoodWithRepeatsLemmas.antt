@@ -1,5 +1,5 @@
 -- In a transmission that is good under the options, receivers recover in all frames, and the
--- expected page is on their screens.
+-- expected page is on their screens at each frame end with a correct page that has ended.
 use Rattle.std.proofs.lemmas.Bool.Decides.{nat_tests}
 use Rattle.std.proofs.Common.{◌≡◌, ℕ, ◌-◌, ◌<◌, ◌≤◌, inl, inr, Bool, true, false}
 use Rattle.std.proofs.Common.{length, get_or, option_map, IsTrue, ap, subst, arith}
@@ -119,8 +119,8 @@ module _ (programme : ProgrammeValue) (transmission : Transmission) (options : O
           (last_frame transmission) f (complete asks) low high;
     }
 
-    -- A good transmission is also good with any `within`, if its pages are complete or complete
-    -- pages are not required.
+    -- A good transmission of valid subtitles is also good with any `within`, if its pages are
+    -- complete or complete pages are not required.
     pub good_transmission_is_good_with_any_delay : GoodWithRepeats false programme transmission
         options
     good_transmission_is_good_with_any_delay = record {

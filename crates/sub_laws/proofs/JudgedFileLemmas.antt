@@ -117,8 +117,9 @@ judging_needs_used_blocks_only law drawing gsi blocks size each read =
     let same = law drawing.scope gsi blocks size each read in
     (equal_findings_are_judged_the_same drawing part rest same, judges_same drawing part rest same)
 
--- If two subtitle files have the same reliable subtitles, the same frames with an unknown expected
--- page, and unreliable subtitles both or neither, a PES file has the same events for both.
+-- If two subtitle files have the same reliable subtitles, drawn in the same way, the same frames
+-- with an unknown expected page, and unreliable subtitles both or neither, a PES file has the same
+-- events for both.
 pub law_of_equal_reports : LawOfEqualReports
 law_of_equal_reports one other options unread pes_packets programme any_unreliable undecided =
     ap

@@ -80,7 +80,8 @@ law_of_kept_codes keeps programme transmission options f old new rules low high 
     ((repeated_stretch keeps programme transmission options rules).sends f low high) hears fresh row
     column named
 
--- A header of the page with C4 (erase page) set erases the page.
+-- A header of the page with C4 (erase page) set starts a new text, whether or not repeats may have
+-- C4 clear.
 erasing_header_begins_text : (keeps : Bool) (w : PageIdValue) (packet : List ℕ)
     → ErasesPageIfHeader w packet
     → is_this_page (kind w packet) ≡ true

@@ -1,4 +1,5 @@
--- A transmission has no events if and only if it is good under the options.
+-- If the subtitles are valid, a transmission has no events if and only if it is good under the
+-- options and the entire file was read.
 use Rattle.std.proofs.lemmas.Bool.Decides.{nat_tests}
 use Rattle.std.proofs.Common.{◌≡◌, ℕ, ◌+◌, ◌-◌, ◌<◌, ◌≤◌, ◌⊎◌, inl, inr, Bool, true, false, ◌&&◌}
 use Rattle.std.proofs.Common.{◌||◌, ◌==◌, nat_le, nat_lt, Option, Some, None, is_some, length}
@@ -161,7 +162,8 @@ module _ (programme : ProgrammeValue) (options : OptionsValue) (t : Transmission
   abbrev order : RiseTo t (length t)
   order = rising_frames_rise_at_each_index t good.rules.rising
 
-  -- The current run of frames with an unfinished page begins after each finished frame.
+  -- The run of frames with an unfinished page at the end of frame f begins after each finished
+  -- frame up to f.
   run_starts_after_finished_frame : (n f r e : ℕ) → IsEnd t n f → unfinished_run_start requested t n
       f ≡ Some
       r

@@ -39,7 +39,7 @@ use Rattle.sub_laws.proofs.UnfinishedLemmas.{later_run_start_leaves_finished_fra
 use Rattle.sub_laws.proofs.UnfinishedLemmas.{run_start_is_first_unfinished, unfinished_at}
 
 -- At each frame end from a to b, no cell has a fault, and the expected page is known there and in
--- the `within` frames before. Frame numbers increase.
+-- the `within` frames of the transmission before. Frame numbers increase.
 pub record IsFaultFreeBetween (g : Criteria) (t : Transmission) (a b : ℕ) : Type 0 where
   pub up : RiseTo t (length t)
   pub some : 0 < length t
@@ -111,8 +111,8 @@ module _ (programme : ProgrammeValue) (options : OptionsValue) (unread : Option 
           first-same,
         )
 
-    -- At the end of each frame, each cell has a space, or a code that was expected within the last
-    -- `within` frames.
+    -- At the end of each frame from a to b, each cell has a space, or a code that was expected at
+    -- that frame or at one of the `within` frames before.
     pub codes : KeepsDueCodes options.keeps programme t options a b
     codes f row column low high named =
         let (n, end, on) = each_frame_has_end f low high in

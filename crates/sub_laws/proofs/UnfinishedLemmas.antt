@@ -21,7 +21,8 @@ use Rattle.sub_laws.proofs.PrefixLemmas.{RiseTo, end_is_on_air, rising_frames_ar
 use Rattle.sub_laws.proofs.RisingEndLemmas.{latest_at}
 
 module _ (un : ℕ → Bool) (first : ℕ) where
-  -- The first frame of the run of unfinished frames up to frame `first` + k.
+  -- The first frame of the run of unfinished frames up to frame `first` + k; `None` if that frame
+  -- is finished.
   abbrev pub first_unfinished_at : ℕ → Option ℕ
   first_unfinished_at zero = extended_unfinished_run None (un first) first
   first_unfinished_at (suc k) = extended_unfinished_run (first_unfinished_at k) (un (first + suc k))

@@ -87,8 +87,8 @@ pub record ReportsBrokenPlaces (g : Criteria) (frames : Transmission) : Type 0 w
       → IsFalse (breaks r g.watched before p) ↔ KeepsRule r g.watched before p
   -- The first frame has a header of the page.
   pub header : (first_header_events g frames 0 ≡ []) ↔ HasHeader g frames 0
-  -- The active faults at the end of a frame are exact. A fault is reported if it was not active at
-  -- the end of the frame before.
+  -- The active faults at the end of a frame are exact. An active fault is reported if it was not
+  -- active at the end of the frame before.
   pub ends : (n f : ℕ) → n ≤ length frames → AreActiveFaults g frames n f
   -- No subtitle ends after the last frame of the transmission.
   pub late :
@@ -109,9 +109,9 @@ abbrev pub LawOfBrokenPlaces : Type 0
 LawOfBrokenPlaces = (g : Criteria) (frames : Transmission) → g.within ≡ 0 → ReportsBrokenPlaces g
     frames
 
--- If no subtitle was rejected, a PES file has no event if and only if no PES packet is skipped, its
--- frames are good under the options, and the entire file was read. If `within` is not 0,
--- consecutive PES packets of one frame are merged.
+-- If the subtitles are valid and none was rejected, a PES file has no event if and only if no PES
+-- packet is skipped, its frames are good under the options, and the entire file was read. If
+-- `within` is not 0, consecutive PES packets of one frame are merged.
 abbrev pub LawOfEmptyReportRepeats : Type 0
 LawOfEmptyReportRepeats =
     (programme : ProgrammeValue) (options : OptionsValue) (unread : Option UnreadReason)

@@ -63,7 +63,7 @@ is_needed_by_receivers r = (fault_row (packet_fault r 0 0)).invalidates
 -- `Silent` and faults of PES packets, which it may have: frame numbers increase in the entire
 -- transmission; no packet of the range breaks a rule that affects receivers; no wrong cell or
 -- missing header is active at the end of any of its frames; and the expected page of each frame,
--- and of the `within` frames before it, is known.
+-- and of the `within` frames of the transmission before it, is known.
 pub record HasNoReceiverFault (g : Criteria) (frames : Transmission) (a b : ℕ) : Type 0 where
   pub stretch : IsWithinTransmission frames a b
   pub rising : IsRising frames

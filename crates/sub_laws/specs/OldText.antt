@@ -45,7 +45,7 @@ pub record HoldsExpectedCodes
 -- If text ends or changes at frame e of a good transmission, more than `within` frames after its
 -- first frame and at least `within` frames before its last, a header that erases the page is sent
 -- at most `within` frames before or after e. So a receiver that was tuned in more than `within`
--- frames before e has erased its old text `within` frames after e, and has only expected codes.
+-- frames before e has erased its old text `within` frames after e, and has only allowed codes.
 abbrev pub LawOfOldText : Type 0
 LawOfOldText =
     (keeps : Bool) (programme : ProgrammeValue) (transmission : Transmission)

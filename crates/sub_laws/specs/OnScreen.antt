@@ -16,7 +16,7 @@ use Rattle.sub_rules.specs.Transmission.{Transmission, first_frame, last_frame, 
 use Rattle.sub_rules.specs.Transmission.{on_air_until}
 
 -- Pages are complete in the frames from a to b: by the end of each of these frames, the last header
--- of the page was followed by a header that ends the page.
+-- of the page, if one was sent, was followed by a header that ends the page.
 abbrev pub CompleteWithin : Transmission → OptionsValue → ℕ → ℕ → Type 0
 CompleteWithin transmission options a b =
     (f : ℕ)

@@ -204,8 +204,9 @@ pub record IsSoundStretchWithRepeats
       × (f < start + options.every)
       × HoldsHeader options.page transmission f
 
--- Each packet in the frames from a to b is allowed after the packets before it, whatever these are,
--- and a header of the page is sent within the repeat bound.
+-- The frames from a to b lie within the transmission, whose frame numbers increase. Each packet in
+-- them is allowed after the packets before it, whatever these are, and a header of the page is sent
+-- within the repeat bound.
 pub record HasAllowedPackets
     (keeps : Bool) (transmission : Transmission) (options : OptionsValue) (a b : ℕ)
     : Type 0 where
@@ -284,9 +285,9 @@ LawOfPlanRepeats =
     → GoodWithRepeats keeps programme (planned programme options serial) options
 
 -- If a transmission keeps rules 1 to 6 and is received without errors, a receiver that keeps its
--- page at headers with C4 (erase page) clear, and started with a blank page or has erased it since,
--- has the code `kept` in each cell at the end of each frame. So if that is not the expected code,
--- the receiver has a wrong code.
+-- page at headers with C4 (erase page) clear, and started with a blank page that was not open or
+-- has erased it since, has the code `kept` in each cell at the end of each frame. So if that is not
+-- the expected code, the receiver has a wrong code.
 abbrev pub LawOfKeptCodes : Type 0
 LawOfKeptCodes =
     (keeps : Bool) (programme : ProgrammeValue) (transmission : Transmission)

@@ -14,7 +14,7 @@ pub record IsSufficientWithRepeats
     (keeps : Bool) (programme : ProgrammeValue) (transmission : Transmission)
     (options : OptionsValue) (a b : ℕ)
     : Type 0 where
-  -- Receivers recover in the range of frames (`LawOfRepeatedStretch`).
+  -- The conditions under which receivers recover, apart from the text (`LawOfRepeatedStretch`).
   pub stretch : IsSoundStretchWithRepeats keeps transmission options a b
   -- At the end of each frame, each cell has an allowed code (`IsDueWithin`).
   pub codes : KeepsDueCodes keeps programme transmission options a b

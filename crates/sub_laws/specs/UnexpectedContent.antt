@@ -17,9 +17,9 @@ use Rattle.sub_rules.specs.Transmission.{Transmission, on_air_until}
 use Rattle.sub_rules.specs.WrongContent.{AreReadUpTo}
 
 -- The cell is wrong at the end of frame f. A receiver without errors that keeps its page at headers
--- with C4 (erase page) clear, and started with a blank page or has erased it since, has the code
--- `kept` in that cell; if each header must have C4 set, every receiver without errors has. So
--- either this is not the expected code, or the row was not sent again.
+-- with C4 (erase page) clear, and started with a blank page that was not open or has erased it
+-- since, has the code `kept` in that cell; if each header must have C4 set, every receiver without
+-- errors has. So either this is not the expected code, or the row was not sent again.
 pub record IsNotRightOnAir
     (programme : ProgrammeValue) (options : OptionsValue) (frames : Transmission)
     (f row column : ℕ)

@@ -34,10 +34,10 @@ pub fn law_of_window()
 {}
 
 /// A good transmission is robust: wherever a receiver starts, whatever page it had, and with at
-/// most one wrong bit in each byte, each cell has the expected code after the next header, or a
-/// space if its byte had a wrong bit. The same holds if rows are lost (their cells may have
-/// spaces), and for receivers that drop a row with an error. If pages are complete, it also holds
-/// for the screens of receivers that show a page only after a later header has ended it.
+/// most one wrong bit in each byte, each cell has the expected code after the next header, or it is
+/// a space and its byte had a wrong bit. The same holds if rows are lost (their cells may have
+/// spaces), and for receivers that drop a row with an error (its cells may have spaces). If pages
+/// are complete, it also holds for screens that show a page only after a later header has ended it.
 pub fn law_of_good()
     ensures { LawOfGood }
 {}
@@ -149,8 +149,8 @@ pub fn law_of_first_reported()
     ensures { LawOfFirstReported }
 {}
 
-/// If no subtitle was rejected, a PES file has no event if and only if no PES packet is skipped,
-/// its frames are good under the options, and the entire file was read.
+/// If the subtitles are valid and none was rejected, a PES file has no event if and only if no PES
+/// packet is skipped, its frames are good under the options, and the entire file was read.
 #[tactic(auto, using(crate::proofs::EmptyReportLemmas::law_of_empty_report_repeats))]
 pub fn law_of_empty_report_repeats()
     ensures { LawOfEmptyReportRepeats }
@@ -234,13 +234,15 @@ pub fn law_of_kept_codes()
 
 /// If text ends or changes at a frame of a good transmission, more than `within` frames after its
 /// first frame and at least `within` frames before its last, a header that erases the page is sent
-/// at most `within` frames before or after it. So a receiver's old text is gone by then.
+/// at most `within` frames before or after it. So the old text of a receiver that was tuned in more
+/// than `within` frames before it is gone by then.
 pub fn law_of_old_text()
     ensures { LawOfOldText }
 {}
 
-/// A check against a range of a subtitle file gives the same result as a check against the file
-/// without the other subtitles, if the file can be read to its end.
+/// A range of a subtitle file has the same reliable subtitles as the file without the blocks of the
+/// other subtitles, if the file can be read to its end. A transmission can be checked against both
+/// or against neither.
 pub fn law_of_judged_parts()
     ensures { LawOfJudgedParts }
 {

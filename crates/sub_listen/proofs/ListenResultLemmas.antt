@@ -1,5 +1,5 @@
 -- Reception by `listen` ends at the end of the file, at a fault, after TIME, or before a packet
--- that is listed as lost but must not be lost.
+-- that is listed as lost and not skipped, but must not be lost.
 use Rattle.std.proofs.lemmas.Bool.Decides.{nat_tests}
 use Rattle.std.proofs.Common.{◌≡◌, ◌∙◌, ap, refl, sym, subst, arith, add-one, ℕ, zero, suc, ◌+◌}
 use Rattle.std.proofs.Common.{◌<◌, ◌≤◌, ◌==◌, ◌&&◌, not, cond, inl, inr, true, List, ◌++◌, length}
@@ -43,7 +43,8 @@ use Rattle.sub_rules.specs.declared.fault.CheckFault.TheVariants as check
 use Rattle.sub_listen.specs.declared.listening.ListenFault.{ListenFault}
 use Rattle.sub_listen.specs.declared.listening.ListenFault.TheVariants as fault
 
--- The receiver has received the first n PES packets, and the rest of the file remains.
+-- The receiver has received the first n PES packets, and the bytes `rest` are read as the other
+-- frames. The counters `number`, `sent` and `least` have their values after these n PES packets.
 pub record ReachesPesPacket
     (leaves : ℕ → ℕ) (l : Listening) (frames : Transmission) (unread : Option UnreadReason)
     (w : PageIdValue) (old : Display) (remaining : Option (List ℕ)) (n number sent least : ℕ)
@@ -126,7 +127,7 @@ module _
             reception_ends (Ok tt) (inl (omega (arith, at.0), at.1))
             (λ more. absurd (omega (arith, more, at.0)))
 
-        -- If the next PES packet can't be read, reception ends with its fault.
+        -- If the next PES packet can't be read, reception ends with the fault of that read.
         pub ends_unread :
             (v : PesValue) (answer : Result (Option NextPesPacket) CheckFault) (f : CheckFault)
             → ReportsNext (clock_of l.options) n reached.rest v answer
@@ -161,8 +162,8 @@ module _
                 reads_next (clock_of l.options) n reached.rest frames unread v sending
                 reached.left is
 
-            -- If the next frame is before the first frame that may follow, reception ends with the
-            -- fault `Order`.
+            -- If the frame of the next PES packet is before `least`, the first frame that may
+            -- follow the PES packets so far, reception ends with the fault `Order`.
             pub ends_order :
                 frame < least
                 → ReceivesFile leaves l frames unread reported left w old now
@@ -178,7 +179,8 @@ module _
                 )
                 (λ there. taken)
 
-            -- If the next frame is after TIME, reception ends without a fault.
+            -- If the frame of the next PES packet is not before `least` and is after TIME,
+            -- reception ends without a fault.
             pub ends_late :
                 least ≤ frame
                 → l.at < frame
@@ -199,8 +201,8 @@ module _
                 reached.sent_count_is_current
                 reached.least_frame_is_current next.sent.frame_eq
 
-            -- If a packet of the next frame is listed as lost but must not be lost, reception ends
-            -- with the fault `LostHeader`.
+            -- If the frame of the next PES packet is neither before `least` nor after TIME, and one
+            -- of its packets is lost but must not be lost, reception ends with `LostHeader`.
             pub ends_lost :
                 (before place : ℕ)
                 → before ≡ cond (not (l.options.within == 0) && (frame == least)) sent 0

@@ -41,7 +41,7 @@ pub packets_from_index_unfold : (ps : List (List ℕ)) (k : ℕ) (p : List ℕ)
 packets_from_index_unfold ps k p l is = drop_more ps k [] l ∙ ap (λ (x : List ℕ). x ∷ drop (k + 1)
     ps) (sym is)
 
--- ---- the first packet that is listed as lost but must not be lost
+-- ---- the first packet that is lost but must not be lost
 
 pub first_forbidden_loss-none : (r : Reception) (number : ℕ) (packets : List (List ℕ))
     → r.lost ≡ []

@@ -1,4 +1,5 @@
--- The receiver that `listen` simulates follows the models of receivers to which the laws apply.
+-- The receiver that `listen` simulates follows `StepWithRepeats`; also `Step`, unless a header
+-- restarts its page; and also `ShowsAt`, if the option `asks_complete` is set.
 use Rattle.std.proofs.lemmas.Bool.Decides.{nat_tests}
 use Rattle.std.proofs.Common.{◌≡◌, ◌∙◌, ℕ, Bool, true, false, List, [], ◌∷◌, ap, arith}
 use Rattle.ttx_packet.specs.PageId.{PageIdValue}

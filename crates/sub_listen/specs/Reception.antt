@@ -1,6 +1,6 @@
 -- The Teletext packets of a file that arrive at the receiver, and those that it uses. Some packets
 -- are skipped or lost, and some bits are flipped (not defined by a standard). Packets are numbered
--- from 0 over the whole file.
+-- from 0 over the whole source.
 use Rattle.std.specs.Prelude.{◌≡◌, ℕ, ◌+◌, Bool, true, false, not, ◌&&◌, List, [], ◌∷◌}
 use Rattle.std.specs.Prelude.{MatchBool, Option, Some, None, option_map}
 use Rattle.std.specs.Prelude.{if◌then◌else◌, ◌==◌, nat_le}
@@ -41,7 +41,7 @@ abbrev pub is_received_packet : Reception → ℕ → Bool
 is_received_packet r number = nat_le r.skip number && not (list_any (λ n. n == number) r.lost)
 
 -- The packets of a list that arrive at the receiver, with their bit errors. The first packet of the
--- list is packet `number` of the file.
+-- list is packet `number` of the source.
 abbrev pub arriving_packets : Reception → ℕ → List (List ℕ) → List (List ℕ)
 arriving_packets r number [] = []
 arriving_packets r number (packet ∷ packets) =
@@ -50,13 +50,13 @@ arriving_packets r number (packet ∷ packets) =
     else arriving_packets r (number + 1) packets
 
 -- A receiver of page w uses an arriving packet. A receiver that drops rows does not use a row of
--- its page with a byte of even parity.
+-- its page's magazine with a byte of even parity.
 abbrev pub is_packet_used : ReceiverKind → PageIdValue → List ℕ → Bool
 is_packet_used DropRow w packet = not (is_row_with_even_parity w packet)
 is_packet_used _ w packet = true
 
 -- The packets of a list that the receiver uses: those that arrive, without the rows that it drops.
--- The first packet of the list is packet `number` of the file.
+-- The first packet of the list is packet `number` of the source.
 abbrev pub packets_used_by : Listening → ℕ → List (List ℕ) → List (List ℕ)
 packets_used_by l number packets =
     filter (is_packet_used l.receiver l.options.page) (arriving_packets (reception_of l) number

@@ -55,20 +55,21 @@ joins_previous_frame within frames zero = false
 joins_previous_frame within frames (suc i) =
     not (within == 0) && (frame_at frames (suc i) == frame_at frames i)
 
--- The number of Teletext packets, in the first n PES packets, that belong to the same frame as PES
--- packet n - 1.
+-- The number of Teletext packets in PES packet n - 1 and, if it joins the frame of the PES packet
+-- before it (`joins_previous_frame`), in the PES packets of that frame directly before it; 0 if n
+-- is 0.
 abbrev pub sent_in_frame : ℕ → Transmission → ℕ → ℕ
 sent_in_frame within frames zero = 0
 sent_in_frame within frames (suc i) =
     (if joins_previous_frame within frames i then sent_in_frame within frames i else 0)
     + length (packets_of_frame frames i)
 
--- The index, within its frame, of the first Teletext packet of PES packet i.
+-- The index, within its frame, of the first Teletext packet of PES packet i; 0 if `within` is 0.
 abbrev pub first_in_frame : ℕ → Transmission → ℕ → ℕ
 first_in_frame within frames i =
     if joins_previous_frame within frames i then sent_in_frame within frames i else 0
 
--- The index, within the whole file, of the first Teletext packet of PES packet i.
+-- The index, within the whole source, of the first Teletext packet of PES packet i.
 abbrev pub first_packet_number : Transmission → ℕ → ℕ
 first_packet_number frames i = length (packets_before frames i)
 
@@ -96,7 +97,7 @@ pub record IsReceivedPesPacket (l : Listening) (frames : Transmission) (i : ℕ)
 abbrev pub AreReceivedPesPackets : Listening → Transmission → ℕ → Type 0
 AreReceivedPesPackets l frames n = (i : ℕ) → i < n → IsReceivedPesPacket l frames i
 
--- Reception ends after n PES packets: the file ends without a fault, or the frame of the next PES
+-- Reception ends after n PES packets: the source ends without a fault, or the frame of the next PES
 -- packet is not too early (`least_frame`) and is after TIME.
 abbrev pub EndsAfterPesPacket : Listening → Transmission → Option UnreadReason → ℕ → Type 0
 EndsAfterPesPacket l frames unread n =
@@ -136,9 +137,9 @@ pub record FailsListening (l : Listening) (known left : Option (List ℕ)) (f : 
 
 -- ---- the run of a receiver
 
--- The effect of reception on the receiver: the receiver uses the packets that arrive, up to TIME or
--- to the fault for which the file is refused. For a byte of even parity it stores `leaves` of the
--- old code.
+-- The effect of reception on the receiver: it uses the packets that arrive, without the rows that
+-- it drops, up to TIME or the fault for which the source is refused. For a byte of even parity it
+-- stores `leaves` of the old code.
 pub record RunsPesPackets
     (leaves : ℕ → ℕ) (l : Listening) (frames : Transmission) (unread : Option UnreadReason)
     (w : PageIdValue) (old new : Display) (result : Result (Unit {0}) ListenFault)

@@ -4,7 +4,7 @@
 //! defines the receivers. This crate checks no rules.
 //!
 //! ```text
-//! listen(&mut receiver, &mut source, &listening)?; // the receiver has decoded the file
+//! listen(&mut receiver, &mut screen, &mut source, &listening)?;
 //! ```
 #![tactic(auto)]
 

@@ -23,7 +23,7 @@ use ttx_pes::{ComparingReader, FilePesPackets, PesPackets};
 /// The reason why a PES file can't be passed to a receiver completely.
 #[derive(Clone, Copy, Debug, PartialEq, Eq)]
 pub enum ListenFault {
-    /// The rest of the file can't be read, or a frame is not after the frame before (or is before
+    /// The next PES packet can't be read, or its frame is not after the frame before (or is before
     /// it, if `within` is not 0). Contains the fault that `check` has for this.
     File(CheckFault),
     /// A packet is listed as lost and not skipped, but must not be lost: it is a page header, or
@@ -162,9 +162,9 @@ pub fn listen_pes_packets<R: Receiver + Drop, P: PesPackets>(
     }
 }
 
-// Returns the index, within its frame, of the first Teletext packet of a PES packet. The PES packet
-// before it ended with `sent` packets sent in its frame; `least` is the earliest frame that may
-// follow it.
+// Returns the index, within its frame, of the first Teletext packet of a PES packet; 0 if `within`
+// is 0. The PES packet before it ended with `sent` packets sent in its frame; `least` is the
+// earliest frame that may follow it.
 fn first_in_frame(within: u64, frame: u32, least: u32, sent: u32) -> u32
     ensures value { result ≡ (if not (within == 0) && (frame == least) then sent else 0) }
     ensures most { result ≤ sent }

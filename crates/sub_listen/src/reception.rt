@@ -23,7 +23,7 @@ use ttx_pes::SentUnits;
 
 /// Returns the index of the first packet of a PES packet that is listed as lost and not skipped,
 /// but must not be lost, since it is a page header or its address can't be decoded. `number` is the
-/// index of the PES packet's first packet within the file.
+/// index of the PES packet's first packet within the source.
 pub fn first_forbidden_loss(
     listening: &Listening,
     number: u64,
@@ -46,8 +46,9 @@ pub fn first_forbidden_loss(
     None
 }
 
-/// Passes the packets of a PES packet to a receiver, with its screen if complete pages are
-/// required. `number` is the index of the first packet within the file.
+/// Passes the packets of a PES packet that arrive to a receiver, with their bit errors and without
+/// the rows that it drops. Updates its screen only if complete pages are required. `number` is the
+/// index of the first packet within the source.
 pub fn hear_units<R: Receiver + Drop>(
     receiver: &mut R,
     screen: &mut Option<Page>,
@@ -69,7 +70,8 @@ pub fn hear_units<R: Receiver + Drop>(
     }
 }
 
-// Passes one packet of a PES packet to a receiver.
+// Passes packet `number` of the source with its bit errors to a receiver if the packet arrives and
+// the receiver does not drop it.
 fn hear_packet<R: Receiver + Drop>(
     receiver: &mut R,
     screen: &mut Option<Page>,
@@ -125,7 +127,7 @@ fn take<R: Receiver + Drop>(
 }
 
 // Returns whether the receiver uses an arriving packet. A receiver that drops rows does not use a
-// row with a byte of even parity.
+// row of its page's magazine with a byte of even parity.
 fn is_packet_used(listening: &Listening, packet: &Packet) -> bool
     ensures { result ≡ is_packet_used listening.now.receiver listening.now.options.page packet.now }
 {
@@ -177,14 +179,14 @@ fn is_forbidden_loss(listening: &Listening, number: u64, packet: &SentPacket<'_>
     is_lost_packet(listening, number) && !may_be_lost(&packet.packet())
 }
 
-// Returns whether packet `number` of the file is lost: it is listed as lost, and not skipped.
+// Returns whether packet `number` of the source is lost: it is listed as lost, and not skipped.
 fn is_lost_packet(listening: &Listening, number: u64) -> bool
     ensures { result ≡ is_lost_packet (reception_of listening.now) number }
 {
     listening.skip <= number && listening.lost.contains(&number)
 }
 
-// Returns whether packet `number` of the file arrives: it is neither skipped nor lost.
+// Returns whether packet `number` of the source arrives: it is neither skipped nor lost.
 fn is_received_packet(listening: &Listening, number: u64) -> bool
     ensures { result ≡ is_received_packet (reception_of listening.now) number }
 {
@@ -201,7 +203,7 @@ fn may_be_lost(packet: &Packet) -> bool
     }
 }
 
-// Returns packet `number` of the file with the requested bit errors.
+// Returns packet `number` of the source with the requested bit errors.
 fn flip_bits(flips: &[Flip], number: u64, packet: &Packet) -> Packet
     ensures { result ≡ with_flips flips.now number packet.now }
 {
@@ -212,7 +214,8 @@ fn flip_bits(flips: &[Flip], number: u64, packet: &Packet) -> Packet
     Packet::new(bytes)
 }
 
-// Flips one bit of packet `number` of the file, if the request lists it for this packet.
+// Flips one bit of packet `number` of the source, if `flip` is for this packet and the packet has
+// this byte and bit.
 fn flip_bit(flip: &Flip, number: u64, bytes: &mut [u8; 42])
     ensures { bytes.new ≡ with_flip flip.now number bytes.old }
 {

@@ -130,8 +130,8 @@ listing_counts_from_found_packet
     first number old mid left old_count mid_count new_count out status found kept same prints =
     grind (arith, nat_tests, keeping_preserves_known_bytes, keeping_preserves_reading)
 
--- If the source failed before the first PES packet was found, only the line about the failure is
--- printed.
+-- If the source failed before the first PES packet was found, the listing is only the line about
+-- the failure.
 pub failed_search_prints_fault : (first : FirstNumber) (number : ℕ) (source : SourceCall)
     (out : SinkCall)
     (status : Status)

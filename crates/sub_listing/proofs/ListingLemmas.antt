@@ -68,7 +68,7 @@ followed-twice first second more =
     ap (λ (t : List ℕ). let l : Listing = record { text = t; status = more.status } in l)
     (sym (append_assoc first second more.text))
 
--- Flushing does not change the printed lines, so they are still the start of the listing.
+-- If flushing keeps the printed lines, they are still the start of any listing that is possible.
 pub prefix-kept :
     (Before Remaining : ListingRelation)
     (reported left old now new : Option (List ℕ))

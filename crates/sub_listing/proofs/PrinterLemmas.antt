@@ -228,7 +228,8 @@ module _ {A D : Type 0} (IsReported : D → A → D → Type 0) (value : D → P
       (λ holds bound. one_by_one mid new xs holds bound rest)
 
   -- If the sink of a printer has not failed before, and the number of its faults is within the
-  -- limit, the printer prints exactly the lines of the events that are reported to it.
+  -- limit, the printer prints exactly the lines of the events that are reported to it, or a prefix
+  -- of these lines if the sink fails.
   pub reported_items_are_printed : (old new : D) (items : List A)
       → (value old).failed ≡ false
       → (value old).fault_count ≤ max_fault_count

@@ -1,5 +1,5 @@
--- One step of copying: a PES packet is read, and then written to a file. Only contracts of private
--- functions use this file.
+-- One step of copying: a PES packet is read, and then written to a file. Only contracts of
+-- functions that the crate does not export use this file.
 use Rattle.std.specs.Prelude.{◌≡◌, ℕ, ◌<◌, List, [], Bool, true, false, length, take, drop}
 use Rattle.std.specs.Prelude.{Option, Some, Result, Ok, Err}
 use Rattle.std.specs.Io.KnownBytes.{Appends, Keeps}

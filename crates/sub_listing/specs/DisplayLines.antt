@@ -16,7 +16,7 @@ row_line row cells =
 abbrev pub row_text : ℕ → List ℕ → List ℕ
 row_text row cells = if list_all (λ c. c == space) cells then [] else row_line row cells
 
--- The lines of the first n rows of a page.
+-- The lines of those of the first n rows of a page that are not blank.
 abbrev pub rows_text : ℕ → Rows → List ℕ
 rows_text zero page = []
 rows_text (suc n) page = rows_text n page ++ row_text (suc n) (row_at page (suc n))
@@ -45,7 +45,8 @@ displayed_text asks_complete d =
 abbrev pub displayed_page : Bool → Display → Option Rows
 displayed_page asks_complete d = if asks_complete then d.screen else Some d.receiver_state.page
 
--- If the receiver has received a header of its page, the printed page has 24 rows of 40 codes.
+-- If the receiver has received a header of its page, the printed page, if any, has 24 rows of 40
+-- codes.
 abbrev pub PrintsCompletePage : Bool → Display → Type 0
 PrintsCompletePage asks_complete d =
     IsTrue d.receiver_state.heard → IfSome (displayed_page asks_complete d) IsPage

@@ -68,8 +68,8 @@ abbrev pub is_extract_file_failure : ExtractFault → Bool
 is_extract_file_failure Write = true
 is_extract_file_failure _ = false
 
--- The bytes consist of `pes` PES packets, including `gaps` gap markers, and were all written to the
--- file.
+-- The bytes consist of `pes` PES packets, at least one, including `gaps` gap markers, and were all
+-- written to the file.
 pub record IsExtractedCompletely (bytes : List ℕ) (old new : Option (List ℕ)) (pes gaps : ℕ) : Type
     0 where
   pub pes_packets : count_pes_packets pes bytes ≡ pes
@@ -78,8 +78,9 @@ pub record IsExtractedCompletely (bytes : List ℕ) (old new : Option (List ℕ)
   pub some : 0 < pes
   pub written : Appends old new bytes
 
--- After `pes` PES packets, the bytes are rejected because of fault `f`. All bytes were written to
--- the file, or only a prefix if the number of PES packets is too great to be counted.
+-- After `pes` PES packets, the bytes are rejected because of fault `f`, and all bytes were written
+-- to the file. If there are 2^64 - 1 bytes or more, `f` may be any fault, and perhaps only a prefix
+-- of the bytes was written.
 pub record IsExtractedWithFault
     (bytes : List ℕ) (old new : Option (List ℕ)) (f : PesFault) (pes : ℕ) : Type 0 where
   pub pes_packets : count_pes_packets pes bytes ≡ pes
@@ -122,8 +123,8 @@ abbrev pub extracted_line : Extracted → List ℕ
 extracted_line e =
     codes "written " ++ decimal e.pes ++ codes " pes " ++ decimal e.gaps ++ codes " gaps\n"
 
--- The line for a fault of `extract`: the source or the file failed, there are no bytes, or the
--- bytes after the last PES packet are not a PES packet.
+-- The line for a fault of `extract`: the source or the file failed, there are no bytes, the bytes
+-- after the last PES packet are not a PES packet, or there are too many PES packets.
 abbrev pub extract_line : ExtractFault → FaultLine
 extract_line (Read n) = counted_from n (check_line (check.Pes 0 pes.Read))
 extract_line Write = line_with kind.Fault (pes_code pes.Write) Nowhere

@@ -16,19 +16,18 @@ use Rattle.sub_rules.specs.declared.fault_place.FaultPlace.TheVariants as place
 abbrev pub line_with : Kind → FaultCodeValue → FaultPlace → FaultLine
 line_with k c p = record { kind = k; code = c; place = p; first = 0 }
 
--- The line of a fault, if PES packets are counted from `first`, the number of the first PES packet
--- that is read.
+-- The line of a fault, if PES packets are counted from the number `first`.
 abbrev pub counted_from : ℕ → FaultLine → FaultLine
 counted_from first t = record t { first = first }
 
--- The first word of a fault's line: `refused`, `fault` or `usage`.
+-- The first word of a fault's line, `refused`, `fault` or `usage`, and a space.
 abbrev pub kind_text : Kind → List ℕ
 kind_text kind.Refused = codes "refused "
 kind_text kind.Fault = codes "fault "
 kind_text kind.Usage = codes "usage "
 
--- The time of a frame of the day, as `HH:MM:SS:FF`. Frames beyond the end of the day, which no
--- event contains, are counted from the start of the day.
+-- The time of a frame of the day, as `HH:MM:SS:FF`. A number beyond the end of the day is counted
+-- from the start of the next day.
 abbrev pub frame_time_text : ℕ → List ℕ
 frame_time_text frame = time_text (frame % day)
 
@@ -36,8 +35,8 @@ frame_time_text frame = time_text (frame % day)
 abbrev pub frame_text : ℕ → List ℕ
 frame_text frame = codes " frame " ++ frame_time_text frame
 
--- The text for a fault's place. The argument `first` is the number of the first PES packet that is
--- read, in its file.
+-- The text for a fault's place; no text for a fault without a place. PES packets are counted from
+-- the number `first`.
 abbrev pub place_text : ℕ → FaultPlace → List ℕ
 place_text first place.Nowhere = []
 place_text first (place.Pes pes) = codes " pes " ++ decimal (number_in_file first pes)

@@ -1,5 +1,6 @@
--- The line of each fault (not defined by a standard). The kind is `fault` for a failed device and
--- for a lack of memory, `usage` for invalid arguments, and `refused` for any other fault.
+-- The line of each fault (not defined by a standard). The kind is `fault` for a failed device, a
+-- file that can't be opened, and a lack of memory, `usage` for invalid arguments, and `refused` for
+-- any other fault.
 use Rattle.std.specs.Prelude.{ℕ, Bool, codes, if◌then◌else◌}
 use Rattle.sub_io.specs.FaultCode.{FaultCodeValue, fault_code}
 use Rattle.stl_file.specs.Fault.{is_file_read_failure, code_of_normal_fault, code_of_stl_fault}
@@ -35,12 +36,13 @@ kind_of_failure fails = if fails then kind.Fault else kind.Refused
 abbrev pub check_line : CheckFault → FaultLine
 check_line f = line_with (kind_of_failure (is_failure f)) (code_of_check_fault f) (place_of_fault f)
 
--- The line of a fault at a TTI block that a command found while it loaded a subtitle file. For a
--- fault in a text, the line also contains the position in the text.
+-- The line of a fault at a block that a command found while it loaded a subtitle file; block 0 is
+-- the GSI block. For a fault in a text, the line also contains the position in the text.
 abbrev pub load_line : LoadFaultKind → ℕ → FaultLine
 load_line f block = check_line (check.Subtitles (record { kind = f; block = block }))
 
--- The line of a fault at a TTI block that `show` or `normal` found in a subtitle file.
+-- The line of a fault at a block that `show` or `normal` found in a subtitle file; block 0 is the
+-- GSI block.
 abbrev pub stl_line : StlFault → ℕ → FaultLine
 stl_line f block = line_with (kind_of_failure (is_file_read_failure f)) (code_of_stl_fault f)
     (place.Block block)
@@ -72,7 +74,7 @@ usage_line f = line_with (usage_kind f) (code_of_usage_fault f) place.Nowhere
 -- ---- faults of a file that is written
 
 -- The line of a fault of a command that writes a file. The kind is `fault` for a failed device and
--- for a lack of memory.
+-- for a lack of memory, and otherwise `refused`.
 abbrev pub write_line : WriteFault → FaultLine
 write_line (write.Input (input.Read block)) = stl_line stl.Read block
 write_line (write.Input input.Memory) = usage_line usage.Memory

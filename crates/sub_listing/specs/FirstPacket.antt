@@ -6,7 +6,7 @@ use Rattle.sub_listing.specs.Listing.{ListingRelation, PrintsListing}
 use Rattle.sub_listing.specs.declared.status.Status.{Status}
 
 -- The number of a source's first PES packet in its file, before and after a call, if it is known;
--- and the number of PES packets that were skipped in the call.
+-- and the number of PES packets that were skipped before the first packet to read.
 pub record FirstNumber : Type 0 where
   pub known : Option ℕ
   pub left : Option ℕ

@@ -92,8 +92,8 @@ PrintsOrFails out listing status =
     × (status ≡ Fault))
 
 -- The listing shows the outcome of reading a source. If the bytes of the source are known and the
--- source did not fail, they determine the outcome. Even if they are unknown, the bytes that were
--- consumed determine it, unless the sink failed.
+-- source did not fail, they determine the outcome. If the listing has an end, `Takes` relates the
+-- outcome to the bytes that were consumed.
 pub record Lists
     {Outcome : Type 0} (listing_of : Outcome → Listing) (given : List ℕ → Outcome)
     (Takes : Bool → Option (List ℕ) → Outcome → Option (List ℕ) → Type 0)

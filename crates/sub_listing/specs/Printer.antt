@@ -1,4 +1,4 @@
--- A device that prints a line for each event. Only contracts of private functions use this file.
+-- A device that prints a line for each event, and counts the faults among the events.
 use Rattle.std.specs.Prelude.{◌≡◌, ◌≢◌, ◌||◌, not, ℕ, ◌+◌, min, nat_lt, Bool, true, false, List}
 use Rattle.std.specs.Prelude.{Option}
 use Rattle.std.specs.Io.KnownBytes.{Appends, Keeps}

@@ -33,7 +33,7 @@ ReadsSubtitles failed from known (gives s block more) left =
     × ReadsSubtitles failed block following more left
 
 -- No GSI block was read: the source failed within the block, or no subtitle file begins with these
--- bytes.
+-- bytes; for a file that ends too early, no subtitle file consists of exactly these bytes.
 pub record ReadsWithoutGsi (failed : Bool) (known : Option (List ℕ)) (outcome : Outcome)
     (left : Option (List ℕ)) : Type 0 where
   pub fault : StlFault

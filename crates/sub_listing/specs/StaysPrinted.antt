@@ -17,7 +17,8 @@ sink_had_not_failed b c false is on holds = is
 sink_had_not_failed b c true is on holds =
     absurd (true≢false (sym (on.risen (λ same. true≢false (sym is ∙ sym same ∙ holds))).0 ∙ holds))
 
--- If the sink failed while writing or flushing a line, it received a prefix of the line.
+-- If the sink failed while writing or flushing a line, it received a prefix of the line, and failed
+-- once.
 cut_line_is_prefix : (a b c : PrinterValue) (e : Event) (was : Bool) → b.failed ≡ was
     → PrintsEvent a e b
     → StaysPrinted b c
@@ -34,7 +35,8 @@ cut_line_is_prefix a b c e false is one on fails = (
       ∙ ap (λ (n : ℕ). n + 1) (one.keeps_failure_count is),
 )
 
--- After flushing, the line of an event is still printed.
+-- If `PrintsEvent` is true of the report of an event, it is still true after the printer was
+-- flushed.
 pub printed_line_remains : (a b c : PrinterValue) (e : Event)
     → PrintsEvent a e b
     → StaysPrinted b c

@@ -104,7 +104,8 @@ Schedules drawing o serial known left old new (Err (write.Load f)) =
     × Keeps old new
 Schedules drawing o serial known left old new answer = ⊥
 
--- The line about a lack of memory names the last block of one of the file's subtitles.
+-- The line about a lack of memory was printed. It names a block at which a subtitle of the file
+-- ends, and no fault comes up to that block.
 abbrev pub PrintsMemory :
     Drawing → Option (List ℕ) → Option (List ℕ) → Option (List ℕ) → Type 0
 PrintsMemory drawing known old new =

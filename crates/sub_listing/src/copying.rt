@@ -26,7 +26,8 @@ pub enum CopyFault {
     Write,
 }
 
-/// The bytes of the PES packet that was read last. The model is the list of the bytes.
+/// The bytes of the PES packet that was read last, none at first. The model is the list of the
+/// bytes.
 #[derive(Drop)]
 pub struct LastPesPacket {
     room: [u8; PES_PACKET_CAPACITY],
@@ -143,8 +144,8 @@ pub fn copy_next<P: PesPackets, F: Flush>(
     }
 }
 
-/// Copies all remaining bytes, which are not a PES packet, and flushes the file after each read.
-/// Reads at most 2^64 - 1 times.
+/// Copies the remaining bytes, which do not begin with a PES packet, and flushes the file after
+/// each read that returns bytes. Reads at most 2^64 - 1 times.
 ///
 /// # Errors
 ///

@@ -29,7 +29,7 @@ pub struct Extracted {
     pub gaps: u64,
 }
 
-/// The reason why `extract` wrote no file of PES packets, or only a part of one.
+/// The reason why `extract` did not store a complete file of PES packets.
 #[derive(Clone, Copy)]
 pub enum ExtractFault {
     /// The source of the PES packets failed.
@@ -39,11 +39,11 @@ pub enum ExtractFault {
     },
     /// The output file failed.
     Write,
-    /// The recording contains no PES packet.
+    /// The source of the PES packets has no bytes.
     Empty,
-    /// The bytes after the last PES packet are not a PES packet.
+    /// The bytes after the last PES packet are not a PES packet, or there are too many PES packets.
     Refused {
-        /// The reason why these bytes are not a PES packet.
+        /// The reason why these bytes are not a PES packet, or `TooMany`.
         fault: PesFault,
         /// The number of PES packets written before these bytes, gap markers included.
         pes: u64,
@@ -79,8 +79,8 @@ pub fn extract_packets<P: PesPackets, F: Close, K: Sink>(
         < P.failure_count pes_packets.new + F.failure_count file.new + K.failure_count out.new }
     ensures buffered { result ≡ Status.Done → F.buffered file.new ≡ 0 }
     ensures stored { result ≡ Status.Done → F.is_stored file.new ≡ true }
-    // The file is flushed before each read from a device, which may fail. So if a read fails, all
-    // PES packets before it have reached the file.
+    // The file is flushed after each PES packet. So if nothing was buffered at the start and a read
+    // from a device fails, all PES packets before it have reached the file.
     ensures followed { F.buffered file.old ≡ 0
         → P.failure_count pes_packets.old < P.failure_count pes_packets.new
         → F.buffered file.new ≡ 0 }
@@ -129,7 +129,8 @@ fn write_pes_packets<P: PesPackets, F: Close>(
     }
 }
 
-// Copies all PES packets, and then any bytes that are not a PES packet.
+// Copies all PES packets, and then any bytes that are not a PES packet. Stops if a device fails, or
+// after 2^64 - 1 PES packets.
 fn copy_pes_packets<P: PesPackets, F: Flush>(
     pes_packets: &mut P,
     file: &mut F,

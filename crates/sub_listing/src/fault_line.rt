@@ -26,13 +26,13 @@ pub struct FaultLine {
     pub code: FaultCode,
     /// The place of the fault.
     pub place: FaultPlace,
-    /// The number, in its file, of the first PES packet that is read, counted from 0.
+    /// The number from which the PES packets of `place` are counted, such as the number, in its
+    /// file, of the first PES packet that is read.
     pub first: u64,
 }
 
 impl FaultLine {
-    /// Returns the line of the fault with PES packets counted from `first`, the number of the first
-    /// PES packet that is read.
+    /// Returns the line of the fault with PES packets counted from the number `first`.
     pub fn counted_from(self, first: u64) -> FaultLine
         ensures { result ≡ counted_from first self }
     {

@@ -1,8 +1,8 @@
 //! Makes the lines that the program prints.
 //!
-//! A line is made in memory and then written to a device at once. Each function appends to an
-//! `ArrayVec`. The constants below are the maximum sizes of the parts of a line; the proofs show
-//! that no part is longer.
+//! A line is made in memory and then written to a device at once. The functions `push_..` append to
+//! an `ArrayVec`. The constants below are upper bounds of the sizes of parts of lines, and of the
+//! line of a fault or of an event; the proofs show that none is longer.
 ghost use Rattle.std.specs.Prelude.{◌≡◌, ◌+◌, ◌%◌, ◌≤◌, ◌<◌, ◌++◌, length, decimal};
 ghost use Rattle.arrayvec.specs.ArrayVec.{array_vec_len};
 ghost use Rattle.hex.specs.Hex.{encode_lower};
@@ -30,17 +30,17 @@ pub const NUMBER_CAPACITY: usize = 20;
 /// The maximum number of bytes of a subtitle's text in hexadecimal.
 pub const TEXT_DIGITS_CAPACITY: usize = 2016;
 
-/// The maximum number of bytes of a fault's number and name: the number, a space, and 16 letters.
+/// The room in bytes for a fault's number and name: the number, a space, and at most 16 letters.
 const CODE_CAPACITY: usize = NUMBER_CAPACITY + 17;
 
-/// The maximum number of bytes of a fault's place.
+/// The room in bytes for a fault's place.
 const PLACE_CAPACITY: usize = 80;
 
-/// The maximum number of bytes of a line. A fault line with a cell as its place has at most 117
-/// bytes, even if each of its numbers had `NUMBER_CAPACITY` digits.
+/// The room in bytes for the line of a fault or of an event. A fault line with a cell as its place
+/// has at most 117 bytes, even if each of its numbers had `NUMBER_CAPACITY` digits.
 pub const LINE_CAPACITY: usize = 128;
 
-/// A line to print.
+/// A short line to print, such as the line of a fault.
 pub type Line = ArrayVec<u8, LINE_CAPACITY>;
 
 /// Appends a text to a line, which must have room for it.
@@ -73,8 +73,9 @@ pub fn push_number<const N: usize>(line: &mut ArrayVec<u8, N>, word: &[u8], numb
     push_decimal(line, number);
 }
 
-/// Returns the number of a PES packet in its file, given the number `first` of the first PES packet
-/// that is read. A number above 2^64 - 1 is returned as 2^64 - 1.
+/// Returns the number of a PES packet in its file, given its index among the PES packets that are
+/// read and the number `first` of the first of these. A number above 2^64 - 1 is returned as
+/// 2^64 - 1.
 #[tactic(auto, unfolding(crate::specs::Lines::number_in_file))]
 pub fn number_in_file(first: u64, index: u32) -> u64
     ensures { result ≡ number_in_file first index }
@@ -225,8 +226,7 @@ fn push_code<const N: usize>(line: &mut ArrayVec<u8, N>, code: &FaultCode)
     push_text(line, code.name().as_bytes());
 }
 
-// Appends the place of a fault to a line. The first PES packet that is read has the number `first`
-// in its file.
+// Appends the place of a fault to a line. PES packets are counted from the number `first`.
 fn push_place<const N: usize>(line: &mut ArrayVec<u8, N>, place: FaultPlace, first: u64)
     requires { array_vec_len line.old + PLACE_CAPACITY ≤ N }
     ensures items { line.new.items ≡ line.old.items ++ place_text first place }
@@ -263,7 +263,8 @@ fn push_frame<const N: usize>(line: &mut ArrayVec<u8, N>, frame: u32)
     push_frame_time(line, frame);
 }
 
-// Appends the time of a frame of the day to a line.
+// Appends the time of a frame of the day to a line. A number beyond the end of the day is counted
+// from the start of the next day.
 fn push_frame_time<const N: usize>(line: &mut ArrayVec<u8, N>, frame: u32)
     requires { array_vec_len line.old + 11 ≤ N }
     ensures items { line.new.items ≡ line.old.items ++ time_text (frame % day) }

@@ -20,7 +20,7 @@ use crate::status::Status;
 use arrayvec::ArrayVec;
 use sub_io::Flush;
 
-/// The maximum number of bytes of the lines of one PES packet, or of one subtitle.
+/// The room in bytes for the lines of one PES packet, or of one subtitle.
 pub const LINES_CAPACITY: usize = 7168;
 
 /// The lines of one PES packet or subtitle.
@@ -31,7 +31,7 @@ pub trait Lister<I> {
     /// The lister is not at the end of the input, and has found no fault.
     ghost ready: { Self → Type 0 };
 
-    /// The maximum number of PES packets or subtitles that the lister can still list.
+    /// An upper bound of the number of PES packets or subtitles that the lister can still list.
     ghost items_left: { Self → ℕ };
 
     /// The listings that are possible from the lister's current state.
@@ -53,8 +53,8 @@ pub trait Lister<I> {
     // The chain of references from the input to its device, the outermost first.
     ghost device: { I → List GName };
 
-    /// Makes the lines of the next PES packet or subtitle. Returns `None` if another one may
-    /// follow, otherwise the status with which the listing ends.
+    /// Makes the lines of the next PES packet or subtitle, no line for a GSI block, or the last
+    /// line. Returns `None` if more may follow, otherwise the status with which the listing ends.
     ///
     /// The lister may first flush the printer, so that earlier lines are visible before a read
     /// blocks. If flushing fails, the sink has failed, and the new lines are not used.

@@ -37,7 +37,7 @@ pub enum InputFault {
 }
 
 /// Writes the normal form of a subtitle file (not defined by a standard), and prints the number of
-/// its subtitles, or the reason why there is no normal form.
+/// its subtitles, or the reason why the normal form was not written.
 ///
 /// The input is read to its end, or up to the limit after which bytes can't change the result,
 /// before anything is written. The line with the number is printed after the system has stored the
@@ -89,7 +89,8 @@ impl Work for NormalWork {
     }
 }
 
-// Writes the normal form of a subtitle file, given its first bytes, and stores the output file.
+// Writes the normal form of a subtitle file, given its first bytes, and stores the output file if
+// there is no fault.
 fn write_normal_form<F: Close>(bytes: &[u8], file: &mut F) -> Result<u32, NormalFault>
     requires { CanFail (F.failure_count file.old) }
     ensures answer { (s : List ℕ) → bytes.now ≡ take read_limit s

@@ -17,19 +17,19 @@ use bitflags::Flags;
 use sub_io::{FaultCode, Sink};
 use ttx_packet::{Control, Header, Packet, is_odd};
 
-// The maximum number of bytes of the line with a packet's address.
+// The room in bytes for the line with a packet's address.
 const ADDRESS_CAPACITY: usize = 64;
 
-// The maximum number of bytes of the names of all control bits.
+// The room in bytes for the names of all control bits.
 const CONTROL_CAPACITY: usize = 40;
 
-// The maximum number of bytes of the line for a page header.
+// The room in bytes for the line of a page header.
 const HEADER_CAPACITY: usize = 80;
 
 // The maximum number of bytes of the line with 40 text bytes.
 const TEXT_CAPACITY: usize = 48;
 
-// The maximum number of bytes of the output for one packet.
+// The room in bytes for the output for one packet.
 const PACKET_CAPACITY: usize = 256;
 
 const _: () = prove!(ADDRESS_CAPACITY + HEADER_CAPACITY + TEXT_CAPACITY <= PACKET_CAPACITY);
@@ -60,8 +60,8 @@ impl PacketFault {
     }
 }
 
-/// Prints the address of a Teletext packet, its page header and its text (EN 300 706, packets X/0
-/// to X/31).
+/// Prints the address of a Teletext packet, the page header of a packet X/0, and the text of a
+/// packet X/0 to X/24 (EN 300 706).
 ///
 /// A packet whose address or header can't be decoded is rejected.
 pub fn show_packet<K: Sink>(bytes: &[u8; 42], out: &mut K) -> Status

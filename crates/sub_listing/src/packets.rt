@@ -28,7 +28,7 @@ use ttx_pes::{
 };
 
 /// Lists the PES packets of a file (EN 300 472), each with its number in the file, and then the
-/// number of listed packets, or the reason why the file is rejected.
+/// number of listed packets, or the line of the fault that ends the listing.
 ///
 /// If the file is rejected, the lines printed before remain. Returns `Fault` if a device failed.
 pub fn list_packets<P: NumberedPesPackets, K: Flush>(pes_packets: &mut P, out: &mut K) -> Status
@@ -45,8 +45,9 @@ pub fn list_packets<P: NumberedPesPackets, K: Flush>(pes_packets: &mut P, out: &
     ensures fault { result ≡ Status.Fault
         → P.failure_count pes_packets.old + K.failure_count out.old
         < P.failure_count pes_packets.new + K.failure_count out.new }
-    // All lines are flushed before each read from a device, which may fail. So if a read fails, at
-    // most the line about the failure is still in the buffer.
+    // All lines are flushed before each read from a device, which may fail. So if nothing was
+    // buffered at the start and a read fails, at most the line about the failure is still in the
+    // buffer.
     ensures followed { K.buffered out.old ≡ 0
         → P.failure_count pes_packets.old < P.failure_count pes_packets.new
         → BuffersLastLineOnly K.contents K.buffered K.is_push out.new }
@@ -79,7 +80,7 @@ impl PacketLister {
         }
     }
 
-    // Makes the lines of the PES packet that was read last.
+    // Makes the lines of the PES packet that was read last, and counts it.
     fn list_read_packet(&mut self, text: &mut Text) -> Option<Status>
         requires few { self.old.index < max_pes_packets }
         requires empty { text.old.items ≡ [] }
@@ -158,10 +159,10 @@ fn flush_lines<P: PesPackets, K: Flush>(
     flush_first(pes_packets, printer)
 }
 
-// The maximum number of bytes of the line of a PES packet.
+// The room in bytes for the line of a PES packet.
 const PES_LINE_CAPACITY: usize = 64;
 
-// The maximum number of bytes of the line of a Teletext unit.
+// The room in bytes for the line of a Teletext unit.
 const UNIT_LINE_CAPACITY: usize = 192;
 
 // The lines of a PES packet and of all its Teletext units fit in `LINES_CAPACITY` bytes.

@@ -25,7 +25,7 @@ pub struct Printer<'a, K> {
     pub fault_count: u64,
     /// Whether the sink failed.
     pub failed: bool,
-    /// Whether lines were written that are possibly still in the sink's buffer.
+    /// Whether the sink's buffer may contain lines of the printer.
     pub pending: bool,
     /// The number, in its file, of the first PES packet that is read, counted from 0.
     pub first: u64,
@@ -93,7 +93,8 @@ impl<'a, K: Sink> Printer<'a, K> {
         }
     }
 
-    // Writes the line of an event, and counts the event if it is a fault.
+    // Writes the line of an event, and then counts the event if it is a fault. If the sink fails,
+    // the event is not counted.
     fn print(&mut self, event: Event) -> Result<(), Stopped>
         requires continues { self.old.failed ≡ false }
         requires count { CanFail (K.failure_count self.old.out.now) }
@@ -190,7 +191,7 @@ impl<K: Flush> Live for Printer<'_, K> {
         t.first)
         × (s.pending ≡ true → t.pending ≡ false → K.buffered t.out.now ≡ 0) };
 
-    /// Returns whether lines were written since the sink was last flushed.
+    /// Returns whether the sink's buffer may contain lines of the printer.
     fn has_pending(&self) -> bool {
         self.pending
     }

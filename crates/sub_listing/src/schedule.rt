@@ -15,9 +15,9 @@ use sub_io::{Close, Sink, Source};
 use sub_plan::{Options, PlanFault, schedule};
 
 /// Writes the schedule of a subtitle file, one PES packet for each page transmission (EN 300 472),
-/// and prints the number of page transmissions, or the reason why there is no schedule.
+/// and prints the number of page transmissions, or the reason why the schedule was not written.
 ///
-/// The input is read to its end before anything is written, and the line with the number is printed
+/// The programme is loaded before anything is written, and the line with the number is printed
 /// after the system has stored the file. Returns `Fault` if a device failed or memory ran out.
 pub fn write_schedule<S: Source, F: Close, K: Sink>(
     alloc: Global,
@@ -96,7 +96,7 @@ impl<'a> Work for ScheduleWork<'a> {
     }
 }
 
-// Writes the schedule of a programme, and stores the file.
+// Writes the schedule of a programme, and stores the file if there is no fault.
 fn write_planned_schedule<F: Close>(
     programme: &Programme,
     options: &Options,

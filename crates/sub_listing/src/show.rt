@@ -13,8 +13,8 @@ use crate::status::Status;
 use stl_file::{StlReader, Subtitle, five_digits_of};
 use sub_io::{Flush, Source};
 
-/// Lists the subtitles of a file (EBU Tech 3264), and then their number, or the reason why the file
-/// is rejected.
+/// Lists the subtitles of a file (EBU Tech 3264), and then their number, or the line of the fault
+/// that ends the listing.
 ///
 /// If the file is rejected, the lines printed before remain. Returns `Fault` if a device failed.
 pub fn list_subtitles<S: Source, K: Flush>(source: &mut S, out: &mut K) -> Status

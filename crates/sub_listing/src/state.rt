@@ -26,8 +26,7 @@ const ROWS_CAPACITY: usize = 1200;
 
 const _: () = prove!(24 * ROW_CAPACITY <= ROWS_CAPACITY);
 
-// The maximum number of bytes of the whole output: the lines of 24 rows, and the two lines before
-// them.
+// The room in bytes for the whole output: the lines of 24 rows, and the two lines before them.
 const STATE_CAPACITY: usize = 1456;
 
 const _: () = prove!(2 * LINE_CAPACITY + ROWS_CAPACITY <= STATE_CAPACITY);
@@ -66,7 +65,7 @@ pub fn print_state<R: Receiver, K: Sink>(
     print_done(text.as_slice(), out)
 }
 
-// Appends the lines of a receiver's page, or of its screen.
+// Appends the lines of a receiver's page or, if complete pages are required, of its screen.
 fn push_displayed<R: Receiver>(
     text: &mut Text,
     receiver: &R,
@@ -86,7 +85,7 @@ fn push_displayed<R: Receiver>(
     }
 }
 
-// Appends a line for each row of a page that is not blank.
+// Appends a line for each row of a page that is not blank, or the line `blank` if all rows are.
 fn push_page(text: &mut Text, page: &Page)
     requires { array_vec_len text.old + ROWS_CAPACITY ≤ STATE_CAPACITY }
     ensures items { text.new.items ≡ text.old.items ++ page_text page.now }

@@ -16,16 +16,16 @@ use stl_rows::LoadFault;
 use sub_io::{Close, Sink, Source};
 use sub_plan::PlanFault;
 
-/// The reason why a command writes no file, or only a part of one.
+/// The reason why a command did not store a complete file.
 #[derive(Clone, Copy)]
 pub enum WriteFault {
     /// The input of `normal` was not read completely.
     Input(InputFault),
     /// The input of `schedule` can't be loaded as a programme.
     Load(LoadFault),
-    /// The normal form of the subtitle file was not written.
+    /// The normal form of the subtitle file was not written, not completely, or not stored.
     Normal(NormalFault),
-    /// The schedule of the subtitle file was not written.
+    /// The schedule of the subtitle file was not written, not completely, or not stored.
     Plan(PlanFault),
 }
 

@@ -110,8 +110,8 @@ found_code_means_a_packet_matches test [] code e = grind (arith, nat_tests)
 found_code_means_a_packet_matches test (p ∷ ps) code e =
     let rest = found_code_means_a_packet_matches test ps code in grind (arith, nat_tests)
 
--- If each header must have C4 (erase page) set, each code other than a space came in a row since
--- the last header.
+-- If each header of the page must have C4 (erase page) set, the row of each shown code other than a
+-- space was received since the last header of the page.
 pub row_of_code :
     (keeps : Bool) (page : PageIdValue) (heard : List (List ℕ)) (row column : ℕ)
     → keeps ≡ false

@@ -103,7 +103,7 @@ module _
           }
 
     -- The header has the C11 of the first page header, is no header of the page, and does not end
-    -- the page.
+    -- the page if that is open.
     module _ (none : a.packet_number ≡ 0) (coded : HasExactHeader p) (h : Header)
         (says : decoded_header p ≡ Some h)
         (passes : can_skip_header a.magazine h s ≡ true) where

@@ -18,8 +18,8 @@ use Rattle.sub_rules.specs.PacketRules.{header_count}
 use Rattle.sub_rules.specs.declared.packet_rule.Watched.{Watched}
 use Rattle.sub_rules.proofs.PacketLists.{header_count-push}
 
--- Packets `start` to n - 1 of a frame have no events, and the listener's state agrees with the
--- first n packets of the frame, received after `heard`.
+-- Packets `start` to n - 1 of `ps` have no events, and break no rule if the packets before them
+-- break none. The listener's state agrees with the first n packets of `ps`, received after `heard`.
 pub record SkippedRunHolds
     (w : Watched) (frame from : ℕ) (heard ps : List (List ℕ)) (s : Listener) (start n : ℕ) : Type 0
   where

@@ -50,7 +50,8 @@ module _ (page : ℕ → Rows) (first f : ℕ) where
   was_due-same n (suc m) row column code low same =
       grind (arith, nat_tests, was_due-one, (was_due-same n m row column code))
 
-  -- If the codes expected at frame f are removed, no code expected at f is left.
+  -- If each code expected at frame f is replaced by a space, no code but a space is left that was
+  -- expected at f.
   pub removing_first_page_leaves_others : (shown left : Rows)
       → ((row column : ℕ) → IsCell row column
       → cell left row column ≡ space_if_due (cell (page f) row column) (cell shown row column))
@@ -59,8 +60,9 @@ module _ (page : ℕ → Rows) (first f : ℕ) where
   removing_first_page_leaves_others shown left cells row column is =
       let none : f - f ≡ 0 = omega arith in rw none (cells row column is)
 
-  -- If the codes expected at an earlier frame are removed as well, no code is left that was
-  -- expected from that frame on, because the expected page did not change in between.
+  -- If the codes expected at an earlier frame are replaced by spaces as well, no code but a space
+  -- is left that was expected from that frame to frame f, because the expected page is the same at
+  -- all frames after that frame up to frame `at`.
   pub removing_earlier_page_leaves_others : (at before : ℕ) (shown left new : Rows)
       → before < at
       → at ≤ f

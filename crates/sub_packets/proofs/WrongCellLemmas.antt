@@ -236,7 +236,8 @@ module _ (s : Listener) where
   other row column =
       not (cell s.comparison.page row column == cell s.comparison.due row column)
 
-  -- The expected page has text in the cell, but its row was not sent since the last header.
+  -- The expected page has a code other than a space in the cell, but its row was not received since
+  -- the last header of the page.
   abbrev lacks_row : ℕ → ℕ → Bool
   lacks_row row column =
       not (cell s.comparison.due row column == space || get_or s.again (row - 1) false)

@@ -56,7 +56,7 @@ pub record Knows (heard : List (List ℕ)) (s : Listener) : Type 0 where
   pub again_is : (row : ℕ) → 1 ≤ row → row ≤ 24
       → slice_index_or s.again (row - 1) false ≡ has_row s.watched.page heard row
 
--- The first n packets of a frame break no rule. The packets `before` were sent earlier.
+-- The first n of `packets` break no rule when they are sent after the packets `before`.
 abbrev pub BreakNoRule : Watched → List (List ℕ) → List (List ℕ) → ℕ → Type 0
 BreakNoRule w before packets n =
     (k : ℕ) → k < n → broken_rules w (before ++ take k packets) (slice_index_or packets k []) ≡ []
@@ -71,7 +71,8 @@ pub record LastPacketsAreClean (w : Watched) (heard last : List (List ℕ)) (hea
     pub clean : BreakNoRule w before last (length last)
     pub count : header_count w.page last ≡ headers
 
--- The frame has a header that erases the page: among its first `from` packets, or among `packets`.
+-- The frame has a header that erases the page: among its first `from` packets (`before`), or among
+-- `packets`.
 abbrev pub frame_has_text_beginning : Watched → ℕ → Bool → List (List ℕ) → Bool
 frame_has_text_beginning w from before packets =
     (nat_lt 0 from && before) || has_text_beginning w.keeps (kind w.page) packets

@@ -98,7 +98,7 @@ impl Listener {
         is_same_subcode(self.subcode, header) && !self.is_incomplete()
     }
 
-    // Returns whether the page is open and the row has a byte with even parity.
+    // Returns whether the page is open and the row has a text byte with even parity.
     fn breaks_parity(&self, packet: &Packet) -> bool
         ensures { result ≡ (self.now.is_open && is_some (first_even_parity_column packet.now)) }
     {

@@ -18,13 +18,13 @@ use ttx_page::{Page, count_differing_columns};
 
 /// The page that the packets show, the expected page, and the number of wrong cells.
 ///
-/// After the expected page has changed, the number is unknown until the next header that erases the
-/// page. From then on, each row updates it.
+/// After the expected page of a frame is drawn, the number is unknown until the next header that
+/// erases the page. From then on, each stored row updates it.
 #[derive(Drop)]
 pub struct Comparison {
     page: Page,
     due: Page,
-    // The number of wrong cells, 0 to 960. `None` if the expected page has changed since the last
+    // The number of wrong cells, 0 to 960. `None` if an expected page was drawn since the last
     // header that erased the page; usually such a header comes before the number is needed.
     wrong: Option<u16>,
     // The number of cells in which a blank page differs from the expected page, which is the value
@@ -129,8 +129,8 @@ impl Comparison {
         &self.due
     }
 
-    /// Returns the row (1 to 24) and column (0 to 39) of the first wrong cell. No cell is compared
-    /// if the number of wrong cells is known to be 0.
+    /// Returns the row (1 to 24) and column (0 to 39) of the first wrong cell; `None` if no cell is
+    /// wrong. No cell is compared if the number of wrong cells is known to be 0.
     #[tactic(auto, using(ttx_page::proofs::DifferingLemmas::zero_difference_equal_cells))]
     pub(crate) fn first_wrong(&self) -> Option<(u8, u8)>
         ensures { MatchOption result

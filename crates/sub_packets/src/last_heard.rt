@@ -26,16 +26,16 @@ pub(crate) fn has_started_before(from: u32, begun: bool) -> bool
     from > 0 && begun
 }
 
-/// Returns whether one of the packets received so far erases the page. `begins` says whether the
-/// next packet does.
+/// Returns whether a packet of the frame, up to this packet, erases the page: an earlier packet
+/// (`begun`) or this packet (`begins`).
 pub(crate) fn has_started(begun: bool, begins: bool) -> bool
     ensures { result ≡ (begun || begins) }
 {
     begun || begins
 }
 
-/// Returns whether no packet so far broke a rule. `breaks_none` says whether the next packet breaks
-/// none.
+/// Returns whether no packet up to this packet breaks a rule: no earlier packet does (`is_clean`),
+/// nor does this packet (`breaks_none`).
 pub(crate) fn stays_clean(is_clean: bool, breaks_none: bool) -> bool
     ensures { result ≡ (is_clean && breaks_none) }
 {
@@ -43,7 +43,7 @@ pub(crate) fn stays_clean(is_clean: bool, breaks_none: bool) -> bool
 }
 
 /// Returns the number of headers of the page, if the first packet erases the page and no packet
-/// breaks a rule.
+/// breaks a rule; otherwise `None`.
 pub(crate) fn clean_header_count(first: bool, is_clean: bool, headers: u8) -> Option<u8>
     ensures { result ≡ (if first && is_clean then Some headers else None) }
 {

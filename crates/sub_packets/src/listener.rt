@@ -161,7 +161,8 @@ impl Listener {
         self.hear_each_packet(units, frame, from, taker)
     }
 
-    // Receives the packets of a PES packet, and reports the rules that they break.
+    // Receives the packets of a PES packet, reports the rules that they break, and returns the
+    // number of headers of the page.
     #[inline(never)]
     fn hear_each_packet<A: Taker>(
         &mut self,
@@ -388,7 +389,8 @@ impl Listener {
         self.is_open && !self.sent[row as usize - 1]
     }
 
-    // Erases the page for a header with this sub-code: no row has been received.
+    // Erases and opens the page for a header with this sub-code. Afterwards no row counts as
+    // received.
     fn start(&mut self, subcode: u16)
         ensures { self.new ≡ record self.old {
           is_open = true;
@@ -405,7 +407,8 @@ impl Listener {
         self.comparison.clear();
     }
 
-    // Notes a header that does not erase the page: the text stays, and each row must be sent again.
+    // Notes a header that does not erase the page: the text stays, and each row that is not blank
+    // must be sent again.
     fn note_repeated_header(&mut self, subcode: u16)
         ensures { self.new ≡ record self.old {
           is_open = true;

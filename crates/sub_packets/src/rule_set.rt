@@ -54,7 +54,8 @@ impl RuleSet {
         RuleSet(2 * (has_even_byte as u8) + 4 * (has_changed as u8))
     }
 
-    /// Returns which of the rules from `Control` on a packet X/25 to X/28 breaks.
+    /// Returns the set of the rules from `Control` on with only `Enhancement`, if `is_broken`,
+    /// otherwise the empty set.
     #[inline(always)]
     pub fn of_enhancement(is_broken: bool) -> RuleSet
         ensures { result.0 ≡ 8 * (if is_broken then 1 else 0) }

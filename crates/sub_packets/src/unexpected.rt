@@ -13,8 +13,8 @@ impl Listener {
     ghost use Rattle.sub_packets.specs.StoredPage.{first_unexpected_kept_cell};
 
     /// Returns the row (1 to 24) and column (0 to 39) of the first cell whose code is neither a
-    /// space nor expected in that cell at `frame` or at one of the `within` frames before `frame`.
-    /// Frames before `first` do not count.
+    /// space nor expected in that cell at `frame` or at one of the `within` frames before `frame`;
+    /// `None` if there is none. Frames before `first` do not count.
     ///
     /// This search is needed only if the page is wrong at the end of a frame but not yet overdue.
     /// So nothing is stored for it: the expected pages are drawn again.
@@ -61,7 +61,8 @@ fn page_without_due_codes(
     left
 }
 
-// Returns the later of `first` and the frame that is `within` frames before `frame`.
+// Returns the later of `first` and the frame that is `within` frames before `frame`, or `first` if
+// there is no such frame.
 fn earliest(first: u32, frame: u32, within: u32) -> u32
     ensures first { first ≤ result }
     ensures last { frame ≤ result + within }

@@ -1,5 +1,5 @@
-//! Finds the first wrong cell of the page. If repeats may have C4 (erase page) clear, each row with
-//! text must be sent again after each header.
+//! Finds the first wrong cell of the page. If repeats may have C4 (erase page) clear, each row of
+//! the expected page that is not blank must be sent again after each header of the page.
 ghost use Rattle.std.specs.Prelude.{◌≡◌, ℕ, ◌-◌, ◌==◌, IsTrue, None, false};
 ghost use Rattle.std.specs.Prelude.{if◌then◌else◌, slice_index_or};
 ghost use Rattle.ttx_page.specs.Page.{IsCell, cell, space};
@@ -21,10 +21,10 @@ impl Listener {
         self.comparison.is_known_right() && !self.watched.keeps
     }
 
-    /// Returns the row (1 to 24) and column (0 to 39) of the first wrong cell. A cell is wrong if
-    /// it differs from the expected page. If repeats may have C4 (erase page) clear, a cell whose
-    /// expected code is not a space is also wrong if its row was not sent since the last header of
-    /// the page.
+    /// Returns the row (1 to 24) and column (0 to 39) of the first wrong cell; `None` if no cell is
+    /// wrong. A cell is wrong if it differs from the expected page. If repeats may have C4 (erase
+    /// page) clear, a cell whose expected code is not a space is also wrong if its row was not sent
+    /// since the last header of the page.
     pub fn first_wrong(&self) -> Option<(u8, u8)>
         ensures { result ≡ first_wrong_kept_cell self.now }
     {
@@ -55,7 +55,7 @@ impl Listener {
     }
 }
 
-// Returns the first of two cells, by row and then by column.
+// Returns the first of two optional cells, by row and then by column; `None` if both are `None`.
 fn earlier(one: Option<(u8, u8)>, other: Option<(u8, u8)>) -> Option<(u8, u8)>
     ensures { result ≡ earlier one other }
 {

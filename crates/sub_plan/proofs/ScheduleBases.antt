@@ -1,4 +1,5 @@
--- The last base before a frame decides which frames have a page transmission.
+-- The last base at or before a frame decides whether it has a page transmission; the last frame of
+-- a schedule always has one.
 use Rattle.std.proofs.Common.{◌≡◌, ℕ, zero, suc, ◌+◌, ◌-◌, ◌%◌, ◌<◌, ◌≤◌, ◌==◌, Bool, true, false}
 use Rattle.std.proofs.Common.{◌++◌, refl, sym, ap, ◌∙◌, arith, inl, inr, All, Decides}
 use Rattle.std.proofs.Math.Bool.{or-true}

@@ -1,4 +1,5 @@
--- The page transmissions of a schedule are those from each base up to the next base, joined.
+-- The page transmissions of a schedule are those from each base to the next and that of the last
+-- frame, joined.
 use Rattle.std.proofs.Common.{◌≡◌, ℕ, zero, suc, ◌+◌, ◌-◌, ◌%◌, ◌<◌, ◌≤◌, ◌==◌, Bool, false, []}
 use Rattle.std.proofs.Common.{List, ◌∷◌, ◌++◌, refl, ap, ◌∙◌, arith, filter, eq-eqb, ne_eqb}
 use Rattle.std.proofs.lemmas.Bool.Decides.{nat_tests}
@@ -80,8 +81,8 @@ is_sending-in due every first b end last f s low high =
     let e : (f == last) ≡ false = ne_eqb f last (λ same. absurd (omega (arith, s.high, same))) in
     rw (e, base-last due first f b (base_is_last_base-in due first b end last f s low high)) refl
 
--- The page transmissions from a base on are those up to the next base, followed by those from the
--- next base on.
+-- The page transmissions from the base b on are those before the frame `end`, up to which the
+-- expected page stays the same, followed by those from `end` on.
 pub sendings-step : (due : ℕ → Rows) (every first b end last : ℕ) → IsIntervalOfOnePage due first b
     end last
     → sendings_from due every first last b ≡ steps every b end

@@ -11,13 +11,13 @@ pts_of origin frame = (origin + 3600 * frame) % 2 ^ 33
 
 -- ---- the frame of a PTS
 
--- The frame with exactly this PTS, among the frames below n.
+-- The greatest frame below n with exactly this PTS; `None` if there is none.
 unfoldable pub frame_below : ℕ → ℕ → ℕ → Option ℕ
 frame_below origin pts zero = None
 frame_below origin pts (suc n) =
     if pts_of origin n == pts then Some n else frame_below origin pts n
 
--- The frame of the day with exactly this PTS.
+-- The frame of the day with exactly this PTS; `None` if there is none.
 abbrev pub frame_of_pts : ℕ → ℕ → Option ℕ
 frame_of_pts origin pts = frame_below origin pts day
 
@@ -26,13 +26,13 @@ abbrev pub frame_in_day : ℕ → Option ℕ
 frame_in_day frame = if nat_lt frame day then Some frame else None
 
 -- The number of ticks from the first tick of frame 0, which is 900 before the PTS of frame 0, to
--- this PTS.
+-- this PTS, modulo 2^33.
 abbrev pub ticks_after : ℕ → ℕ → ℕ
 ticks_after origin pts = (pts + (2 ^ 33 - origin) + 900) % 2 ^ 33
 
--- The frame of the day whose ticks include this PTS of 33 bits. The ticks of a frame begin 900
--- before the frame's own PTS. So a PTS may be a quarter of a frame early, which multiplexers cause,
--- and the PTSs of two fields, half a frame apart, belong to one frame.
+-- The frame of the day whose ticks include this PTS of 33 bits, or `None`. The ticks of a frame
+-- begin 900 before the frame's own PTS. So a PTS may be a quarter of a frame early, which
+-- multiplexers cause, and the PTSs of two fields, half a frame apart, belong to one frame.
 unfoldable pub frame_with_tolerance : ℕ → ℕ → Option ℕ
 frame_with_tolerance origin pts =
     if nat_lt pts (2 ^ 33) then frame_in_day (ticks_after origin pts / 3600) else None

@@ -132,8 +132,8 @@ LawOfGaps =
     → g + every ≤ last + 1
     → (f : ℕ) × (g ≤ f) × (f < g + every) × Contains (sendings due every first last) f
 
--- A frame with the same expected page as the previous frame is no base. So two subtitles with the
--- same text, directly after each other, are repeated like one subtitle.
+-- A frame after the first with the same expected page as the previous frame is no base. So two
+-- subtitles with the same page, directly after each other, are repeated like one subtitle.
 abbrev pub LawOfEqualPages : Type 0
 LawOfEqualPages =
     (due : ℕ → Rows) (first f : ℕ)

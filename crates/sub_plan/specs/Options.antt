@@ -28,8 +28,8 @@ pub record IsWatchable (page : PageIdValue) : Type 0 where
   pub page_number : page.page < 0xFF
 
 -- The options are valid: a page other than FF, a repeat bound from one frame to a day, a PTS of 33
--- bits for frame 0, at most 50 frames (two seconds) within which the page must be right, and a pace
--- from one frame to a day.
+-- bits for frame 0, at most 50 frames (two seconds) within which the page must be right, and a
+-- pace, if there is one, from one frame to a day.
 pub record IsOptions (o : OptionsValue) : Type 0 where
   pub page : IsWatchable o.page
   pub least : 1 ≤ o.every

@@ -1,7 +1,7 @@
 -- The frames of a schedule that have a page transmission, and the bytes of the schedule.
 --
--- All definitions but the last ones, those of a programme's schedule, depend only on the expected
--- page at each frame, `due`, and on the first and the last frame, not on subtitles.
+-- All definitions but the last ones, those of a programme's schedule, depend on the subtitles only
+-- by `due`, the expected page at each frame.
 use Rattle.std.specs.Prelude.{ℕ, suc, zero, ◌+◌, ◌-◌, ◌%◌, Bool, not, ◌||◌, List, []}
 use Rattle.std.specs.Prelude.{◌==◌, nat_eq, filter, if◌then◌else◌, Option, Some, None}
 use Rattle.std.specs.List.{flat_map, range_with_len}

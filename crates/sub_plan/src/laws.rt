@@ -48,7 +48,8 @@ pub fn law_of_gaps()
     ensures { LawOfGaps }
 {}
 
-/// A cue at which the expected page does not change starts no new repeat interval.
+/// After the first frame, a cue at which the expected page does not change starts no new repeat
+/// interval.
 pub fn law_of_equal_pages()
     ensures { LawOfEqualPages }
 {}

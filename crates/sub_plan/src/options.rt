@@ -267,8 +267,8 @@ impl Options {
     /// Converts a PTS to a frame of the day. Returns `None` if the PTS belongs to no frame.
     ///
     /// If the page must be right at the end of each frame, a PTS belongs to the frame with exactly
-    /// this PTS. Otherwise (`allowing`), a PTS may be a quarter of a frame early, and the PTSs of
-    /// both fields belong to one frame.
+    /// this PTS. Otherwise (`allowing`), a PTS may be up to a quarter of a frame early, and the
+    /// PTSs of both fields belong to one frame.
     pub fn frame_of(&self, pts: u64) -> Option<u32>
         ensures value { result ≡ clock_of self.now pts }
         // If `within` is 0, the result is the frame with exactly this PTS.
@@ -283,7 +283,7 @@ impl Options {
     }
 }
 
-// Returns the frame of the day with exactly this PTS.
+// Returns the frame of the day with exactly this PTS, or `None` if there is none.
 fn exact_frame(origin: u64, pts: u64) -> Option<u32>
     requires { origin < 2 ^ 33 }
     ensures { result ≡ frame_of_pts origin pts }
@@ -302,8 +302,8 @@ fn exact_frame(origin: u64, pts: u64) -> Option<u32>
     Some(frame as u32)
 }
 
-// Returns the frame of the day whose ticks include this PTS; they begin 900 ticks before the
-// frame's own PTS.
+// Returns the frame of the day whose ticks include this PTS, or `None` if there is none. The ticks
+// of a frame begin 900 before the frame's own PTS.
 fn frame_including_pts(origin: u64, pts: u64) -> Option<u32>
     requires { origin < 2 ^ 33 }
     ensures { result ≡ frame_with_tolerance origin pts }

@@ -65,7 +65,8 @@ fn repeat_interval(options: &Options) -> u32
     options.every() as u32
 }
 
-// Writes the same packets at the frame `from` and then every `every` frames, before `end`.
+// Writes the same packets at the frame `from` and then every `every` frames, before `end`, and
+// returns the number of these frames.
 fn send_steps<K: Sink>(
     sink: &mut K,
     options: &Options,
@@ -165,11 +166,11 @@ fn send_all<K: Sink>(
 /// Writes the schedule of a programme, from the first TCI to the last TCO, and returns the number
 /// of page transmissions.
 ///
-/// Each page transmission is one PES packet (EN 300 472): the header of the page, its rows with
-/// text and the closing header. The frames with a page transmission are the first frame, each frame
-/// at which the expected page changes, every `every` frames between two of these frames, and the
-/// last frame. `serial` sets C11, magazine serial, in all headers. The expected page is drawn only
-/// at cues, and the schedule is not kept in memory.
+/// Each page transmission is one PES packet (EN 300 472): the header of the page, its rows that are
+/// not blank and the closing header. The frames with a page transmission are the first frame, each
+/// frame at which the expected page changes, every `every` frames between two of these frames, and
+/// the last frame. `serial` sets C11, magazine serial, in all headers. The expected page is drawn
+/// only at cues, and the schedule is not kept in memory.
 ///
 /// # Errors
 ///

@@ -4,7 +4,8 @@ use sub_plan::Options;
 /// A bit of a Teletext packet that is received wrong.
 #[derive(Clone, Copy, Debug, PartialEq, Eq)]
 pub struct Flip {
-    /// The number of the Teletext packet, counted from 0 among all Teletext packets of the file.
+    /// The number of the Teletext packet, counted from 0 among all Teletext packets of the PES
+    /// packets to receive.
     pub packet: u64,
     /// The byte of the Teletext packet, 0 to 41, address bytes first.
     pub byte: u8,
@@ -36,12 +37,12 @@ pub struct Listening {
     pub options: Options,
     /// The last frame that is received, as a frame of the day (the argument TIME).
     pub at: u32,
-    /// The number of Teletext packets to skip at the start of the file.
+    /// The number of Teletext packets to skip at the start of the PES packets to receive.
     pub skip: u64,
     /// The bits that are received wrong, at most one bit per byte.
     pub flips: Vec<Flip>,
     /// The numbers of the packets that the receiver loses, counted from 0 among all Teletext
-    /// packets of the file.
+    /// packets of the PES packets to receive. Skipped packets are not lost.
     pub lost: Vec<u64>,
     /// How the receiver handles even parity and headers with C4 clear.
     pub receiver: ReceiverKind,

@@ -13,7 +13,7 @@ pub struct TransportStream {
 /// The PES packets to read.
 #[derive(Clone, Copy)]
 pub struct PesSelection<'a> {
-    /// The name of the file with PES packets.
+    /// The name of the file of PES packets or of the transport stream.
     pub name: &'a str,
     /// The PID and the packet size, if the file is a transport stream; `None` for a file of PES
     /// packets.

@@ -11,7 +11,7 @@ use sub_plan::Options;
 use thiserror::Error;
 
 /// A fault for which the program cannot carry out the request in its arguments. The order of the
-/// variants is the order of reports.
+/// variants is the order of reports, but `Memory` is reported as soon as memory runs out.
 ///
 /// The program does not print the texts below. `print_usage_fault` of `sub_answer` prints a line
 /// with the fault's number and name.
@@ -26,7 +26,8 @@ pub enum UsageFault {
     /// Fault code 7: the file to be written has the name of the input.
     #[error("the input and the output have the same name")]
     SameFile,
-    /// Fault code 1: the page is not a digit 1 to 8 and two hexadecimal digits, or is a page FF.
+    /// Fault code 1: the page is not a digit 1 to 8 and two hexadecimal digits, or is a page FF. Or
+    /// there are more than eight pages to survey, or one of them is given twice.
     #[error("the page is not 100 to 8FE")]
     BadPage,
     /// Fault code 80: the repeat bound is not 1 to 2,160,000 frames.

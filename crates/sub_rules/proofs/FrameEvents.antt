@@ -14,7 +14,7 @@ gap_events g frames i (suc n) =
     gap_events g frames i n ++ events_at_end g frames i i (latest_frame frames i + suc n)
 
 -- `frame_events` are the events of entry i of the transmission: for its frame number, for the
--- frames before it, for its packets, and at its end.
+-- frames without a PES packet before it, for its packets, and at its end.
 unfoldable pub frame_events : Criteria → Transmission → ℕ → List Event
 frame_events g frames i =
     order_events g frames i

@@ -1,4 +1,4 @@
--- The PES packets of one frame are merged. If `within` is 0, no PES packets are merged.
+-- Consecutive PES packets of one frame are merged, unless `within` is 0: then none are merged.
 use Rattle.std.proofs.lemmas.Bool.Decides.{nat_tests}
 use Rattle.std.proofs.Common.{◌≡◌, ℕ, zero, suc, ◌+◌, ◌<◌, ◌≤◌, true, false, List, [], ◌∷◌}
 use Rattle.std.proofs.Common.{◌++◌, length, map, take, refl, sym, ap, ◌∙◌, arith}

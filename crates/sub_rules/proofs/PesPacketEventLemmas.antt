@@ -72,8 +72,7 @@ announced_events_keep_first_fault reported = grind (
   announcing_keeps_first_fault,
 )
 
--- The ends of active faults are no faults, so the first fault after the last frame is that of the
--- unread bytes.
+-- The events that end the active faults at the end of a file report no fault.
 endings_report_no_fault : (last : ActiveFaults) (f : ℕ) → first_reported_fault
     (fault_ending_events last f) ≡ None
 unfolding end_events

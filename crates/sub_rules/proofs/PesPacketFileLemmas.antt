@@ -62,7 +62,8 @@ file_of-then : (clock : Clock) (answer : Result (Option PesValue) PesFault) (mor
     ≡ pes_packets_after_answer clock answer (file_of_pes_packets clock more)
 file_of-then clock answer more = grind (arith, nat_tests)
 
--- The contents of a PES file are its first PES packet and the contents of the remaining bytes.
+-- The contents of a PES file are the PES packet that the reader's result gives, followed by the
+-- contents of the remaining bytes; there is no PES packet if that result gives none.
 pub pes_packets_at-next : (clock : Clock) (given : ℕ) (bytes : List ℕ)
     (answer : Result (Option PesValue) PesFault)
     → given ≤ max_pes_packets
@@ -75,7 +76,7 @@ pes_packets_at-next clock given bytes answer few is =
     ap (file_of_pes_packets clock) (pes_packets_after-next given bytes answer few is)
     ∙ file_of-then clock answer (pes_packets_after (given + 1) (rest_after_pes_packet bytes))
 
--- The reader's result determines the next PES packet of the bytes left.
+-- If the reader's result gives a PES packet, this packet is the next one of the remaining bytes.
 answer_reads_pes_packet : (clock : Clock) (n : ℕ) (bytes : List ℕ) (pes_packets : List PesPacket)
     (unread : Option UnreadReason) (pes_packet : PesPacket) (answer : Result (Option PesValue)
     PesFault)
@@ -171,8 +172,8 @@ file_after_answer clock (Ok (Some v)) rest =
     file_with (clock v.pts) (packets_of_units v.units) rest
 
 -- The frames before the first skipped PES packet are the frame of the reader's next PES packet,
--- followed by those of the remaining file; there are none if the reader returns a fault or the end
--- of the file.
+-- followed by those of the remaining file; there are none if the next packet is skipped or no
+-- packet is left.
 reading_until_skipped_follows_answer : (clock : Clock) (answer : Result (Option PesValue) PesFault)
     (rest : PesPacketFileValue)
     → file_until_first_skipped (pes_packets_after_answer clock answer rest)
@@ -188,8 +189,8 @@ file_until_skipped_follows_answer clock answer more =
     ap file_until_first_skipped (file_of-then clock answer more)
     ∙ reading_until_skipped_follows_answer clock answer (file_of_pes_packets clock more)
 
--- After any result of the reader, the contents of the file are the same whether the remaining bytes
--- are determined by the length field or by the parser.
+-- After any result of the reader, the frames before the first skipped packet are the same whether
+-- the remaining bytes are determined by the length field or by the parser.
 both_rests_give_the_same_file : (clock : Clock) (given : ℕ) (bytes : List ℕ)
     (answer : Result (Option PesValue) PesFault)
     → answer_at given bytes ≡ answer
@@ -199,8 +200,8 @@ both_rests_give_the_same_file clock given bytes answer is = grind
     (arith, nat_tests, value_leaves_rest)
 
 -- The frames of a file up to its first skipped packet are the frame of the reader's next PES
--- packet, followed by those of the remaining bytes; there are none if the reader returns a fault or
--- the end of the file.
+-- packet, followed by those of the remaining bytes; there are none if the next packet is skipped or
+-- no packet is left.
 pub file_at-next :
     (clock : Clock) (given : ℕ) (bytes : List ℕ)
     → given ≤ max_pes_packets

@@ -63,7 +63,8 @@ reported_fault (Ok (Some (next.Skipped f))) = Some f
 reported_fault (Err f) = Some f
 reported_fault _ = None
 
--- A PES packet that is sent is the next frame of the transmission.
+-- The PES packet with the value v is entry n of the transmission, in this frame, and the remaining
+-- bytes are read as the later entries.
 pub record ReadsNext
     (clock : Clock) (n : ℕ) (bytes : List ℕ) (frames : Transmission) (unread : Option UnreadReason)
     (v : PesValue) (frame : ℕ)

@@ -120,7 +120,7 @@ is_incomplete g frames n =
 abbrev pub is_unfinished : Criteria → Transmission → ℕ → ℕ → Bool
 is_unfinished g frames n f = is_some (wrong_cell g frames n f) || is_incomplete g frames n
 
--- The greatest frame number among the first n frames of the transmission.
+-- The greatest frame number among the first n frames of the transmission; 0 if n is 0.
 unfoldable pub latest_frame : Transmission → ℕ → ℕ
 latest_frame frames zero = 0
 latest_frame frames (suc n) = max (latest_frame frames n) (frame_at frames n)
@@ -143,15 +143,16 @@ unfoldable pub gap_length : Transmission → ℕ → ℕ
 gap_length frames zero = 0
 gap_length frames (suc i) = frame_at frames (suc i) - (latest_frame frames (suc i) + 1)
 
--- The first frame of the current run of frames with an unfinished page, at the end of frame f.
--- `first_unfinished` is the value at the end of the frame before.
+-- The first frame of the current run of frames with an unfinished page, at the end of frame f;
+-- `None` if the page is finished. `first_unfinished` is the value at the end of the frame before.
 abbrev pub extended_unfinished_run : Option ℕ → Bool → ℕ → Option ℕ
 extended_unfinished_run first_unfinished unfinished f = if unfinished then Some
     (unwrap_or first_unfinished
     f) else None
 
--- The first frame of the current run of frames with an unfinished page, after k more frames without
--- a PES packet.
+-- The first frame of the current run of frames with an unfinished page, after n frames of the
+-- transmission and k more frames without a PES packet; `None` if the page is finished.
+-- `first_unfinished` is the value before these k frames.
 unfoldable pub first_unfinished_in_gap : Criteria → Transmission → ℕ → Option ℕ → ℕ → Option ℕ
 first_unfinished_in_gap g frames n first_unfinished zero = first_unfinished
 first_unfinished_in_gap g frames n first_unfinished (suc k) =
@@ -160,7 +161,7 @@ first_unfinished_in_gap g frames n first_unfinished (suc k) =
     (is_unfinished g frames n f) f
 
 -- The first frame of the current run of frames with an unfinished page, after the first n frames of
--- the transmission; `None` before the first frame.
+-- the transmission; `None` if the page is finished, or n is 0.
 unfoldable pub first_unfinished_in_frames : Criteria → Transmission → ℕ → Option ℕ
 first_unfinished_in_frames g frames zero = None
 first_unfinished_in_frames g frames (suc i) =
@@ -177,7 +178,7 @@ unfinished_run_start g frames n f =
     (f - latest_frame frames n)
 
 -- The first frame of the run of frames with an unfinished page, at the end of the frame before
--- frame f, after n frames of the transmission.
+-- frame f, after n frames of the transmission; `None` if the page is finished there, or n is 0.
 unfoldable pub first_unfinished_before : Criteria → Transmission → ℕ → ℕ → Option ℕ
 first_unfinished_before g frames zero f = None
 first_unfinished_before g frames (suc i) f = unfinished_run_start g frames (suc i) (f - 1)
@@ -203,8 +204,8 @@ unfoldable pub is_late : Criteria → Transmission → ℕ → ℕ → Bool
 is_late g frames n f =
     g.within == 0 || is_overdue g (frame_at frames 0) (unfinished_run_start g frames n f) f
 
--- The code was expected in the cell at frame f or at one of the n frames before f. Frames before
--- `first` do not count.
+-- The code was expected in the cell at frame f or at one of the n frames before f, of which those
+-- before `first` do not count.
 unfoldable pub was_due : (ℕ → Rows) → ℕ → ℕ → ℕ → ℕ → ℕ → ℕ → Bool
 was_due due first f zero row column code = cell (due f) row column == code
 was_due due first f (suc n) row column code =
@@ -212,7 +213,8 @@ was_due due first f (suc n) row column code =
     || (nat_le (first + suc n) f && (cell (due (f - suc n)) row column == code))
 
 -- The first cell whose code, after these packets, is neither a space nor expected in that cell at
--- frame f or at one of the n frames before f. Frames before `first` do not count.
+-- frame f or at one of the n frames before f, of which those before `first` do not count. `None` if
+-- there is no such cell.
 unfoldable pub first_unexpected_cell_after :
     Bool → PageIdValue → List (List ℕ) → (ℕ → Rows) → ℕ → ℕ → ℕ → Option (ℕ × ℕ)
 first_unexpected_cell_after keeps page packets due first f n =
@@ -221,21 +223,22 @@ first_unexpected_cell_after keeps page packets due first f n =
     not (kept keeps page packets row column == space)
     && not (was_due due first f n row column (kept keeps page packets row column)))
 
--- The expected page is unknown at frame f or at one of the n frames before f. Frames before `first`
--- do not count.
+-- The expected page is unknown at frame f or at one of the n frames before f, of which those before
+-- `first` do not count.
 unfoldable pub was_undecided : (ℕ → Bool) → ℕ → ℕ → ℕ → Bool
 was_undecided undecided first f zero = undecided f
 was_undecided undecided first f (suc n) =
     was_undecided undecided first f n || (nat_le (first + suc n) f && undecided (f - suc n))
 
--- The expected page is unknown at frame f or at one of the `within` frames before f. Frames before
--- the first frame of the transmission do not count.
+-- The expected page is unknown at frame f or at one of the `within` frames before f, of which those
+-- before the first frame of the transmission do not count.
 abbrev pub is_undecided_within : Criteria → Transmission → ℕ → Bool
 is_undecided_within g frames f = was_undecided g.undecided (frame_at frames 0) f g.within
 
 -- The first cell with a code, other than a space, that was not expected at frame f or at one of the
--- `within` frames before f, after n frames of the transmission. `None` if the expected page is
--- unknown at one of these frames. Frames before the first frame of the transmission do not count.
+-- `within` frames before f, after n frames of the transmission. `None` if there is no such cell, or
+-- if the expected page is unknown at one of these frames. Of the frames before f, those before the
+-- first frame of the transmission do not count.
 abbrev pub unexpected_cell : Criteria → Transmission → ℕ → ℕ → Option (ℕ × ℕ)
 unexpected_cell g frames n f =
     if is_undecided_within g frames f

@@ -90,7 +90,8 @@ place_of_fault f = (fault_row f).place
 -- The first frame that is no longer trusted because of a fault; `None` if the fault does not affect
 -- receivers. For a faulty PES packet, it is `last`, the frame of the previous PES packet, to which
 -- the faulty packet may belong. For a fault at the end of a frame at which the page is overdue, it
--- is `late`, the first frame with the unfinished page.
+-- is `late`, the first frame with the unfinished page. Otherwise it is the frame of its place, if
+-- the place has one.
 abbrev pub invalidated_frame : ℕ → Option ℕ → Bool → FaultPlace → Option ℕ
 invalidated_frame last late true (place.Pes n) = Some last
 invalidated_frame last late true (place.Frame f) = Some (unwrap_or late f)

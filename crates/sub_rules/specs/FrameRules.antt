@@ -57,7 +57,7 @@ watched_of programme options = record {
   keeps = options.keeps;
 }
 
--- The criteria for subtitles of which none was rejected, with this page, repeat bound, delay and
+-- The criteria for subtitles of which none is unreliable, with this page, repeat bound, delay and
 -- pace.
 abbrev pub criteria_with : ProgrammeValue → Watched → ℕ → ℕ → Option ℕ → Option UnreadReason →
     Criteria
@@ -75,7 +75,7 @@ criteria_with programme watched every within pace unread = record {
   unread = unread;
 }
 
--- The criteria for subtitles of which none was rejected, with these options.
+-- The criteria for subtitles of which none is unreliable, with these options.
 abbrev pub criteria_of : ProgrammeValue → OptionsValue → Option UnreadReason → Criteria
 criteria_of programme options unread =
     criteria_with programme (watched_of programme options) options.every options.within options.pace
@@ -85,7 +85,7 @@ criteria_of programme options unread =
 abbrev pub is_due_undecided : JudgedValue → ℕ → Bool
 is_due_undecided j frame = has_unreliable_subtitle j && is_undecided_in j frame
 
--- The criteria for the reliable subtitles of a file, of which others may have been rejected.
+-- The criteria for the reliable subtitles of a file, which may also have unreliable subtitles.
 abbrev pub criteria_of_judged : JudgedValue → OptionsValue → Option UnreadReason → Criteria
 criteria_of_judged j options unread =
     record (criteria_of j.programme options unread) {
@@ -93,11 +93,11 @@ criteria_of_judged j options unread =
       undecided = is_due_undecided j;
     }
 
--- The frame number of entry i of the transmission, counted from 0.
+-- The frame number of entry i of the transmission, counted from 0; 0 if there is no such entry.
 abbrev pub frame_at : Transmission → ℕ → ℕ
 frame_at frames i = slice_index (map (λ (s : SentFrame). s.frame) frames) i
 
--- The packets of entry i of the transmission, counted from 0.
+-- The packets of entry i of the transmission, counted from 0; none if there is no such entry.
 abbrev pub packets_of_frame : Transmission → ℕ → List (List ℕ)
 packets_of_frame frames i = slice_index_or (map (λ (s : SentFrame). s.packets) frames) i []
 
@@ -105,7 +105,7 @@ packets_of_frame frames i = slice_index_or (map (λ (s : SentFrame). s.packets) 
 abbrev pub packets_before : Transmission → ℕ → List (List ℕ)
 packets_before frames n = flat_map (λ (s : SentFrame). s.packets) (take n frames)
 
--- The frame number of the last entry of the transmission.
+-- The frame number of the last entry of the transmission; 0 if it has no entry.
 abbrev pub end_frame : Transmission → ℕ
 end_frame frames = frame_at frames (length frames - 1)
 

@@ -63,7 +63,8 @@ steps_of_gap g frames i (suc n) =
 -- ---- steps for one PES packet
 
 -- The steps before the packets of frame i of the transmission: the check of its frame number, the
--- ends of the frames without a PES packet before it, and the beginning of the frame.
+-- ends of the frames without a PES packet before it, the beginning of the frame, and a `GoesBack`
+-- step if the checker needs one.
 abbrev pub steps_of_arrival : Criteria → Transmission → ℕ → List CheckStep
 steps_of_arrival g frames i =
     map Emits (order_events g frames i)
@@ -87,8 +88,8 @@ steps_of_ending g frames i =
     (has_text_beginning g.watched.keeps (kind g.watched.page) (packets_of_frame frames i))
     (has_no_active_faults (active_faults_at g frames (suc i) (frame_at frames i))) ∷ []
 
--- The steps at the end of the last frame. If `within` is 0, there are none, since the frame has
--- already ended.
+-- The steps at the end of the last frame, if there is a frame. If `within` is 0, there are none,
+-- since the frame has already ended.
 unfoldable pub steps_of_pending_end : Criteria → Transmission → List CheckStep
 steps_of_pending_end g [] = []
 steps_of_pending_end g (s ∷ sent) =

@@ -89,7 +89,8 @@ IfSent answer IsSo =
     (sending : ValidPesPacket) → answer ≡ Ok (Some (next.Sent sending)) → IsSo sending
 
 -- A result of `next_pes_packet` agrees with the bytes after n PES packets: it is the first of
--- `pes_packets`, with the value v; or no packet is left, for the reason `unread`.
+-- `pes_packets`, with the value v if that packet is sent; or no packet is left, and the result is
+-- the fault for the reason `unread`, or `None` without such a reason.
 abbrev pub ReportsPesPacket : Clock → ℕ → List ℕ → List PesPacket → Option UnreadReason → PesValue
     → Result (Option NextPesPacket) CheckFault → Type 0
 ReportsPesPacket clock n bytes pes_packets unread v (Ok None) = (pes_packets ≡ []) × (unread ≡ None)
@@ -130,7 +131,7 @@ frames_of [] = []
 frames_of (Sent s ∷ pes_packets) = s ∷ frames_of pes_packets
 frames_of (Skipped u ∷ pes_packets) = frames_of pes_packets
 
--- Appends Teletext packets to the last frame of a transmission.
+-- Appends Teletext packets to the last frame of a transmission, if it has a frame.
 unfoldable pub with_packets : List (List ℕ) → Transmission → Transmission
 with_packets packets [] = []
 with_packets packets (s ∷ []) =

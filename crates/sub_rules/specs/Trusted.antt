@@ -9,13 +9,13 @@
 -- before a faulty PES packet, or before bytes that cannot be read, is not trusted, since these may
 -- belong to it. The trusted frames of a run of fault-free frames begin with the first header of the
 -- page that has C4 (erase page) set, or with any header of the page if C4 must always be set. They
--- are reported when the run ends; at the end of a file without other events, only if subtitles were
--- rejected.
+-- are reported when the run ends; at the end of a file without other events, only if the subtitle
+-- file has unreliable subtitles (rejected, faulty or out of order).
 --
 -- If the page need not be correct at each frame end, a run is trusted only if the page was finished
 -- at one of its ends. If the run ends because the page is overdue or the file ends, the last frames
--- with an unfinished page are not trusted. If subtitles were rejected, this applies to every end of
--- a run, since the next expected page is unknown.
+-- with an unfinished page are not trusted. If there are unreliable subtitles, this applies to every
+-- end of a run, since the next expected page may be unknown.
 use Rattle.std.specs.Prelude.{ℕ, suc, ◌-◌, ◌&&◌, ◌||◌, Bool, true, false, not, List, [], ◌∷◌}
 use Rattle.std.specs.Prelude.{◌++◌, Option, Some, None, is_none, is_some, nat_lt, unwrap_or}
 use Rattle.std.specs.Prelude.{if◌then◌else◌}
@@ -52,7 +52,7 @@ pub data CheckStep : Type 0 where
 
 -- ---- the position in the transmission
 
--- The number of the PES packet to which the current events belong.
+-- The number of the PES packet to which the current events belong; 0 before the first PES packet.
 unfoldable pub current_pes : List CheckStep → ℕ
 current_pes [] = 0
 current_pes (AtPes pes ∷ past) = pes
@@ -65,7 +65,7 @@ last_packet_frame (Begins f ∷ past) = f
 last_packet_frame (m ∷ past) = last_packet_frame past
 
 -- The first frame of the current run of frames with an unfinished page; `None` if the page was
--- finished at the last frame end.
+-- finished at the last frame end, or there is no `AtEnd` step, as when `within` is 0.
 unfoldable pub first_unfinished_of : List CheckStep → Option ℕ
 first_unfinished_of [] = None
 first_unfinished_of (AtEnd f first_unfinished late ∷ past) = first_unfinished
@@ -78,7 +78,7 @@ late_run_start (AtEnd f first_unfinished late ∷ past) = if late then first_unf
 late_run_start (m ∷ past) = late_run_start past
 
 -- The frame of the last `GoesBack` step: the first frame of the run of frames with an unfinished
--- page, up to the frame before.
+-- page, up to the frame before. `None` if the page was finished there, or without such a step.
 unfoldable pub back_frame_of : List CheckStep → Option ℕ
 back_frame_of [] = None
 back_frame_of (GoesBack first_unfinished ∷ past) = first_unfinished
@@ -105,8 +105,8 @@ unfoldable pub reports_order_fault : CheckStep → Bool
 reports_order_fault (Emits (Reported (fault.Order pes))) = true
 reports_order_fault m = false
 
--- The current frame is fault-free so far: frame numbers have increased, and none of its packets has
--- a fault that affects receivers.
+-- The current frame is fault-free so far: frame numbers have increased, and since the frame began
+-- no fault that affects receivers was reported.
 unfoldable pub stays_fault_free : List CheckStep → Bool
 stays_fault_free [] = true
 stays_fault_free (Begins f ∷ past) = not (list_any reports_order_fault past)
@@ -156,8 +156,9 @@ abbrev pub trusted : Option ℕ → Option ℕ → ℕ → List Event
 trusted (Some from) (Some finished) f = if nat_lt finished f then Trusted from (f - 1) ∷ [] else []
 trusted run finished f = []
 
--- The event for the trusted frames that end because frame f is no longer trusted. If subtitles were
--- rejected, it excludes the last frames with an unfinished page.
+-- The event for the trusted frames that end because frame f is no longer trusted. If there is a
+-- frame of a `GoesBack` step, it excludes the frames from that frame on, which have an unfinished
+-- page.
 abbrev pub trusted_up_to : List CheckStep → Option ℕ → List Event
 trusted_up_to past None = []
 trusted_up_to past (Some f) = trusted (run_of past) (first_finished_of past)

@@ -8,9 +8,9 @@ use Rattle.sub_rules.specs.FrameRules.{frame_at}
 use Rattle.sub_plan.specs.Schedule.{due_page_in}
 use Rattle.sub_rules.specs.Transmission.{Transmission, IsRising, last_frame, on_air_until}
 
--- `read` is a prefix of the transmission, with increasing frame numbers, that ends at or before
--- frame f. The next frame of the transmission is after f, unless the prefix already ends with frame
--- f.
+-- `read` is a nonempty prefix of the transmission, with increasing frame numbers, that ends at or
+-- before frame f. The next frame of the transmission is after f, unless the prefix already ends
+-- with frame f.
 pub record AreReadUpTo (frames : Transmission) (f : ℕ) (read : Transmission) : Type 0 where
   pub n : ℕ
   pub some : 0 < n

@@ -20,7 +20,7 @@ pub struct ActiveFaults {
     /// overdue.
     pub incomplete: bool,
     /// Whether the expected page is unknown, or was unknown at one of the `within` frames before,
-    /// because a subtitle was rejected.
+    /// because a subtitle is unreliable: rejected, faulty or out of order.
     pub undecided: bool,
     /// Whether the pace is exceeded: so many frames had no PES packet.
     pub silent: bool,

@@ -6,16 +6,17 @@ use sub_io::FaultCode;
 /// A rule that is checked at the end of each frame. It may stay broken for several frames.
 #[derive(Clone, Copy, Debug, PartialEq, Eq)]
 pub enum EndRule {
-    /// Each cell has the expected code, and each row with expected text was sent since the last
-    /// header of the page. If `within` is not 0, each cell may also have a space or a code that was
-    /// expected at one of the `within` frames before, until the page is overdue.
+    /// If the expected page is known, each cell has the expected code, and each row with expected
+    /// text was sent since the last header of the page. If `within` is not 0, it is enough until
+    /// the page is overdue that each cell has a space or a code that was expected at this frame or
+    /// at one of the `within` frames before.
     Content,
-    /// The page has had a header within the repeat bound.
+    /// The page has had a header within the repeat bound, or the transmission is still shorter.
     Gap,
     /// If complete pages are required, the page is not open. If `within` is not 0, it may be open
     /// until it is overdue.
     Incomplete,
-    /// The expected page is known, and so are those of the `within` frames before: no rejected
+    /// The expected page is known, and so are those of the `within` frames before: no unreliable
     /// subtitle may be expected.
     Undecided,
     /// A PES packet has come within the pace, if a pace is required.

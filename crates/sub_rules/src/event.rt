@@ -6,7 +6,7 @@ use crate::fault::CheckFault;
 /// unchanged.
 #[derive(Clone, Copy, Debug, PartialEq, Eq)]
 pub enum Event {
-    /// A rule is broken at this place. For a rule that is checked at the end of each frame, the
+    /// A fault, such as a broken rule. For a rule that is checked at the end of each frame, the
     /// event is reported only if the fault was not already active at this place at the end of the
     /// frame before.
     Reported(CheckFault),
@@ -14,7 +14,7 @@ pub enum Event {
     Ended {
         /// The rule that was broken.
         rule: EndRule,
-        /// The last frame at whose end the rule was broken.
+        /// The last frame at whose end the rule was broken at the reported place.
         frame: u32,
     },
     /// Several consecutive PES packets were skipped because of the same fault. The fault of the

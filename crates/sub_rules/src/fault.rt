@@ -84,8 +84,9 @@ pub enum CheckFault {
         /// The number of the Teletext packet in its frame, counted from 0.
         packet: u32,
     },
-    /// A row of the open page differs from the first packet of the same row, sent since the last
-    /// header of the page or, if repeats may keep the page, since the last header that erases it.
+    /// The codes of a row of the open page differ from those of the first packet of the same row,
+    /// sent since the last header of the page or, if repeats may keep the page, since the last
+    /// header that erases it.
     RowChanged {
         /// The frame of the Teletext packet.
         frame: u32,
@@ -128,7 +129,7 @@ pub enum CheckFault {
         /// The frame at whose end the page is open.
         frame: u32,
     },
-    /// At the end of a frame, the expected page is unknown because a subtitle was rejected; or it
+    /// At the end of a frame, the expected page is unknown because of an unreliable subtitle; or it
     /// was unknown at one of the `within` frames before.
     Undecided {
         /// The frame at whose end the expected page is unknown.

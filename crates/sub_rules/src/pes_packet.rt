@@ -34,7 +34,7 @@ pub enum NextPesPacket {
 /// Reads PES packet number `pes`, counted from 0. Returns `None` at the end of the file.
 ///
 /// The contents of the packet stay in `reader`. Ignore `again` after a skipped packet, because it
-/// compares with the skipped packet.
+/// may compare with that packet.
 ///
 /// # Errors
 ///

@@ -1,5 +1,5 @@
--- After the steps at the end of a frame, the range of frames was reported as trusted or can still
--- be reported. The end of the file reports it, if it reports anything.
+-- After the steps at the end of a frame, each range of frames that could be trusted was reported as
+-- trusted, or can still be reported. The end of the file reports it, if it reports anything.
 use Rattle.std.proofs.lemmas.Bool.Decides.{nat_tests}
 use Rattle.std.proofs.Common.{◌≡◌, ℕ, suc, ◌+◌, ◌-◌, ◌<◌, ◌≤◌, inl, inr, Bool, true, false}
 use Rattle.std.proofs.Common.{◌||◌, List, [], ◌∷◌, ◌++◌, length, map, Option, Some, None, is_some}

@@ -1,5 +1,5 @@
--- After the range's first header, the current run of fault-free frames begins at that header or
--- before it, until the range is reported.
+-- If a range of frames could be trusted, then after a header in it that erases the page, and until
+-- the range is reported, the current run of fault-free frames begins at that header or before it.
 use Rattle.std.proofs.lemmas.Bool.Decides.{nat_tests}
 use Rattle.std.proofs.Common.{◌≡◌, ℕ, ◌+◌, ◌-◌, ◌<◌, ◌≤◌, inl, inr, Bool, true, false, ◌==◌}
 use Rattle.std.proofs.Common.{List, map, Option, Some, None, is_some, refl, sym, ◌∙◌, arith}
@@ -67,7 +67,8 @@ module _ (g : Criteria) (frames : Transmission) (a b i : ℕ)
   top = frame_at frames i
 
   -- After n frames of the transmission and the ends of all frames before p, the current run
-  -- contains the frames so far from the range's first header on.
+  -- contains the frames so far from the range's header in frame i on. After the end of frame b, the
+  -- page was finished in a frame up to b, and unfinished frames begin after b.
   pub record FollowsRange (n p : ℕ) (t : List CheckStep) : Type 0 where
     pub rises : n ≤ i → has_risen t ≡ true
     pub run : i < n → (from : ℕ) × (from ≤ top) × (run_of t ≡ Some from)
@@ -89,7 +90,8 @@ module _ (g : Criteria) (frames : Transmission) (a b i : ℕ)
       → FollowsRange n p u
   following_continues_after_events n p t u es follows so orders none = grind (arith, nat_tests)
 
-  -- If events invalidate a frame after the range of frames, the range is reported as trusted.
+  -- If frame i was sent, frame b has ended, and events invalidate a frame so that the first frame
+  -- that is no longer trusted is after b, the frames from `top` to b are reported as trusted.
   pub invalidation_reports_trusted_frames : (n p : ℕ) (t : List CheckStep) (es : List Event) (x : ℕ)
       → FollowsRange n p
       t → i < n
@@ -129,8 +131,8 @@ module _ (g : Criteria) (frames : Transmission) (a b i : ℕ)
             (λ l. absurd (omega arith)))
       ]
 
-  -- If frame f is after the range and the page is unfinished at the end of the frame before f, the
-  -- run of unfinished frames begins after the range.
+  -- If frame f is after b and no frame before f is out of order, the frame of the last `GoesBack`
+  -- step, if any, is after b too: it begins the run of unfinished frames up to the frame before f.
   pub back_frame_is_after_stretch : (n f r : ℕ) (u : List CheckStep) → IsWrongSince g frames n f u →
       0 < n
       → IsEnd (rising_part frames) n (f - 1)
@@ -188,8 +190,9 @@ module _ (g : Criteria) (frames : Transmission) (a b i : ℕ)
             | inr (none, here) ↦ omega arith
           ]
 
-  -- From the first frame of the range on, the events at a frame end invalidate only frames after
-  -- the range.
+  -- If the events at the end of a frame from a on invalidate a frame, and no frame up to there is
+  -- out of order, this end is not before b, and the first frame that is no longer trusted is after
+  -- b.
   pub invalidated_frame_is_after_stretch : (n m f x : ℕ) (t u : List CheckStep) → ChecksFrameEnd g
       frames m f t u
       → IsWrongSince g frames n f u

@@ -1,5 +1,5 @@
--- Joined lists of steps report a range of frames as trusted, or leave a state with a given
--- property, if each of the lists does.
+-- If each of two lists of steps reports a range of frames as trusted or leaves a state with a given
+-- property, so do both lists, one after the other.
 use Rattle.std.proofs.lemmas.Bool.Decides.{nat_tests}
 use Rattle.std.proofs.Common.{◌≡◌, ℕ, ◌-◌, ◌<◌, ◌≤◌, ◌⊎◌, inl, inr, List, [], ◌∷◌, ◌++◌, map}
 use Rattle.std.proofs.Common.{Contains, Option, Some, None, refl, sym, subst, arith, ◌∙◌}
@@ -92,7 +92,7 @@ emitted_events_report_run t (e ∷ es) x from w is run whole l =
         is) run whole l))
 
 module _ (top b : ℕ) where
-  -- One event reports that the frames from `top` or earlier to b are trusted.
+  -- One event reports that the frames from `top` or earlier to b or later are trusted.
   abbrev pub IsReported : List Event → Type 0
   IsReported es = (from : ℕ) × (to : ℕ) × (from ≤ top) × (b ≤ to) × Contains es (Trusted from to)
 

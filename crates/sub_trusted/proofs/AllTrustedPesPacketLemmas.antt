@@ -1,5 +1,5 @@
--- After the steps of all PES packets, the range of frames was reported as trusted, or it can still
--- be reported at the end of the file.
+-- After the steps of all PES packets, each range of frames that could be trusted was reported as
+-- trusted from a header that erases the page on, or can still be reported at the end of the file.
 use Rattle.std.proofs.Common.{◌≡◌, ℕ, ◌+◌, ◌-◌, ◌<◌, ◌≤◌, ◌⊎◌, inl, inr, List, [], ◌∷◌, ◌++◌}
 use Rattle.std.proofs.Common.{length, refl, sym, subst, arith, append-nil}
 use Rattle.sub_rules.specs.FrameRules.{Criteria, end_frame, frame_at, packets_of_frame}
@@ -41,7 +41,8 @@ module _ (g : Criteria) (frames : Transmission) (a b i : ℕ)
   abbrev HasReceivedPackets : ℕ → List (List ℕ) → List CheckStep → Type 0
   HasReceivedPackets n packets t = FollowsInOpenFrame g frames a b i fits n packets t
 
-  -- A skipped PES packet that follows the frames `sent` cannot belong to the range of frames.
+  -- If there are frames `sent` before a skipped PES packet, and all are before any frame out of
+  -- order, the last of them is before frame a or after frame b.
   abbrev pub IsOutsideStretch : Transmission → Type 0
   IsOutsideStretch sent =
       0 < length sent

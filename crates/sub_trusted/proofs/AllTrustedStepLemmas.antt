@@ -1,5 +1,5 @@
--- After the steps of a frame, the range of frames was reported as trusted, or it can still be
--- reported.
+-- After the steps of a frame, each range of frames that could be trusted was reported as trusted
+-- from a header that erases the page on, or can still be reported.
 use Rattle.std.proofs.lemmas.Bool.Decides.{nat_tests}
 use Rattle.std.proofs.Common.{◌≡◌, ℕ, zero, suc, ◌+◌, ◌-◌, ◌<◌, ◌≤◌, ◌⊎◌, inl, inr, Bool, true}
 use Rattle.std.proofs.Common.{false, List, [], ◌∷◌, ◌++◌, length, map, take, get_or, Option, Some}

@@ -1,5 +1,5 @@
--- A range of frames with the guarantees has no fault that affects receivers, ends with a finished
--- page, and lies before the first frame out of order.
+-- A range of frames that could be reported as trusted has no fault that affects receivers, ends
+-- with a finished page, and lies before the first frame out of order.
 use Rattle.std.proofs.lemmas.Bool.Decides.{nat_tests}
 use Rattle.std.proofs.Common.{◌≡◌, ℕ, suc, ◌+◌, ◌-◌, ◌<◌, ◌≤◌, true, false, List, [], ◌++◌, drop}
 use Rattle.std.proofs.Common.{length, take, get_or, Some, None, sym, ap, ◌∙◌, subst, arith}
@@ -83,7 +83,7 @@ module _ (frames : Transmission) where
   ]
 
 -- Frame i of the transmission has a header that erases the page, and is in the range from a to b,
--- which has the guarantees.
+-- which could be reported as trusted.
 pub record Fits (g : Criteria) (frames : Transmission) (a b i : ℕ) : Type 0 where
   pub there : i < rising_frame_count frames
   pub low : a ≤ frame_at frames i

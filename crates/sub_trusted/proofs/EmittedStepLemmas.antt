@@ -134,8 +134,8 @@ module _ (P : ℕ → ℕ → Type 0) where
       → HoldsForEachTrusted P (trusted run whole x)
   trusted_frames_have_property run whole x h1 = grind (arith, nat_tests, ltb-true)
 
-  -- If the trusted frames in the events, and those of the run up to the invalidated frame, have the
-  -- property P, so do the trusted frames that the steps report.
+  -- If the trusted frames in the events, and those of the run before the first frame that is no
+  -- longer trusted, have the property P, so do the trusted frames that the steps report.
   emitted_events_have_property : (t : List CheckStep) (es : List Event) → HoldsForEachTrusted P es
       → ((x from w : ℕ)
       → first_invalidated_frame t es ≡ Some x

@@ -43,7 +43,7 @@ criteria_with_known_pages g due ending first_tci last_tco =
     }
 
 -- At each frame whose expected page is known, `due` has the expected page of the criteria, and
--- `ending` has their TCI of the subtitle that ends after the frame.
+-- `ending` has their TCI of the subtitle whose TCO is the next frame.
 pub record HasSameCriteria (g : Criteria) (due : ℕ → Rows) (ending : ℕ → Option ℕ) : Type 0 where
   pub due_eq : (f : ℕ) → g.undecided f ≡ false → due f ≡ g.due f
   pub ending_eq : (f : ℕ) → g.undecided f ≡ false → ending (f + 1) ≡ g.ending (f + 1)

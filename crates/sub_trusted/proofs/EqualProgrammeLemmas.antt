@@ -1,5 +1,5 @@
--- Additional subtitles do not change the expected pages of other frames, so frames that are trusted
--- without them are trusted with them.
+-- Subtitles that are expected only in frames with an unknown expected page do not change the
+-- expected pages of the other frames. The law of equal trust follows.
 use Rattle.std.proofs.lemmas.Bool.Decides.{nat_tests}
 use Rattle.std.proofs.Common.{◌≡◌, ℕ, ◌+◌, inl, inr, Bool, false}
 use Rattle.std.proofs.Common.{List, [], ◌∷◌, find, Option, option_map}

@@ -1,5 +1,5 @@
--- Frames that are trusted although subtitles were rejected are trusted for all criteria that agree
--- on the known expected pages.
+-- Frames that are trusted although subtitles were rejected could be reported as trusted for all
+-- criteria that agree on the known expected pages, up to each frame with a finished page.
 use Rattle.std.proofs.lemmas.Bool.Decides.{nat_tests}
 use Rattle.std.proofs.Common.{◌≡◌, ◌≢◌, ℕ, ◌-◌, ◌<◌, ◌≤◌, inl, inr, true}
 use Rattle.std.proofs.Common.{List, [], Contains, Option, Some, length, refl, ap, ◌∙◌}

@@ -1,5 +1,6 @@
--- The first steps at the end of a frame only record whether the page is finished or overdue there.
--- They do not end a run.
+-- The steps at the end of a frame that come before its events only record since when the page has
+-- been unfinished, whether it is overdue and, if a subtitle is unreliable, since when the page was
+-- unfinished at the frame before. They do not end a run.
 use Rattle.std.proofs.lemmas.Bool.Decides.{nat_tests}
 use Rattle.std.proofs.Common.{◌≡◌, ℕ, ◌≤◌, true, false, not}
 use Rattle.std.proofs.Common.{◌==◌, ◌&&◌, None, if◌then◌else◌, List, [], ◌∷◌}
@@ -27,7 +28,8 @@ use Rattle.sub_rules.specs.Trusted.{first_finished_of}
 
 module _ (g : Criteria) (frames : Transmission) where
   -- The values that decide about trusted frames after the steps `u` are those after the steps `t`
-  -- and then the first steps at the end of frame f, after n frames of the transmission.
+  -- and then the steps at the end of frame f that come before its events. By then, n frames of the
+  -- transmission were sent.
   pub record ChecksFrameEnd (n f : ℕ) (t u : List CheckStep) : Type 0 where
     pub run_eq : run_of u ≡ run_of t
     pub first_finished_eq :

@@ -1,5 +1,5 @@
--- A broken rule that affects receivers invalidates the frame in which it is broken or, if the page
--- is overdue, the first frame with the unfinished page.
+-- A fault of a packet that affects receivers invalidates the packet's frame. A rule that is broken
+-- at the end of a frame invalidates it or, if the page is overdue, the first frame with that page.
 use Rattle.std.proofs.lemmas.Bool.Decides.{nat_tests}
 use Rattle.std.proofs.Common.{◌≡◌, ℕ, zero, suc, ◌+◌, ◌-◌, ◌<◌, ◌≤◌, Bool, true, false, cond, List}
 use Rattle.std.proofs.Common.{[], ◌∷◌, ◌++◌, map, take, get_or, length, max, Option, Some, None}
@@ -96,8 +96,8 @@ module _ (t : List CheckStep) (w : Watched) (frame from : ℕ)
         (λ r x e. let is = packet_fault_invalidates_its_frame (from + k) r in grind
         (arith, nat_tests)) w _ _)
 
-    -- The events of packets invalidate their frame if and only if one of them breaks a rule that
-    -- affects receivers.
+    -- The events of packets invalidate their frame if and only if one of the packets breaks a rule
+    -- that affects receivers.
     pub packets_invalidation :
         MatchDecides (invalidated_by t) (λ x. x ≡ frame) (KeepAllRules w before packets)
         (KeepAllRules w before packets)
@@ -167,7 +167,8 @@ pub no_order_fault_means_rising : (g : Criteria) (frames : Transmission) (i : �
 unfolding order_events is_order_fault reports_order_fault
 no_order_fault_means_rising g frames i none some = grind (arith, nat_tests)
 
--- A skipped PES packet invalidates the frame of the PES packet before it.
+-- A skipped PES packet invalidates the frame of the last PES packet that was not skipped, or frame
+-- 0 if there is none.
 pub skipped_packet_invalidates_last_packet : (t : List CheckStep) (pes : ℕ) (u : UnreadReason)
     → first_match (invalidated_by t) (Reported (unread_fault pes (Some u)) ∷ []) ≡ Some
     (last_packet_frame t)

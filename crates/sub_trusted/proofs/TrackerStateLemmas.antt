@@ -82,15 +82,16 @@ module _ (g : Criteria) (frames : Transmission) where
   abbrev pub IsAfterFrames : ℕ → ℕ → Type 0
   IsAfterFrames base from = (i : ℕ) → i < base → frame_at frames i < from
 
-  -- The guarantees hold for the frames `from` to `to`. They are after the first `base` frames of
-  -- the transmission and, if all frame numbers increase, before frame `late`.
+  -- The frames `from` to `to` are trusted correctly (`IsTrustedCorrect`). They are after the first
+  -- `base` frames of the transmission and, if all frame numbers increase, before frame `late`.
   pub record IsTrustedBetween (base late from to : ℕ) : Type 0 where
     pub stretch_is_trusted_correct : IsTrustedCorrect from to
     pub above : IsAfterFrames base from
     pub early : RiseTo frames (length frames) → to < late
 
-  -- The frames of a run before y may be trusted; if all frame numbers increase, y is at most
-  -- `late`.
+  -- The frames before y of a run among the first n frames may be trusted. Frame y is at most x and,
+  -- if frame n follows, at most the greater of the numbers of frames n - 1 and n; otherwise it is
+  -- at most `late`.
   pub record MayEndBefore (late n x y : ℕ) : Type 0 where
     pub within : n ≤ length frames
     pub low : y ≤ x
@@ -179,8 +180,8 @@ module _ (g : Criteria) (frames : Transmission) where
         ),
       )
 
-  -- Frame n can belong to a run: frame numbers increase up to it, its packets keep the rules, and
-  -- no fault is active at its end.
+  -- Frame n can belong to a run: frame numbers increase up to it, its packets break no rule that
+  -- affects receivers, and no fault is active at its end.
   pub record IsFaultFreeFrame (n : ℕ) : Type 0 where
     pub rises : RiseTo frames (suc n)
     pub kept : KeepAllRules g.watched (packets_before frames n) (packets_of_frame frames n)
@@ -249,8 +250,8 @@ module _ (g : Criteria) (frames : Transmission) where
   }
 
 module _ (g : Criteria) (frames : Transmission) (base : ℕ) where
-  -- The current run has frames among the first n, after the first `base` frames, and no fault is
-  -- active at any of its ends before frame x.
+  -- The current run, if any, has frames among the first n, after the first `base` frames, and no
+  -- fault is active at any of its ends before frame x.
   pub record Keeps (n x : ℕ) (t : List CheckStep) : Type 0 where
     pub run : (from : ℕ) → run_of t ≡ Some from → IsRun g frames n from
     pub ends : (from : ℕ) → run_of t ≡ Some from → EndsFaultFree g frames n from x

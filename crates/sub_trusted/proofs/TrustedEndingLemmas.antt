@@ -1,4 +1,5 @@
--- The guarantees hold for trusted frames that are reported at the end of a frame.
+-- The trusted frames that are reported at the end of a frame belong to a run of fault-free frames
+-- and, if `within` is not 0, the page is finished at the end of at least one of them.
 use Rattle.std.proofs.lemmas.Bool.Decides.{nat_tests}
 use Rattle.std.proofs.Common.{◌≡◌, ℕ, suc, ◌-◌, ◌<◌, ◌≤◌, ◌⊎◌, inl, inr, Bool, true, false, ◌&&◌}
 use Rattle.std.proofs.Common.{List, [], ◌∷◌, ◌++◌, length, map, Option, Some, None, is_some, refl}

@@ -1,4 +1,5 @@
--- The guarantees hold for the trusted frames of a list of PES packets.
+-- The trusted frames that are reported for a list of PES packets belong to a run of fault-free
+-- frames and, if `within` is not 0, the page is finished at the end of at least one of them.
 use Rattle.std.proofs.lemmas.Bool.Decides.{nat_tests}
 use Rattle.std.proofs.Common.{◌≡◌, ℕ, suc, ◌+◌, ◌≤◌, Bool, true, false, not, ◌||◌}
 use Rattle.std.proofs.Common.{List, [], ◌∷◌, ◌++◌, length, map, Option, Some, is_some, refl, sym}
@@ -50,8 +51,8 @@ use Rattle.sub_rules.specs.Trusted.{events_reported_after, events_reported_at_st
 use Rattle.sub_rules.specs.Trusted.{first_finished_of}
 use Rattle.std.specs.List.{list_any}
 
--- The first frame that is not trusted at the end of a file: the last frame, if unread bytes follow,
--- or the frame after it.
+-- A bound for the first frame that is not trusted at the end of a file: the last frame, if unread
+-- bytes follow, or the frame after it.
 abbrev pub trusted_bound : Criteria → Transmission → ℕ
 trusted_bound g frames =
     if is_some g.unread then end_frame frames else end_frame frames + 1
@@ -117,8 +118,8 @@ module _ (g : Criteria) (frames : Transmission) (base : ℕ) where
       (λ l. ⊤) (Goes-nil P) (Goes-pes P) (Goes-append P) steps sent pes t pes_packets all
       (skipped_packets_need_nothing sent pes_packets) sends
 
-  -- The frames may be trusted up to the last frame or, if unread bytes follow, up to the frame
-  -- before it.
+  -- The frames are trusted correctly and, if all frame numbers increase, end with the last frame or
+  -- earlier, or before the last frame if unread bytes follow.
   abbrev pub IsTrustedAtClose : ℕ → ℕ → Type 0
   IsTrustedAtClose = IsTrustedBetween g frames base (trusted_bound g frames)
 

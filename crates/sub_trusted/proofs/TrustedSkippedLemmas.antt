@@ -1,4 +1,5 @@
--- A skipped PES packet invalidates the frame before it, so it was not sent in trusted frames.
+-- A skipped PES packet invalidates the last frame before it, so it does not come directly after a
+-- trusted frame.
 use Rattle.std.proofs.lemmas.Bool.Decides.{nat_tests}
 use Rattle.std.proofs.Common.{◌≡◌, ℕ, suc, ◌+◌, ◌-◌, ◌<◌, ◌≤◌, ◌⊎◌, inl, inr, Bool, true, false}
 use Rattle.std.proofs.Common.{◌==◌}

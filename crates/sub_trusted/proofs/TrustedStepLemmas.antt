@@ -1,4 +1,5 @@
--- If the steps of a frame report frames as trusted, the guarantees hold for these frames.
+-- The trusted frames that the steps of a frame report belong to a run of fault-free frames and, if
+-- `within` is not 0, the page is finished at the end of at least one of them.
 use Rattle.std.proofs.lemmas.Bool.Decides.{nat_tests}
 use Rattle.std.proofs.Common.{◌≡◌, ℕ, zero, suc, ◌+◌, ◌-◌, ◌<◌, ◌≤◌, inl, inr, true, false, not}
 use Rattle.std.proofs.Common.{◌==◌, ◌&&◌, Bool, None, if◌then◌else◌, List, [], ◌∷◌, ◌++◌}
@@ -72,13 +73,13 @@ use Rattle.sub_rules.specs.Trusted.{has_no_active_faults, stays_fault_free, repo
 use Rattle.sub_rules.specs.Trusted.{events_reported_at_step, first_finished_of}
 
 module _ (g : Criteria) (frames : Transmission) (base : ℕ) where
-  -- The guarantees hold for trusted frames after the first `base` frames of the transmission and,
-  -- if all frame numbers increase, before the last frame.
+  -- The frames are trusted correctly, are after the first `base` frames of the transmission and, if
+  -- all frame numbers increase, before the last frame.
   abbrev pub IsTrustedBeforeEnd : ℕ → ℕ → Type 0
   IsTrustedBeforeEnd = IsTrustedBetween g frames base (end_frame frames)
 
-  -- The guarantees hold for the trusted frames that the steps report, and the history after the
-  -- steps has the property S.
+  -- The frames that the steps report as trusted are trusted correctly, as in `IsTrustedBeforeEnd`,
+  -- and the history after the steps has the property S.
   abbrev pub ReportsGoodStretches : (List CheckStep → Type 0)
       → List CheckStep → List CheckStep → Type 0
   ReportsGoodStretches S t ms = Goes IsTrustedBeforeEnd S t ms
@@ -132,7 +133,7 @@ module _ (g : Criteria) (frames : Transmission) (base : ℕ) where
       was : (from : ℕ) → run_of u ≡ Some from → run_of t ≡ Some from
       was from is = sym looks.run_eq ∙ is
 
-  -- The guarantees hold for the trusted frames that the steps at the end of frame f report, since
+  -- The frames that the steps at the end of frame f report as trusted are trusted correctly, since
   -- these steps invalidate no frame after f.
   pub end_steps_report_good_stretches : (n m f : ℕ) (t : List CheckStep) (S : List CheckStep → Type
       0)

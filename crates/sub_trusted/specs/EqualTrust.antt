@@ -12,7 +12,7 @@ use Rattle.sub_rules.specs.declared.event.Event.TheVariants.{Trusted}
 use Rattle.sub_laws.specs.CleanStretch.{HoldsAtFrameEnds, criteria_with_refusals}
 use Rattle.sub_trusted.specs.TrustedFrames.{rising_frames_of}
 
--- The subtitle is expected only in frames whose expected page is unknown.
+-- The subtitle ends after it begins, and is expected only in frames whose expected page is unknown.
 pub record IsDueOnlyIfUndecided (undecided : ℕ → Bool) (t : SubtitleValue) : Type 0 where
   pub times : t.tci < t.tco
   pub within : (f : ℕ) → t.tci ≤ f → f < t.tco → IsTrue (undecided f)
@@ -25,7 +25,7 @@ HasOtherSubtitles undecided judged (t ∷ all) =
     ((rest : List SubtitleValue) × (judged ≡ t ∷ rest) × HasOtherSubtitles undecided rest all)
     ⊎ (IsDueOnlyIfUndecided undecided t × HasOtherSubtitles undecided judged all)
 
--- The page is finished at the end of frame b.
+-- The page is finished at the end of frame b, if frame b ends in the transmission.
 abbrev pub IsFinishedAt : Criteria → List PesPacket → ℕ → Type 0
 IsFinishedAt g pes_packets b =
     HoldsAtFrameEnds (λ n f. IsFalse (is_unfinished g (rising_frames_of g pes_packets) n f))

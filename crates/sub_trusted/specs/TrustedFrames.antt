@@ -59,10 +59,10 @@ pub record MatchesReadPackets (read on_air : Transmission) (from to : ℕ) : Typ
   pub first : first_frame on_air ≤ first_frame read
   pub same : (f : ℕ) → from ≤ f → f ≤ to → packets_of on_air f ≡ packets_of read f
 
--- No skipped PES packet was sent in the frames `from` to `to`. A skipped packet belongs to the
--- frame of the PES packet before it, or comes after that frame, so that frame must not be one of
--- these frames. Skipped packets before the first frame, or after a frame number that does not
--- increase, do not count.
+-- No skipped PES packet comes directly after one of the frames `from` to `to`: the last frame that
+-- was read before a skipped packet, to which that packet may belong, is not one of these frames.
+-- Skipped packets before the first frame, or after a frame number that does not increase, do not
+-- count.
 abbrev pub IsSkippedOutside : Criteria → List PesPacket → ℕ → ℕ → Type 0
 IsSkippedOutside g pes_packets from to =
     (earlier later : List PesPacket) (u : UnreadReason)
@@ -72,12 +72,13 @@ IsSkippedOutside g pes_packets from to =
     → (last_frame (sent_by_pes_packets g earlier) < from) ⊎
     (to < last_frame (sent_by_pes_packets g earlier))
 
--- A property holds for any transmission that has the packets read in the frames `from` to `to`,
--- whatever is on air before and after them.
+-- No skipped PES packet comes directly after one of the frames `from` to `to`, and a property holds
+-- for any transmission that matches the packets that were read in these frames
+-- (`MatchesReadPackets`), whatever is on air before and after them.
 pub record StaysAsReadFromFile
     (g : Criteria) (pes_packets : List PesPacket) (from to : ℕ) (Stays : Transmission → Type 0)
     : Type 0 where
-  -- No skipped PES packet was sent in these frames.
+  -- No skipped PES packet comes directly after one of these frames.
   pub skipped : IsSkippedOutside g pes_packets from to
   pub stays : (on_air : Transmission) → MatchesReadPackets (rising_frames_of g pes_packets) on_air
       from to → Stays
@@ -129,9 +130,9 @@ LawOfKnownPages =
 -- ---- the frames that are reported as trusted
 
 -- The frames a to b could be reported as trusted: they have no fault that affects receivers, no
--- fault is active at any of their ends, no skipped PES packet was sent in them, and if `within` is
--- not 0, frame b is finished. They exclude the last frame before a frame number that does not
--- increase or before unreadable bytes.
+-- fault is active at any of their ends, no skipped PES packet comes directly after one of them, and
+-- if `within` is not 0, frame b is finished. They exclude the last frame before a frame number that
+-- does not increase or before unreadable bytes.
 pub record MayBeReportedAsTrusted (g : Criteria) (pes_packets : List PesPacket) (a b : ℕ) : Type 0
   where
     pub unreported : HasNoReceiverFault g (rising_frames_of g pes_packets) a b
@@ -150,7 +151,7 @@ pub record MayBeReportedAsTrusted (g : Criteria) (pes_packets : List PesPacket) 
     pub run_ends_before_unread_bytes : (u : UnreadReason) → g.unread ≡ Some u → b < last_frame
         (rising_frames_of g pes_packets)
 
--- The PES file has any event, or a subtitle was rejected.
+-- The PES file has any event, or the subtitle file has unreliable subtitles.
 abbrev pub IsAnythingReported : Criteria → List PesPacket → Type 0
 IsAnythingReported g pes_packets = (all_events_of_pes_packets g pes_packets ≢ []) ⊎ IsTrue
     g.any_unreliable

@@ -8,9 +8,10 @@ ghost use Rattle.sub_trusted.specs.TrustedFrames.{LawOfKnownPages};
 ghost use Rattle.sub_trusted.specs.TrustedRepeats.{LawOfTrustedRepeats};
 
 /// Trusted frames of a PES file can be broadcast unchanged, whatever is on air before and after
-/// them. The first trusted frame has a header that erases the page, and receivers recover from it.
-/// If `within` is not 0, at least one of the trusted frames is finished. No skipped PES packet was
-/// sent in them. If subtitles were rejected, this holds for the reliable subtitles.
+/// them. The first trusted frame has a header that erases the page, so a receiver that is tuned in
+/// at its beginning recovers. If `within` is not 0, at least one of the trusted frames is finished.
+/// No skipped PES packet comes directly after one of them. If subtitles were rejected, this holds
+/// for the reliable subtitles.
 pub fn law_of_trusted_repeats()
     ensures { LawOfTrustedRepeats }
 {}
@@ -38,9 +39,9 @@ pub fn law_of_equal_trust()
 
 /// If a PES file has any event, or subtitles were rejected, each range of frames without active
 /// faults and without faults that affect receivers is reported as trusted, from its first header
-/// that erases the page on. No skipped PES packet may have been sent in the range, and if `within`
-/// is not 0, its last frame must be finished. The range must end before the last frame that
-/// precedes a frame number that does not increase, or unreadable bytes.
+/// that erases the page on. No skipped PES packet may come directly after a frame of the range, and
+/// if `within` is not 0, its last frame must be finished. The range must end before the last frame
+/// that precedes a frame number that does not increase, or unreadable bytes.
 #[tactic(auto, using(crate::proofs::AllTrustedLemmas::law_of_all_trusted))]
 pub fn law_of_all_trusted()
     ensures { LawOfAllTrusted }

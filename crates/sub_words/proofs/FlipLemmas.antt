@@ -33,7 +33,7 @@ near-set (c ∷ cs) (g ∷ gs) zero bit near same below =
 near-set (c ∷ cs) (g ∷ gs) (suc k) bit near same below =
     (near.0, near-set cs gs k bit near.1 same below)
 
--- After one more flip, in a byte that had no flip, each byte still has at most one wrong bit.
+-- After one more flip, in a byte that was as sent, each byte still has at most one wrong bit.
 with_flip-near : (f : Flip) (number : ℕ) (sent got : List ℕ)
     → AreNear sent got
     → (f.packet ≡ number → slice_index got f.byte ≡ slice_index sent f.byte)

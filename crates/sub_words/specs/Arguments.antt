@@ -25,7 +25,7 @@ use Rattle.sub_request.specs.declared.pes_selection.TransportStream.{TransportSt
 use Rattle.sub_request.specs.declared.request.UsageFault.{UsageFault}
 use Rattle.sub_request.specs.declared.request.UsageFault.TheVariants as fault
 
--- The text of an argument; its default if the user gave none.
+-- The text of an argument; its default if the user gave none; empty if it has no default either.
 abbrev pub argument : Text → List Row → Text
 argument id rows = unwrap_or (first_of id rows) []
 
@@ -39,8 +39,8 @@ between least most None = None
 between least most (Some n) = if nat_le least n && nat_le n most then Some n else None
 
 -- The arguments `[--page P] [--origin T] [--complete]` as options with a repeat bound of 1 to
--- 2,160,000 frames (a day) and a PTS of 33 bits, or the first fault if a number is missing or out
--- of range. `complete` is not set for a command without this flag.
+-- 2,160,000 frames (a day) and a PTS of 33 bits, or the first fault if the page is invalid, or a
+-- number is missing or out of range. `complete` is not set for a command without this flag.
 abbrev pub options_of : Option ℕ → List Row → Result OptionsValue UsageFault
 options_of every rows = do
   page ← ok_or (page_of_text (argument (codes "page") rows)) fault.BadPage
@@ -58,14 +58,15 @@ options_of every rows = do
         keeps = false;
       })
 
--- The argument `[--within N]` as an option: the page must be right within 0 to 50 frames.
+-- The argument `[--within N]` as an option: the page must be right within N frames. The fault is
+-- `Within` if N is not 0 to 50.
 abbrev pub with_within_value : OptionsValue → List Row → Result OptionsValue UsageFault
 with_within_value options rows = do
   frames ← ok_or (between 0 50 (number_of_text (argument (codes "within") rows))) fault.Within
   Ok (record options { within = frames })
 
--- The argument `[--pace K]` as an option: the maximum distance of PES packets, 1 to 2,160,000
--- frames; without the argument there is no limit.
+-- The argument `[--pace K]` as an option: the maximum distance of PES packets, in frames. The fault
+-- is `Pace` if K is not 1 to 2,160,000. Without the argument the options do not change.
 abbrev pub options_with_pace : OptionsValue → List Row → Result OptionsValue UsageFault
 options_with_pace options rows =
     option_map_or
@@ -79,11 +80,12 @@ abbrev pub with_keeping_value : OptionsValue → List Row → OptionsValue
 with_keeping_value options rows =
     if has_flag (codes "keeping") rows then record options { keeps = true } else options
 
--- The national option of the argument `[--option O]`.
+-- The national option of the argument `[--option O]`, or the fault `BadOption`.
 abbrev pub national_of : List Row → Result National UsageFault
 national_of rows = ok_or (named_option (argument (codes "option") rows)) fault.BadOption
 
--- The layout of the argument `[--layout TEXT]`; the default layout without the argument.
+-- The layout of the argument `[--layout TEXT]`, or the fault `BadLayout`; the default layout
+-- without the argument.
 abbrev pub layout_of : List Row → Result Layout UsageFault
 layout_of rows =
     ok_or (option_map_or layout_of_text (first_of (codes "layout") rows) (Some default_layout))
@@ -97,7 +99,7 @@ parsed_if_present parsed id rows =
     option_map_or (λ text. option_map Some (parsed text)) (first_of id rows) (Some None)
 
 -- The arguments `[--from TIME] [--to TIME] [--open]` as a scope: the frames at which subtitles may
--- start, by default the whole day, and whether open subtitles are accepted.
+-- start, by default the whole day, and whether open subtitles are accepted. The fault is `BadTime`.
 abbrev pub scope_of : List Row → Result Scope UsageFault
 scope_of rows = do
   from ← ok_or (parsed_if_present frame_of_text (codes "from") rows) fault.BadTime
@@ -105,11 +107,11 @@ scope_of rows = do
   let takes_open = has_flag (codes "open") rows in
       Ok (record { takes_open = takes_open; from = unwrap_or from 0; to = unwrap_or to day })
 
--- The PID of the required argument `--pid P`.
+-- The PID of the required argument `--pid P`, or the fault `Pid`.
 abbrev pub required_pid_of : List Row → Result ℕ UsageFault
 required_pid_of rows = ok_or (pid_of_text (argument (codes "pid") rows)) fault.Pid
 
--- The packet size of the argument `[--packet-size S]`.
+-- The packet size of the argument `[--packet-size S]`, or the fault `PacketSize`.
 abbrev pub packet_size_of : List Row → Result PacketSize UsageFault
 packet_size_of rows =
     ok_or (packet_size_of_text (argument (codes "packet-size") rows)) fault.PacketSize
@@ -139,7 +141,8 @@ abbrev pub survey_pages_of_texts : List Text → Option (List (Option PageIdValu
 survey_pages_of_texts texts =
     option_and_then survey_pages (list_after_texts page_of_text is_same_page [] texts)
 
--- The pages of the arguments `[--page P]..`, which has a default.
+-- The pages of the arguments `[--page P]..`, or of the option's default; `None` if a page is
+-- invalid or given twice, or if there are more than eight pages.
 abbrev pub survey_pages_of : List Row → Option (List (Option PageIdValue))
 survey_pages_of rows = option_and_then survey_pages_of_texts (all_of (codes "page") rows)
 
@@ -153,7 +156,8 @@ survey_options_of pages rows = do
       fault.PacketSize
   Ok (record { pages = pages; pid = pid; packet_size = packet_size })
 
--- The range of PES packets of the argument `[--pes I-J]`, if the user gives one.
+-- The range of PES packets of the argument `[--pes I-J]`, if the user gives one; the fault `Range`
+-- if it is invalid.
 abbrev pub range_of_arguments : List Row → Result (Option PesPacketRangeValue) UsageFault
 range_of_arguments rows = ok_or (parsed_if_present range_of_text (codes "pes") rows) fault.Range
 
@@ -171,8 +175,8 @@ pes_selection_of rows = do
   range ← range_of_arguments rows
   Ok (record { name = argument (codes "recording") rows; stream = stream; range = range })
 
--- The items of an argument with a list. Without the argument, the list is empty; an empty text is a
--- fault.
+-- The items of an argument with a list; an empty list without the argument; `None` if the text is
+-- no valid list.
 abbrev pub parsed_list_of :
     {A : Type 0} → (Text → Option A) → (A → A → Bool) → Text → List Row → Option (List A)
 parsed_list_of parsed same id rows = option_map_or (list_of_text parsed same) (first_of id rows)

@@ -13,7 +13,7 @@ abbrev pub is_help_word : Text → Bool
 is_help_word word = bytes_eq word (codes "help") || is_help_flag word
 
 -- One of the two words requests help, and the other word is the name of a command. `help` must come
--- first: after a command it is the name of a file.
+-- first: after a command it is an argument of the command, such as the name of a file.
 abbrev pub is_help_of : Text → Text → Bool
 is_help_of first second =
     if is_command first then is_help_flag second else is_help_word first && is_command second

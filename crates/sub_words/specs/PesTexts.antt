@@ -29,7 +29,8 @@ number_of_hex_digits text =
     then Some (digits_value 16 text)
     else None
 
--- The PID that a text describes: `0x` and hexadecimal digits, or decimal digits; at most 8190.
+-- The PID that a text describes: `0x` and one to eight hexadecimal digits, or one to ten decimal
+-- digits; at most 8190; `None` for any other text.
 unfoldable pub pid_of_text : List ℕ → Option ℕ
 pid_of_text text = do
   number ← option_map_or number_of_hex_digits (digits_after_0x text) (number_of_text text)
@@ -37,7 +38,7 @@ pid_of_text text = do
 
 -- ---- the argument for the packet size
 
--- The packet size that a text describes: 188, 192 or 204 bytes.
+-- The packet size that a text describes: 188, 192 or 204 bytes; `None` for any other text.
 unfoldable pub packet_size_of_text : List ℕ → Option PacketSize
 packet_size_of_text text =
     if bytes_eq text (codes "188") then Some Plain
@@ -63,7 +64,7 @@ texts_around_dash text =
     else None
 
 -- The range of PES packets from the first number to the last, or to the end of the file if the text
--- of the last number is empty; `None` if the last is before the first.
+-- of the last number is empty; `None` if a text is no number or the last is before the first.
 abbrev pub range_of_numbers : List ℕ → List ℕ → Option PesPacketRangeValue
 range_of_numbers first last = do
   first ← number_of_text first
@@ -72,6 +73,6 @@ range_of_numbers first last = do
       else (number_of_text last >>= (λ last. range_of first (Some last)))
 
 -- The range of PES packets that a text describes: `I-J` with I at most J, or `I-` to the end of the
--- file.
+-- file; `None` for any other text.
 unfoldable pub range_of_text : List ℕ → Option PesPacketRangeValue
 range_of_text text = texts_around_dash text >>= (λ numbers. range_of_numbers numbers.0 numbers.1)

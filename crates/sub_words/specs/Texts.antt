@@ -42,7 +42,8 @@ list_after_texts parsed same items (text ∷ texts) = do
   x ← parsed text
   if list_any (same x) items then None else list_after_texts parsed same (items ++ x ∷ []) texts
 
--- The list that a text describes: 1 to 64 different items, separated by commas.
+-- The list that a text describes: 1 to 64 items, separated by commas, none of which equals an
+-- earlier item by the test `same`; `None` for any other text.
 abbrev pub list_of_text :
     {A : Type 0} → (List ℕ → Option A) → (A → A → Bool) → List ℕ → Option (List A)
 list_of_text parsed same text =
@@ -52,7 +53,7 @@ list_of_text parsed same text =
 -- ---- the bits to flip
 
 -- The flip that three texts describe: the number of a packet, a byte from 0 to 41, and a bit from 1
--- to 8.
+-- to 8; `None` for any other texts.
 abbrev pub flip_of_fields : List (List ℕ) → Option Flip
 flip_of_fields (packet ∷ byte ∷ bit ∷ []) = do
   packet ← number_of_text packet
@@ -63,7 +64,8 @@ flip_of_fields (packet ∷ byte ∷ bit ∷ []) = do
       else None
 flip_of_fields _ = None
 
--- The flip that a text describes: packet, byte and bit, separated by colons.
+-- The flip that a text describes: packet, byte and bit, separated by colons; `None` for any other
+-- text.
 unfoldable pub flip_of_text : List ℕ → Option Flip
 flip_of_text text = flip_of_fields (slice_split (λ c. c == colon) text)
 
@@ -71,7 +73,8 @@ flip_of_text text = flip_of_fields (slice_split (λ c. c == colon) text)
 abbrev pub is_same_byte : Flip → Flip → Bool
 is_same_byte a b = (a.packet == b.packet) && (a.byte == b.byte)
 
--- The flips that a text describes, separated by commas, at most one in each byte of a packet.
+-- The flips that a text describes, 1 to 64, separated by commas, at most one in each byte of a
+-- packet; `None` for any other text.
 unfoldable pub flips_of_text : List ℕ → Option (List Flip)
 flips_of_text text = list_of_text flip_of_text is_same_byte text
 
@@ -94,8 +97,8 @@ has_colons text =
     && (slice_index text 5 == colon)
     && (slice_index text 8 == colon)
 
--- The frame of the day for the text of a time code with four pairs of digits; `None` if the time
--- code is invalid (EBU Tech 3264, TCI and TCO).
+-- The frame of the day for the text of a time code with four pairs of digits; `None` if a pair is
+-- not two digits, or the time code is invalid (EBU Tech 3264, TCI and TCO).
 abbrev pub frame_of_digits : List ℕ → Option ℕ
 frame_of_digits text = do
   hours ← two_digits_at text 0
@@ -106,13 +109,14 @@ frame_of_digits text = do
       then Some (frame_of hours minutes seconds frames)
       else None
 
--- The frame of the day that a text `HH:MM:SS:FF` describes, two digits each.
+-- The frame of the day that a text `HH:MM:SS:FF` describes, two digits each; `None` for any other
+-- text.
 unfoldable pub frame_of_text : List ℕ → Option ℕ
 frame_of_text text = if has_colons text then frame_of_digits text else None
 
 -- ---- the state of the receiver
 
--- The receiver that a text names: `blank`, `keep`, `drop` or `anew`.
+-- The receiver that a text names: `blank`, `keep`, `drop` or `anew`; `None` for any other text.
 unfoldable pub receiver_of_text : List ℕ → Option ReceiverKind
 receiver_of_text text =
     if bytes_eq text (codes "blank") then Some Blank

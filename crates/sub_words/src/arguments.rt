@@ -36,7 +36,8 @@ pub fn argument_at<'a>(matches: &ArgMatches<'a>, id: &str) -> Option<&'a str>
     matches.get_str(id)
 }
 
-/// Returns the text of an argument; its default if the user gave none.
+/// Returns the text of an argument; its default if the user gave none; an empty text if it has no
+/// default either.
 pub fn text_at<'a>(matches: &ArgMatches<'a>, id: &str) -> &'a str
     ensures { result.now ≡ argument id.now (rows_of (found_of matches.now)) }
 {

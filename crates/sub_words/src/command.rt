@@ -1,7 +1,7 @@
 //! The command line as rules for `clap`: one level of subcommands, one of which is required.
 //!
 //! The table of commands is repeated in specs/Commands. The rules do not define help and version,
-//! so `clap` refuses these words.
+//! so for `clap` the options `--help` and `--version` do not exist.
 ghost use Rattle.std.specs.Prelude.{◌≡◌, IfOk, false, map};
 ghost use Rattle.std.specs.List.{fold};
 ghost use Rattle.clap.specs.Words.{app_of, new_app, rule_of, with_rule};

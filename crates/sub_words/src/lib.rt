@@ -1,7 +1,7 @@
 //! Parses the arguments of the command line as a request.
 //!
-//! Only `Request::parse` uses `clap`: the module `command` defines the command line, and a separate
-//! function reads each argument of the result.
+//! The module `command` defines the command line for `clap`. `Request::parse` reads the matches
+//! that `clap` returns, and `explanation_of` explains why arguments are refused.
 //!
 //! ```text
 //! let request = Request::parse(alloc, &["subttx", "show", "film.stl"])?;

@@ -27,7 +27,8 @@ pub trait Item: Copy {
         ensures { result ≡ same self.now other.now };
 }
 
-/// Parses a list: 1 to 64 different items, separated by commas. Returns `None` for any other text.
+/// Parses a list: 1 to 64 items, separated by commas, no two of which are the same by `is_same`.
+/// Returns `None` for any other text.
 ///
 /// Works with any allocator, so that a test can let an allocation fail.
 ///
@@ -56,8 +57,8 @@ fn texts_of<A: Allocator>(alloc: A, text: &str) -> Result<Vec<&str, A>, AllocErr
     text.split(',').collect(alloc)
 }
 
-/// Returns the items of the texts, or `None` if a text is no item, or an item equals an earlier
-/// item.
+/// Returns the items of the texts, or `None` if a text is no item, or an item is the same as an
+/// earlier item by `is_same`.
 ///
 /// # Errors
 ///
@@ -109,7 +110,7 @@ fn add_item<A: Allocator, T: Item>(list: &mut Vec<T, A>, text: &str) -> Result<b
     Ok(true)
 }
 
-// Returns whether a list contains an item equal to `item`.
+// Returns whether a list contains an item that is the same as `item` by `is_same`.
 fn is_listed<T: Item>(item: &T, list: &[T]) -> bool
     ensures { result ≡ list_any (T.same item.now) list.now }
 {

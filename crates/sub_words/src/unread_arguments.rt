@@ -1,4 +1,4 @@
-//! Finds the first argument that `clap` refuses, and says what is wrong with it.
+//! Finds what is wrong with arguments that `clap` refuses, such as the first unknown option.
 //!
 //! Reads the same table of commands as the rules for `clap`. `clap` alone decides whether arguments
 //! are refused. No contract covers the words.
@@ -52,7 +52,7 @@ fn explain_help<'a>(first: &'a str, second: Option<&'a str>) -> Explanation<'a> 
     }
 }
 
-// Returns an argument that is not the name of a command.
+// Returns the argument, if it is given and is not the name of a command.
 fn wrong_command<'a>(argument: Option<&'a str>) -> Option<&'a str> {
     let word = argument?;
     if is_command(word) { None } else { Some(word) }
@@ -79,11 +79,11 @@ struct Scan<'a> {
     value_follows: bool,
     // Whether `--` was read: no later argument is an option.
     is_escaped: bool,
-    // The number of arguments without a name.
+    // The number of arguments that are no options, such as file names.
     positions: usize,
-    // Whether each argument of the table was given.
+    // Whether each option in the table of arguments was given.
     given: [bool; 32],
-    // The first wrong argument.
+    // The line about the first wrong argument.
     found: Option<Explanation<'a>>,
 }
 
@@ -184,7 +184,7 @@ fn read_option<'a>(
 }
 
 // Returns the place of an option in the table of a command, whether the option takes a value, and
-// whether it may be given more than once.
+// whether it may be given more than once; `None` if the command has no such option.
 fn option_named(table: &[Argument], name: &str) -> Option<(usize, bool, bool)> {
     let name = name.strip_prefix("--")?;
     for place in 0..table.len() {

@@ -18,14 +18,14 @@ use std::fmt::{Display, Formatter};
 use sub_request::{Request, UsageFault};
 use ttx_packet::PageId;
 
-/// The line about wrong arguments: `subttx: ARGUMENT VALUE: ADVICE`.
+/// The line about wrong arguments: `subttx: ARGUMENT VALUE: ADVICE`, and how the command is called.
 #[derive(Clone, Copy)]
 pub struct Explanation<'a> {
-    /// The name of an argument or a command, from this program's own texts. May be empty.
+    /// The name of an argument or a command, as in this program's own texts. May be empty.
     pub argument: &'a str,
-    /// The text that the user gave, which is escaped.
+    /// The text that the user gave, if the line has one. It is escaped when it is printed.
     pub value: Option<&'a str>,
-    /// What to give instead.
+    /// What is wrong, or what to give instead.
     pub advice: &'a str,
     /// How the command is called. May be empty.
     pub usage: &'a str,
@@ -77,8 +77,8 @@ pub fn explanation_of<'a>(alloc: Global, arguments: &'a [&'a str]) -> Option<Exp
     }
 }
 
-// Returns the line about an argument whose value is wrong. Returns `None` for a fault of the
-// program itself.
+// Returns the line about an argument whose value is wrong. Returns `None` for a fault that no value
+// of an argument causes.
 fn explain_value<'a>(fault: &UsageFault, matches: &ArgMatches<'a>) -> Option<Explanation<'a>> {
     let (argument, id, advice) = match fault {
         UsageFault::BadPage => return explain_page(matches),
@@ -95,7 +95,8 @@ fn explain_value<'a>(fault: &UsageFault, matches: &ArgMatches<'a>) -> Option<Exp
     })
 }
 
-// Returns the option with a fault, its name in the table of commands, and its permitted values.
+// Returns the option with a fault, its name in the table of commands, and its permitted values;
+// `None` for a fault that is not a fault of one option's value.
 #[rattlefmt::skip]
 fn option_of(fault: &UsageFault) -> Option<(&'static str, &'static str, &'static str)> {
     Some(match fault {

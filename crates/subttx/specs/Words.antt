@@ -10,7 +10,8 @@ use Rattle.clap.specs.Words.{Text}
 use Rattle.sub_request.specs.declared.request.UsageFault.{UsageFault}
 use Rattle.sub_request.specs.declared.request.UsageFault.TheVariants as usage
 
--- The fault if the system returned no arguments: memory ran out, or an argument is not valid text.
+-- The fault if the system returned no arguments: `Memory` if memory ran out; otherwise `Words`, as
+-- for an argument that is not valid text.
 abbrev pub argument_fault : ErrorKind → UsageFault
 argument_fault OutOfMemory = usage.Memory
 argument_fault _ = usage.Words

@@ -13,8 +13,8 @@ use sub_request::UsageFault;
 ///
 /// # Errors
 ///
-/// Returns `Memory` if memory ran out, and `Words` if the system returned no arguments because one
-/// of them is not valid text.
+/// Returns `Memory` if memory ran out, and `Words` if the system returned no arguments for another
+/// reason, such as an argument that is not valid text.
 pub fn collect_arguments(alloc: Global, given: io::Result<Args>) -> Result<Vec<String>, UsageFault>
     ensures arguments { IfOk result (λ arguments.
         arguments_given given ≡ Ok (map (λ word. string_bytes word) arguments.items)) }

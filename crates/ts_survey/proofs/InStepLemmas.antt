@@ -36,8 +36,8 @@ packet_size_at_most_204 ErrorCorrected = omega arith
 
 pub ruleset sizes = (packet_size_at_least_188, packet_size_at_most_204)
 
--- Whether a packet begins at an offset depends only on the bytes received so far and on the byte
--- one packet size later.
+-- Whether a packet begins at an offset of the bytes received so far depends only on the byte there
+-- and, out of step, on the byte one packet size later.
 pub two_bytes_decide_packet_start : (distance place : ℕ) (in_step : Bool) (bytes more : List ℕ)
     → place < length bytes
     → begins_packet distance in_step (drop place (bytes ++ more))
@@ -412,7 +412,8 @@ found_skips IsTaken old mid new before reported after bytes is_end at next first
     (rw skipped_before (grind (arith, nat_tests)))
     refl)
 
--- Items that were found in bytes are also found in a longer list that begins with these bytes.
+-- Items that were found in bytes before the end of a recording are also found in a longer list that
+-- begins with these bytes.
 found_ahead :
     {T : Type 0} (IsTaken : T → List ℕ → T → Type 0) (old new : PacketsInStep) (before after : T)
     (bytes more : List ℕ) (is_end : Bool) (place : ℕ)

@@ -1,4 +1,4 @@
--- Reading more of a recording changes neither its kind nor the requested options.
+-- Reading more of a recording changes neither its kind, once known, nor the requested options.
 use Rattle.std.proofs.Common.{◌≡◌, Bool, false, List, [], ◌++◌, ℕ, Option, Some, None, ◌∷◌, ◌∙◌, ap}
 use Rattle.std.proofs.Common.{append-nil, append_assoc, refl, subst, sym, take, true}
 use Rattle.std.proofs.KnownBytes.{Appends-trans}

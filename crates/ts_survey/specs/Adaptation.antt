@@ -17,7 +17,7 @@ use Rattle.std.specs.Prelude.{if◌then◌else◌, List, [], length, slice_index
 use Rattle.std.specs.Prelude.{None}
 use Rattle.mpeg_ts.specs.TransportPacket.{has_adaptation_field, has_payload, is_unusable, payload}
 
--- The bit random_access_indicator of a transport packet.
+-- The bit random_access_indicator of a transport packet, or false if the packet has none.
 abbrev pub has_random_access_indicator : List ℕ → Bool
 has_random_access_indicator p =
     has_adaptation_field p && not (slice_index p 4 == 0) && (slice_index p 5 / 0x40 % 2 == 1)
@@ -60,7 +60,8 @@ pts_of_pes_packet pes =
     else Some (timestamp_at pes 9)
 
 -- When the first picture of a PES packet with this PTS is decoded: its DTS, or its PTS if
--- PTS_DTS_flags announce no DTS (ISO/IEC 13818-1). `None` if the bytes end within the DTS.
+-- PTS_DTS_flags announce no DTS (ISO/IEC 13818-1). `None` if there is no PTS, or if the bytes end
+-- before the end of the DTS.
 abbrev pub first_decoding_time : List ℕ → Option ℕ → Option ℕ
 first_decoding_time pes None = None
 first_decoding_time pes (Some pts) =
@@ -68,7 +69,7 @@ first_decoding_time pes (Some pts) =
     else if nat_lt (length pes) 19 then None
     else Some (timestamp_at pes 14)
 
--- When the first picture of a PES packet is decoded. `None` if the PES packet has no PTS, or its
--- bytes end within the DTS.
+-- When the first picture of a PES packet is decoded. `None` if `pts_of_pes_packet` is `None`, or if
+-- the bytes end before the end of the DTS.
 abbrev pub decoding_time : List ℕ → Option ℕ
 decoding_time pes = first_decoding_time pes (pts_of_pes_packet pes)

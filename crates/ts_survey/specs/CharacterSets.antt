@@ -43,7 +43,8 @@ data_bits word =
     + word / 0x1_0000 % 0x80 * 0x800
 
 -- The data bits of a Hamming 24/18 word, with a single wrong bit corrected. Test F, of all bits,
--- passes if no bit is wrong or two bits are. `None` if two bits are wrong.
+-- passes if no bit is wrong or two bits are. `None` if two bits are wrong, or if test F fails and
+-- the other tests give a place above 23.
 abbrev pub corrected_data_bits : ℕ → Option ℕ
 corrected_data_bits word =
     if count_ones word % 2 == 1
@@ -58,8 +59,9 @@ triplet first second third = corrected_data_bits (first + second * 0x100 + third
 
 -- ---- the contents of a packet (EN 300 706, X/28 and M/29, designations 0 and 4, triplet 1)
 
--- The character set in bits 8 to 14 of triplet 1. A packet X/28 has a set only if bits 1 to 4, the
--- page function, have the value for a page that is shown.
+-- The character set in bits 8 to 14 of triplet 1; `Some None` if the triplet cannot be decoded. A
+-- packet X/28 has a set only if bits 1 to 4, the page function, have the value for a page that is
+-- shown.
 abbrev pub set_from_triplet : ℕ → Option ℕ → Option (Option ℕ)
 set_from_triplet number None = Some None
 set_from_triplet number (Some bits) =
@@ -70,8 +72,8 @@ abbrev pub pair_with_designation : ℕ → Option (Option ℕ) → Option (ℕ �
 pair_with_designation designation None = None
 pair_with_designation designation (Some set) = Some (designation, set)
 
--- The designation and the character set of a packet, if its designation byte can be decoded and is
--- 0 or 4.
+-- The designation of a packet and the character set that `set_from_triplet` gives, if the
+-- designation byte can be decoded and is 0 or 4, and if `set_from_triplet` is not `None`.
 abbrev pub set_with_designation : Option ℕ → ℕ → List ℕ → Option (ℕ × Option ℕ)
 set_with_designation None number p = None
 set_with_designation (Some designation) number p =
@@ -80,8 +82,8 @@ set_with_designation (Some designation) number p =
     (set_from_triplet number (triplet (slice_index p 3) (slice_index p 4) (slice_index p 5)))
     else None
 
--- The designation and the character set of a packet of the page's magazine. A packet X/28 counts
--- only after a header of the page.
+-- The designation and the character set of a packet X/28 or M/29 of the page's magazine, if it has
+-- them. A packet X/28 counts only after a header of the page.
 abbrev pub set_of_packet : ℕ → Bool → List ℕ → Option (ℕ × Option ℕ)
 set_of_packet number is_requested_page p =
     if (number == 29) || ((number == 28) && is_requested_page) then set_with_designation

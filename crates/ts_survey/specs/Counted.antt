@@ -64,7 +64,7 @@ pub record ReadsStream (received buffered : List ℕ) (is_end : Bool) (packets :
   pub left : buffered ≡ drop used (drop skipped_before received)
 
 -- How far a recording was read: a stream, up to the buffered bytes; while the kind of the recording
--- is unknown, all bytes after the skipped bytes are buffered.
+-- is unknown, all bytes after the skipped bytes are buffered. Nothing is required of other kinds.
 abbrev pub HasReadUpToBuffer : Kind → ℕ → List ℕ → List ℕ → Bool → Type 0
 HasReadUpToBuffer Unknown skipped received buffered is_end = (skipped ≤ length received) ×
     (buffered ≡ drop skipped received)
@@ -72,7 +72,7 @@ HasReadUpToBuffer (Stream packets multiplex) skipped received buffered is_end = 
     buffered is_end packets
 HasReadUpToBuffer _ skipped received buffered is_end = ⊤
 
--- No more bytes of the stream were read.
+-- If the recording is a transport stream before and after, no more bytes of it were read.
 abbrev pub ReadsNoMoreOfStream : Kind → Kind → Type 0
 ReadsNoMoreOfStream (Stream packets multiplex) (Stream after reported) = after ≡ packets
 ReadsNoMoreOfStream _ _ = ⊤
@@ -81,7 +81,8 @@ ReadsNoMoreOfStream _ _ = ⊤
 
 -- All packets of the stream were counted, each once, and all bytes that belong to no packet: those
 -- before the stream, between packets, and after the last packet. A packet takes up its whole
--- distance of 188, 192 or 204 bytes.
+-- distance of 188, 192 or 204 bytes; a time stamp before the first packet is not counted. Counts
+-- saturate at 64 bits.
 pub record CountsStream (received : List ℕ) (packets : PacketsInStep) : Type 0 where
   pub skipped_before : ℕ
   pub within : skipped_before ≤ length received

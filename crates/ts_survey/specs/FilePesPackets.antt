@@ -18,8 +18,8 @@ complete_packet_size bytes =
     || nat_lt (length bytes) (stated_size bytes) then None
     else Some (stated_size bytes)
 
--- The complete PES packets at the front of the bytes were counted, in order, each once. The rest of
--- the bytes begins with no complete PES packet.
+-- The complete PES packets at the front of the bytes were counted, in order, each once, in a count
+-- that saturates. The rest of the bytes begins with no complete PES packet.
 pub data CountsPesPackets : ℕ → List ℕ → List ℕ → ℕ → Type 0 where
   no_complete_packet :
       (count : ℕ) (rest : List ℕ)

@@ -14,7 +14,7 @@ use Rattle.ts_survey.specs.declared.text.Text.{Text}
 
 -- ---- the text of the first lines
 
--- The number of first bytes of a recording that are printed.
+-- The number of first bytes of a recording that are printed, if the recording has so many.
 abbrev pub head_size : ℕ
 head_size = 11
 
@@ -42,7 +42,8 @@ requested_pid_texts None = []
 requested_pid_texts (Some pid) = teletext_line pid
 
 -- The lines that report the kind of a recording: a file of PES packets, a transport stream, or
--- neither.
+-- neither. For a transport stream, the line of the requested PID follows, if a PID is requested.
+-- There is no line while the kind is unknown.
 abbrev pub kind_texts : Kind → List (List ℕ)
 kind_texts Unknown = []
 kind_texts (Pes file) = codes "size 0\n" ∷ []
@@ -70,14 +71,15 @@ is_pes _ = false
 abbrev pub head_texts_if_received : Bool → List ℕ → List (List ℕ)
 head_texts_if_received has_head head = if has_head then head_texts head else []
 
--- The lines `survey 1` and `head`, unless they were printed before.
+-- The lines `survey 1` and `head`, once the first bytes of the recording are received, unless they
+-- were printed before.
 abbrev pub newly_reported_head : Bool → List ℕ → Bool → List (List ℕ)
 newly_reported_head before bytes after = if before then [] else head_texts_if_received after
     (take head_size bytes)
 
 -- Bytes of a recording of unknown kind were examined; the kind may still be unknown afterwards. If
--- memory did not run out, exactly these lines were printed: `survey 1` and `head`, if enough bytes
--- were received and unless they were printed before, and the lines of the kind.
+-- memory did not run out, exactly these lines were printed: `survey 1` and `head`, once the first
+-- bytes are received and unless they were printed before, and the lines of the kind.
 pub record FindsKind (old : Recording) (bytes : List ℕ) (before after : Text) (new : Recording)
     : Type 0 where
   pub reported :

@@ -33,7 +33,7 @@ pub record PassesOnNextPart
   pub taken : IsTaken old next_part new
 
 -- The events of a PID are processed one after another: after each event, the receiver gets all data
--- that the event completes.
+-- that the event completes. Once the data has ended (`has_ended`), events have no effect.
 abbrev pub ReceivesEventOutput :
     {T : Type 0} → (T → List ℕ → T → Type 0) → JoiningValue → T → List PidEvent → T → Type 0
 ReceivesEventOutput IsTaken j old [] new = new ≡ old

@@ -5,7 +5,8 @@ use Rattle.std.specs.Prelude.{slice_index, Option, Some, None}
 use Rattle.std.specs.Borrow.{Bor}
 use Rattle.ttx_packet.specs.BitOrder.{mirror}
 
--- The offset of the first data unit in a PES packet: after the header and data_identifier.
+-- The offset of the first data unit in a PES packet: after the header and data_identifier. If there
+-- are fewer than ten bytes, it is their number.
 abbrev pub first_unit_offset : List ℕ → ℕ
 first_unit_offset pes = if nat_lt 9 (length pes) then 10 + slice_index pes 8 else length pes
 

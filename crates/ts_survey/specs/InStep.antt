@@ -51,7 +51,7 @@ reports_of_items distance run (Skipped ∷ more) =
     gap_report distance (saturating_count run 1) ++ reports_of_items distance
     (saturating_count run 1) more
 
--- At the end of the recording, the number of bytes after `place`, which belong to no packet; 0
+-- At the end of the recording, the number of bytes from `place` on, which belong to no packet; 0
 -- before the end.
 abbrev pub unprocessed_at_end : Bool → List ℕ → ℕ → ℕ
 unprocessed_at_end is_end bytes place = if is_end then length bytes - place else 0

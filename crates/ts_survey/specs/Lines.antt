@@ -5,7 +5,7 @@ use Rattle.std.specs.List.{concat}
 use Rattle.ts_survey.specs.Text.{AddsBytes}
 use Rattle.ts_survey.specs.declared.text.Text.{Text}
 
--- These words were added to the text, one after another.
+-- These words were added to the text, one after another, unless the text is lost afterwards.
 abbrev pub AddsTexts : Text → List (List ℕ) → Text → Type 0
 AddsTexts old words new = AddsBytes old (concat words) new
 

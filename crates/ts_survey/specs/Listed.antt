@@ -1,5 +1,6 @@
--- The output of `survey` begins with the kind of the recording and the requested options, and ends
--- with the numbers of its packets and of the bytes that belong to no packet.
+-- The output of `survey` begins with the first bytes and the kind of the recording and with the
+-- requested options. It ends with the numbers of its packets and of the bytes that belong to no
+-- packet.
 use Rattle.std.specs.Prelude.{◌≡◌, ⊤, true, false, ℕ, List, [], ◌∷◌, ◌++◌, Option, IfSome}
 use Rattle.std.specs.Prelude.{codes, take}
 use Rattle.std.specs.Io.KnownBytes.{Appends}
@@ -40,7 +41,8 @@ pub record KeepsSizeAndOptions (packets : PacketsInStep) (multiplex : Multiplex)
   pub size : after.size ≡ packets.size
   pub keeps : KeepsRequested multiplex reported
 
--- More of a recording was read, and its kind did not change.
+-- The kind of a recording did not change, and a transport stream has kept its packet size and its
+-- options.
 abbrev pub KeepsKind : Kind → Kind → Type 0
 KeepsKind Unknown Unknown = ⊤
 KeepsKind (Pes file) (Pes after) = ⊤
@@ -56,8 +58,8 @@ abbrev pub stream_packet_count : Kind → ℕ
 stream_packet_count (Stream packets multiplex) = packets.number
 stream_packet_count _ = 0
 
--- The number of bytes that belong to no packet. If the recording is neither a transport stream nor
--- a file of PES packets, these are all its bytes.
+-- The number of bytes that belong to no packet: 0 for a file of PES packets, the bytes that a
+-- transport stream skipped, and otherwise `skipped`.
 abbrev pub skipped_count_for_kind : Kind → ℕ → ℕ
 skipped_count_for_kind (Pes file) skipped = 0
 skipped_count_for_kind (Stream packets multiplex) skipped = packets.skipped
@@ -68,7 +70,7 @@ abbrev pub counts_line : ℕ → ℕ → List (List ℕ)
 counts_line skipped number =
     codes "over" ∷ space_and_number skipped ∷ space_and_number number ∷ line_end ∷ []
 
--- The number of bytes of a recording that belong to no packet.
+-- The number of bytes of a recording that belong to no packet; 0 for a file of PES packets.
 abbrev pub skipped_count_of_recording : Recording → ℕ
 skipped_count_of_recording r = skipped_count_for_kind r.kind r.skipped
 
@@ -80,8 +82,8 @@ pub record ReportsEnd (r : Recording) (new : Text) : Type 0 where
 
 -- ---- the lines of a recording
 
--- The output for a recording after the bytes received: the lines of its kind, followed by other
--- lines.
+-- The output for a recording after the bytes received: the first lines, if they were printed, and
+-- the lines of its kind, followed by other lines once the kind is known.
 pub record IsReported (recording : Recording) (received listing : List ℕ) : Type 0 where
   pub more : List ℕ
   pub reported :

@@ -32,6 +32,6 @@ KeepsRequested old new =
     × (unrequested_followed_pids new ≡ unrequested_followed_pids old)
 
 -- Processing a packet, or a loss of packets, changes neither the requested PID nor the requested
--- pages.
+-- pages, and follows no further PID that is not requested.
 abbrev pub packet_keeps_requested : Multiplex → List ℕ → Multiplex → Type 0
 packet_keeps_requested old packet new = KeepsRequested old new

@@ -58,8 +58,8 @@ crc_of bytes = fold crc_after_byte 0xFFFF_FFFF bytes
 
 -- ---- the contents of sections
 
--- The name of a section, which distinguishes it from other sections: table_id, the number after it,
--- and section_number.
+-- The name of a section, which distinguishes it from other sections: table_id, the number in bytes
+-- 3 and 4, and section_number. `None` if the section is shorter than 12 bytes.
 abbrev pub section_name_of : List ℕ → Option SectionName
 section_name_of s =
     if nat_lt (length s) 12 then None
@@ -81,7 +81,7 @@ pmt_pid_at s place =
     if nat_lt (length s) (place + 8) then None
     else (if number_at s place == 0 then Some 0x1FFF else Some (pid_at s (place + 2)))
 
--- The programme that a PMT describes.
+-- The programme that a PMT describes, or `None` if the section is shorter than 16 bytes.
 abbrev pub programme_of : List ℕ → Option Programme
 programme_of s =
     if nat_lt (length s) 16 then None
@@ -91,7 +91,7 @@ programme_of s =
       first = 12 + length_at s 10;
     })
 
--- The stream that a PMT describes at an offset.
+-- The stream that a PMT describes at an offset, or `None` after the last stream.
 abbrev pub stream_at : List ℕ → ℕ → Option Stream
 stream_at s place =
     if nat_lt (length s) (place + 9) then None
@@ -102,8 +102,8 @@ stream_at s place =
       end = place + 5 + length_at s (place + 3);
     })
 
--- The descriptor at an offset, cut off at `end`: descriptor_tag, descriptor_length, and that many
--- bytes.
+-- The descriptor at an offset: descriptor_tag, descriptor_length, and that many bytes, cut off at
+-- `end` or at the end of the bytes. `None` if fewer than two bytes are left there.
 abbrev pub descriptor_at : List ℕ → ℕ → ℕ → Option Descriptor
 descriptor_at bytes place end =
     if nat_lt (min end (length bytes)) (place + 2) then None
@@ -119,7 +119,8 @@ abbrev pub lists_teletext_pages : Descriptor → Bool
 lists_teletext_pages d = (d.tag == 0x46) || (d.tag == 0x56)
 
 -- The page that a teletext_descriptor names at an offset (ETSI EN 300 468): ISO_639_language_code
--- (24 bits), teletext_type (5), teletext_magazine_number (3), teletext_page_number (8).
+-- (24 bits), teletext_type (5), teletext_magazine_number (3), teletext_page_number (8). `None` if
+-- fewer than five bytes are left before `end`.
 abbrev pub page_at : List ℕ → ℕ → ℕ → Option Announced
 page_at bytes place end =
     if nat_lt end (place + 5) then None

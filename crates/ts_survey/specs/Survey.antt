@@ -4,7 +4,7 @@ use Rattle.std.specs.Io.KnownBytes.{Appends}
 use Rattle.ts_survey.specs.declared.reporting.SurveyFault.{SurveyFault}
 use Rattle.ts_survey.specs.declared.reporting.SurveyFault.TheVariants.{Read, Write}
 
--- Some text was appended to the sink.
+-- Some text, which may be empty, was appended to the sink.
 abbrev pub AppendsSomeText : Option (List ℕ) → Option (List ℕ) → Type 0
 AppendsSomeText old new = (text : List ℕ) × Appends old new text
 

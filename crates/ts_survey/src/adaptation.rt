@@ -9,8 +9,9 @@ ghost use Rattle.ts_survey.specs.Adaptation.{timestamp_at};
 
 use mpeg_ts::{PACKET, has_adaptation_field, has_payload, is_unusable, payload_of};
 
-/// Returns random_access_indicator of a transport packet, or false if it has none: the next PES
-/// packet that begins in this packet or later starts with a picture that can be shown alone.
+/// Returns random_access_indicator of a transport packet, or false if it has none. The indicator
+/// means that the next PES packet, which begins in this packet or later, starts with a picture that
+/// can be shown alone.
 pub fn has_random_access_indicator(packet: &[u8; PACKET]) -> bool
     ensures { result ≡ has_random_access_indicator packet.now }
 {
@@ -63,7 +64,8 @@ pub fn payload_if_usable(packet: &[u8; PACKET]) -> &[u8]
 }
 
 /// Returns the PTS in the first bytes of a PES packet (ISO/IEC 13818-1, PES_packet). Returns `None`
-/// if the header has no PTS, and for a gap marker. Marker bits are not checked.
+/// if the header has no PTS, if fewer than 14 bytes are given, and for a gap marker. Marker bits
+/// are not checked.
 pub fn pts_of_pes_packet(pes: &[u8]) -> Option<u64>
     ensures value { result ≡ pts_of_pes_packet pes.now }
     ensures range { IfSome result (λ pts. pts < 2 ^ 33) }

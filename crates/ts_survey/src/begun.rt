@@ -6,8 +6,8 @@ use crate::clock::Clock;
 use crate::lead::Picture;
 use crate::text::Text;
 
-/// Compares a PTS that began in packet number `number` of a PID with the last picture of its
-/// programme, and with the PCR of its clock.
+/// Compares a PTS of a PID with the last picture of its programme and with the PCR of its clock, if
+/// they are known and a comparison is due. The PTS was received in transport packet `number`.
 pub fn process_new_pts(
     carrier: &mut Carrier,
     picture: Option<Picture>,

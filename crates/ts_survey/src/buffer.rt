@@ -13,8 +13,8 @@ use sub_io::{Failed, Source};
 /// for the bytes of one read.
 const BUFFER_SIZE: usize = 135_168;
 
-/// The number of bytes that are read at once; a feed returns fewer. A source that reads ahead at
-/// most this many bytes writes them from its device directly into the buffer.
+/// The number of bytes that are requested at once; a feed may return fewer. A source that reads
+/// ahead at most this many bytes writes them from its device directly into the buffer.
 const READ_SIZE: usize = 65_536;
 
 /// The result of reading from the source.
@@ -68,7 +68,7 @@ impl ReadBuffer {
         ensures buffered { IfOk result (λ _. BuffersMore
             (take self.old.len self.old.bytes.items) (take self.new.len self.new.bytes.items)
             (S.remaining source.old) (S.remaining source.new)) }
-        // The result is the end only if the source has no bytes left.
+        // If the buffer had room, the result is the end only if the source has no bytes left.
         ensures end { IfOk result (λ received. received.is_end ≡ true
             → self.old.len < vec_len self.old.bytes → IsAtEnd (S.remaining source.new)) }
         ensures size { vec_len self.new.bytes ≡ vec_len self.old.bytes }

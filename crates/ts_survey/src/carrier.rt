@@ -42,8 +42,8 @@ pub struct Carrier {
     packets: u64,
     scrambled: u64,
     header: PesHeader,
-    // The PTS of the last PES packet that began, of the last PES packet that was compared with the
-    // clock, and of the last PES packet that began before the last PCR.
+    // The last PTS that began, the last PTS that was compared with the clock, and the last PTS that
+    // began before the last PCR.
     begun: Option<u64>,
     last_sampled_pts: Option<u64>,
     pts_before_pcr: Option<u64>,
@@ -78,7 +78,8 @@ impl Carrier {
         self.pid
     }
 
-    /// Processes a packet of the PID, and returns the PTS that begins in it, if any.
+    /// Processes a packet of the PID. Returns the PTS if the packet completes the header of a PES
+    /// packet of private_stream_1 with a PTS.
     pub fn take(&mut self, packet: &[u8; PACKET], text: &mut Text) -> Option<u64>
         ensures { self.new.pid ≡ self.old.pid }
     {
@@ -101,8 +102,8 @@ impl Carrier {
     }
 
     // Counts the packets lost before a packet, and records an announced jump of the counter.
-    // Returns the PTS if the packet completes a PES header with a PTS. A repeat of the last good
-    // packet has no effect.
+    // Returns the PTS if the packet completes a PES header of private_stream_1 with a PTS. A repeat
+    // of the last good packet has no effect.
     fn note(&mut self, packet: &[u8; PACKET]) -> Option<u64>
         ensures { self.new.pid ≡ self.old.pid }
     {
@@ -162,7 +163,8 @@ impl Carrier {
         self.pid_packets_state.record_loss();
     }
 
-    /// Records a PCR of the PID's programme, and the PTS that began before the PCR.
+    /// Stores a PCR of the PID's programme if it is irregular, and records the PTS that began
+    /// before the PCR.
     pub fn note_pcr(&mut self, irregular_pcr: Option<IrregularPcr>, pids: &Pids, text: &mut Text)
         ensures { self.new.pid ≡ self.old.pid }
     {
@@ -186,8 +188,8 @@ impl Carrier {
         });
     }
 
-    /// Records the PTS of a PES packet. The PTS is stored with pending irregular PCRs, and is
-    /// compared with the clock if a second has passed since the last comparison.
+    /// Records the PTS of a PES packet: stores it with the pending irregular PCRs that have no PTS
+    /// after them yet, and compares it with `pcr` if there is one and a comparison is due.
     pub fn note_pts(&mut self, pts: u64, pcr: Option<u64>, text: &mut Text)
         ensures { self.new.pid ≡ self.old.pid }
     {
@@ -203,8 +205,8 @@ impl Carrier {
         }
     }
 
-    /// Returns whether a PTS is a second or more from the last PTS that was compared with the
-    /// clock, and no data is missing before it.
+    /// Returns whether no data is missing before a PTS, and the PTS is a second or more after the
+    /// last PTS that was compared with the clock, or before it, or none was compared yet.
     pub fn is_report_due(&self, pts: u64) -> bool {
         if self.pid_packets_state.to.is_broken() {
             return false;
@@ -216,8 +218,8 @@ impl Carrier {
     }
 
     /// Processes the PTS of a PES packet that began after a picture of the same programme. Prints a
-    /// line if the PES packet is the first after that picture, and a second has passed since the
-    /// last line.
+    /// line if the PES packet is the first after that picture, unless the PTS is less than a second
+    /// after that of the last line and the video PID is the same.
     pub fn take_lead(&mut self, pts: u64, picture: &Picture, text: &mut Text)
         ensures { self.new.pid ≡ self.old.pid }
     {
@@ -282,7 +284,8 @@ impl Carrier {
         self.pid_packets_state.to.flush(text);
     }
 
-    /// Ends the recording: prints the remaining lines of the PID, the counts last.
+    /// Ends the recording: prints the remaining lines of the PID except those of irregular PCRs,
+    /// the counts last.
     pub fn end(&self, text: &mut Text) {
         self.pid_packets_state.to.end(text);
         self.report_end(text);
@@ -305,7 +308,8 @@ impl Carrier {
     }
 }
 
-// Returns how many packets are lost before a good packet that is no repeat.
+// Returns how many packets are lost, by the counter, before a good packet that is no repeat; 0 for
+// the first packet and after an announced jump.
 fn lost_packets_before(counter: Option<u8>, is_jump: bool, packet: &[u8; PACKET]) -> u8 {
     match counter {
         Some(last) if !is_jump => {

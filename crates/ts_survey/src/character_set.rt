@@ -6,8 +6,8 @@ ghost use Rattle.ts_survey.specs.CharacterSets as specs;
 use crate::text::Text;
 use ttx_packet::{Packet, PageId, unham};
 
-/// The number of possible lines, each of which is printed once: packet 28 or 29, designation 0 or
-/// 4, 128 character sets or an unreadable one.
+/// The number of indices of lines, each of which is printed once: packet 28 or 29, designation 0 or
+/// 4, and 256 numbers, of which 129 are used: 128 character sets and an unreadable one.
 const LINE_INDEX_COUNT: usize = 1024;
 
 /// The lines of character sets that were printed.
@@ -17,14 +17,15 @@ pub struct CharacterSets {
 }
 
 // Returns the 18 data bits of three Hamming 24/18 bytes (EN 300 706, 8.3), with one wrong bit
-// corrected. Returns `None` if two bits are wrong.
+// corrected. Returns `None` if the bytes cannot be corrected.
 fn triplet(first: u8, second: u8, third: u8) -> Option<u32>
     ensures { result ≡ specs.triplet first second third }
 {
     corrected_data_bits(first as u32 + second as u32 * 0x100 + third as u32 * 0x1_0000)
 }
 
-// Returns the data bits of a Hamming 24/18 word of 24 bits, or `None` if two bits are wrong.
+// Returns the data bits of a Hamming 24/18 word of 24 bits, with one wrong bit corrected. Returns
+// `None` if the word cannot be corrected.
 fn corrected_data_bits(word: u32) -> Option<u32>
     ensures { result ≡ specs.corrected_data_bits word }
 {
@@ -42,7 +43,8 @@ fn corrected_data_bits(word: u32) -> Option<u32>
     Some(data_bits(with_bit_flipped(word, wrong)))
 }
 
-// Returns the place of a single wrong bit in a Hamming 24/18 word, or 0 for the last bit.
+// Returns the place of a single wrong bit in a Hamming 24/18 word; 0 if the last bit or no bit is
+// wrong.
 fn wrong_bit_position(word: u32) -> u32
     ensures { result ≡ specs.wrong_bit_position word }
 {
@@ -103,8 +105,8 @@ fn set_from_triplet(number: u8, bits: Option<u32>) -> Option<Option<u32>>
 }
 
 // Returns the designation and the character set of a packet 29, or of a packet 28 after a header of
-// the page. Returns `None` for other packets, other designations than 0 and 4, and for a packet 28
-// with another page function.
+// the page. Returns `None` for other packets, if the designation cannot be decoded or is neither 0
+// nor 4, and for a packet 28 with another page function.
 fn set_of_packet(packet: &Packet, number: u8, is_requested_page: bool) -> Option<(u8, Option<u32>)>
     ensures { result ≡ specs.set_of_packet number is_requested_page packet.now }
 {

@@ -6,7 +6,7 @@ use mpeg_ts::{PACKET, announces_jump};
 /// The number of ticks of a PTS or PCR base in a second.
 pub const CLOCK_TICKS_PER_SECOND: u64 = 90_000;
 
-/// The shortest interval in ticks after which a PCR may count as late: 0.1 s (ISO/IEC 13818-1).
+/// The longest interval in ticks after which no PCR counts as late: 0.1 s (ISO/IEC 13818-1).
 const MAX_USUAL_INTERVAL: u64 = 9_000;
 
 /// The number of last intervals whose median is the usual interval, and the least number of
@@ -79,7 +79,7 @@ fn is_usual_interval(ticks: u64, count: usize, median_interval: u64) -> bool {
 }
 
 /// An irregular PCR, which is late or smaller than the PCR before it: the numbers of the packets
-/// with the two PCRs, and the usual interval.
+/// with the two PCRs, their interval in ticks, and the usual interval in ticks and in packets.
 #[derive(Clone, Copy, Default)]
 pub struct IrregularPcr {
     pub first: u64,
@@ -123,8 +123,9 @@ impl Clock {
         self.is_announced = self.is_announced || announces_jump(packet);
     }
 
-    /// Processes a PCR in packet number `number`, and prints the PCR once a second. Returns the
-    /// interval before the PCR if the PCR is irregular.
+    /// Processes a PCR in packet number `number`, and prints the PCR unless it is less than a
+    /// second after the PCR printed last. Returns the interval before the PCR if the PCR is
+    /// irregular and no jump of the clock was announced.
     pub fn take(&mut self, pcr: u64, number: u64, text: &mut Text) -> Option<IrregularPcr> {
         let is_report_due = match self.reported {
             None => true,
@@ -161,8 +162,8 @@ impl Clock {
         })
     }
 
-    // Returns whether the interval before a PCR is usual. The first intervals determine which
-    // intervals are usual.
+    // Returns whether the interval before a PCR is usual, compared with the median of the last
+    // usual intervals.
     fn is_usual_interval(&self, ticks: u64) -> bool {
         is_usual_interval(ticks, self.ticks.count, self.ticks.median_number())
     }
@@ -188,7 +189,7 @@ impl Clock {
         text.put(b"\n");
     }
 
-    /// Ends the recording: prints the last PCR of the PID.
+    /// Ends the recording: prints the last PCR of the PID, if any.
     pub fn end(&self, text: &mut Text) {
         if let Some((pcr, _)) = self.last {
             self.report(pcr, text);

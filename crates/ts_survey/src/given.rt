@@ -175,7 +175,8 @@ impl TakesPesPackets for Given {
 }
 
 // Returns the number of the fault if the start code or the length of a PES packet is not that of a
-// PES packet with Teletext (EN 300 472). Returns `None` for any other bytes, such as a gap marker.
+// PES packet with Teletext (EN 300 472). Returns `None` for other bytes, such as a gap marker, and
+// if there are too few bytes to decide.
 fn fault_number_of(bytes: &[u8]) -> Option<u16> {
     let head = bytes.first_chunk()?;
     match decode_packet_size(head) {

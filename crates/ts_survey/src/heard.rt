@@ -9,13 +9,13 @@ use ttx_packet::unham;
 /// The events of a PES packet, which are compared with the events of the previous PES packet.
 #[derive(Drop)]
 pub struct Heard {
-    /// The characters of the events: for each packet, `h` (a header of the page), `e` (C4, erase
-    /// page) or `c` (a header that ends the page); then `o` (the page is open), `b` (the page is
-    /// blank) and `s` (rows after the end of the page).
+    /// The characters of the events: `h` for each header of the page, `e` after it if the header
+    /// has C4 (erase page), and `c` for each packet that ends the open page; then `o` (the page is
+    /// open), `b` (the page is blank) and `s` (rows after the end of the page).
     characters: ArrayVec<u8, 160>,
     /// The eight numbers of each header of the page in the PES packet.
     control: ArrayVec<u8, 640>,
-    /// The number of Teletext packets in the PES packet.
+    /// The number of Teletext packets in the PES packet; 0 if it has no PTS.
     units: u64,
     /// The number of the fault of the PES packet; 0 if it has no fault.
     fault: u16,

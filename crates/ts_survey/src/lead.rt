@@ -3,7 +3,8 @@
 use crate::clock::CLOCK_TICKS_PER_SECOND;
 use crate::text::{Text, forward_distance};
 
-/// The last picture of a video PID that has a decoding time, and the number of its PES packet.
+/// The last picture of a video PID that has a decoding time, and its number among the pictures of
+/// the PID.
 #[derive(Clone, Copy)]
 pub struct Picture {
     pub video: u16,
@@ -30,7 +31,8 @@ impl Lead {
     }
 
     /// Processes a PES packet of the PID with this PTS, after a picture. Prints a line if the PES
-    /// packet is the first after that picture, and a second has passed since the last line.
+    /// packet is the first after that picture, unless the PTS is less than a second after that of
+    /// the last line and the video PID is the same.
     pub fn take(&mut self, pid: u16, pts: u64, picture: &Picture, text: &mut Text) {
         if !self.move_to_picture(picture) || !self.is_report_due(pts) {
             return;
@@ -53,7 +55,8 @@ impl Lead {
         }
     }
 
-    // Returns whether a PTS is a second or more after the PTS of the last line, or before it.
+    // Returns whether a PTS is a second or more after the PTS of the last line, or before it, or
+    // there is no last line.
     fn is_report_due(&self, pts: u64) -> bool {
         match self.last {
             Some(last) => forward_distance(last, pts) >= CLOCK_TICKS_PER_SECOND,

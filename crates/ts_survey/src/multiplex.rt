@@ -89,7 +89,8 @@ impl Multiplex {
         self.out_of_memory
     }
 
-    // Starts to read the sections of a PID with tables.
+    // Starts to read the sections of a PID with tables, unless they are read already or there is no
+    // room for them.
     fn add_table(&mut self, pid: u16)
         ensures requested { KeepsRequested self.old self.new }
     {
@@ -103,7 +104,8 @@ impl Multiplex {
         }
     }
 
-    // Follows a PID with Teletext, unless the PID is followed already or another PID is requested.
+    // Follows a PID with Teletext, unless the PID is followed already, another PID is requested, or
+    // `CAPACITY` PIDs are followed already.
     fn follow(&mut self, pid: u16, text: &mut Text)
         ensures requested { KeepsRequested self.old self.new }
     {
@@ -120,7 +122,8 @@ impl Multiplex {
         }
     }
 
-    // Starts to follow a PID with Teletext. Returns `None` if memory runs out.
+    // Starts to follow a PID with Teletext, and prints its line `teletext`. Returns `None` if
+    // memory runs out.
     fn add_carrier(&mut self, pid: u16, text: &mut Text) -> Option<()>
         requires { length self.old.carriers.items < 64 }
         ensures requested { is_requested self.old.requested pid ≡ true → KeepsRequested self.old
@@ -141,7 +144,8 @@ impl Multiplex {
         Some(())
     }
 
-    // Follows the clock of a PID.
+    // Follows the clock of a PID, unless the PID is 1FFF, its clock is followed already, or
+    // `CAPACITY` clocks are followed already.
     fn add_clock(&mut self, pid: u16)
         ensures requested { KeepsRequested self.old self.new }
     {
@@ -158,7 +162,8 @@ impl Multiplex {
         self.pids.set(pid, state);
     }
 
-    // Follows the pictures of a PID, unless it is followed or `CAPACITY` PIDs are followed already.
+    // Follows the pictures of a PID, unless they are followed already or the pictures of `CAPACITY`
+    // PIDs are.
     fn add_video(&mut self, pid: u16)
         ensures requested { KeepsRequested self.old self.new }
     {
@@ -211,7 +216,7 @@ impl Multiplex {
         );
     }
 
-    // Processes a packet of a PID with pictures.
+    // Processes a packet of a PID with pictures, if the packet is needed.
     #[inline(always)]
     fn process_video_packet(&mut self, state: &PidState, packet: &[u8; PACKET], text: &mut Text)
         ensures requested { KeepsRequested self.old self.new }
@@ -479,7 +484,8 @@ impl Multiplex {
         }
     }
 
-    // Prints a stream of a programme, and the Teletext pages that it announces.
+    // Prints a stream of a programme, and the Teletext pages that it announces. If it announces
+    // any, `follow` decides whether its PID is followed.
     fn read_stream(&mut self, section: &[u8], stream: &Stream, clock_pid: u16, text: &mut Text)
         ensures requested { KeepsRequested self.old self.new }
     {
@@ -518,7 +524,7 @@ impl Multiplex {
         }
     }
 
-    // Prints the final lines of the followed PIDs, one PID after another.
+    // Prints the final lines of the followed PIDs except 1FFF, one PID after another.
     fn report_end_of_pids(&self, text: &mut Text) {
         for pid in 0..NULL_PID {
             self.report_end_of_pid(pid, text);

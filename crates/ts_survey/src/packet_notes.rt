@@ -89,7 +89,7 @@ impl Notes {
         }
     }
 
-    // Records a Teletext packet with its header of any page, if it has one.
+    // Records a Teletext packet of the page's magazine, with its header of any page, if it has one.
     fn note_any_packet(
         &mut self,
         watched: PageId,
@@ -112,7 +112,7 @@ impl Notes {
         }
     }
 
-    // Records a row of the page's magazine.
+    // Records a row of the page's magazine, if the page is open or had a header in this PES packet.
     fn note_row(&mut self, row: u8, is_open: bool, packet: &Packet)
         requires first { 1 ≤ row }
         requires last { row ≤ 24 }

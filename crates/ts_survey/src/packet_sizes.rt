@@ -27,8 +27,8 @@ fn has_packets_at_distance(bytes: &[u8], place: usize, distance: usize, is_end: 
     true
 }
 
-// Returns the size of the transport packets that begin at an offset, or `None` if no packets begin
-// there.
+// Returns the size of the transport packets that begin at an offset, or `None` if no packets are
+// found there.
 fn size_at(bytes: &[u8], place: usize, is_end: bool) -> Option<PacketSize> {
     if !may_be_packet_at(bytes, place, is_end) {
         return None;

@@ -275,8 +275,8 @@ impl PacketsInStep {
     }
 }
 
-// Returns the first offset from `place` on at which a packet may begin out of step, as long as a
-// packet fits after it; `place` itself if no packet fits.
+// Returns the first offset from `place` on at which a packet may begin out of step, or at which no
+// packet fits.
 fn next_packet_start(bytes: &[u8], place: usize, distance: usize) -> usize
     requires near { 188 ≤ distance }
     requires far { distance ≤ 204 }

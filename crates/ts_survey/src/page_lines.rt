@@ -75,8 +75,8 @@ impl PageLines {
         }
     }
 
-    // Prints the run, then a PES packet on its own line, then the decoded page and the rows that
-    // were received after the end of the page.
+    // Prints the run, then a PES packet on its own line, then the decoded page if `is_changed` is
+    // set, and the rows that were received after the end of the page if `has_strays` is set.
     fn report_on_own_line(
         &mut self,
         number: u64,

@@ -37,7 +37,7 @@ fn has_wrong_start_code(bytes: &[u8]) -> bool
 }
 
 // Returns the size in bytes of the complete PES packet at the front of the bytes, from its length
-// field.
+// field. Returns `None` if the bytes begin with no complete PES packet.
 #[tactic(auto, unfolding(crate::specs::FilePesPackets::complete_packet_size))]
 fn complete_packet_size(bytes: &[u8]) -> Option<usize>
     ensures value { result ≡ pes_packets.complete_packet_size bytes.now }
@@ -146,7 +146,8 @@ impl PesFile {
         self.report_end(text);
     }
 
-    // Prints how many PES packets the file had.
+    // Prints the line `end`: the number of PES packets and gap markers, that of gap markers, four
+    // zeros for counts that a file does not have, and the last PTS.
     fn report_end(&self, text: &mut Text) {
         text.put(b"end 0");
         text.number(self.lines.count());

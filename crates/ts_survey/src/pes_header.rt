@@ -29,8 +29,8 @@ impl PesHeader {
         self.is_open
     }
 
-    /// Returns how many bytes of the header were received. As long as more bytes are needed, these
-    /// are all bytes received.
+    /// Returns how many bytes are stored, from the start of the PES packet on. As long as more
+    /// bytes of the header are needed, these are all bytes received.
     pub fn len(&self) -> usize {
         self.bytes.len()
     }
@@ -42,8 +42,8 @@ impl PesHeader {
     }
 
     /// Processes the payload of the next packet, and returns whether the header becomes complete
-    /// with it. Returns `true` once for each PES packet, and never if the rest of the header is
-    /// lost.
+    /// with it. Returns `true` at most once for each PES packet, and never if the rest of the
+    /// header is lost.
     pub fn take(&mut self, payload: &[u8], begins: bool, follows: bool) -> bool {
         if begins || !follows {
             self.clear();
@@ -66,12 +66,13 @@ impl PesHeader {
         pts_of_pes_packet(self.bytes.as_slice())
     }
 
-    /// Returns the DTS of the PES packet, or its PTS if it has no DTS.
+    /// Returns the DTS of the PES packet, or its PTS if it has no DTS; `None` if it has no PTS.
     pub fn decoding_time(&self) -> Option<u64> {
         decoding_time(self.bytes.as_slice())
     }
 
-    /// Returns the size in bytes of the complete header, from PES_header_data_length.
+    /// Returns the size in bytes of the complete header, from PES_header_data_length; 0 if that
+    /// field was not received.
     pub fn size(&self) -> usize {
         match self.bytes.as_slice().get(8) {
             Some(more) => 9 + *more as usize,
@@ -99,7 +100,7 @@ fn needed(bytes: &[u8]) -> usize {
 }
 
 /// Returns stream_id of the PES packet with these first bytes. Returns `None` if the bytes do not
-/// begin with packet_start_code_prefix, 00 00 01.
+/// begin with packet_start_code_prefix, 00 00 01, or are fewer than four.
 pub fn stream_id_in(bytes: &[u8]) -> Option<u8> {
     if bytes.len() > 3 && bytes[0] == 0 && bytes[1] == 0 && bytes[2] == 1 {
         Some(bytes[3])

@@ -26,7 +26,7 @@ pub enum Form {
 #[derive(Clone, Copy, Drop)]
 pub struct FormReader {
     kind: u8,
-    // The last eight bytes of the picture that were read.
+    // The last eight bytes of the picture that were read before the form was known.
     window: [u8; 8],
     // The form of the group, once it is known.
     form: Option<Form>,

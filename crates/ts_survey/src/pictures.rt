@@ -18,7 +18,7 @@ enum GroupProgress {
     Before,
     /// The first random access point has been received, and the second has not.
     Within,
-    /// The second random access point has been received, or ten seconds have passed.
+    /// The second random access point has been received, or more than ten seconds have passed.
     Finished,
 }
 
@@ -37,7 +37,7 @@ pub struct Pictures {
     header: PesHeader,
     is_flagged: bool,
     flags_next: bool,
-    // The number of PES packets that began, the last picture with a decoding time, and the steps
+    // The number of pictures that began, the last picture with a decoding time, and the steps
     // between decoding times.
     count: u64,
     last: Option<Picture>,
@@ -130,7 +130,7 @@ impl Pictures {
         self.needs_every_packet = !is_finished(self.group_progress) || self.header.is_open();
     }
 
-    // Returns whether a packet repeats the last packet.
+    // Returns whether a packet is the first repeat of the last packet.
     fn is_repeat(&self, packet: &[u8; PACKET], link: PacketLink) -> bool {
         match link {
             PacketLink::Same => {}
@@ -276,7 +276,7 @@ impl Pictures {
         text.put(b"\n");
     }
 
-    // Stores the least PTS, and ends the group ten seconds after it.
+    // Stores the least PTS, and ends the group more than ten seconds after it.
     fn note_group_pts(&mut self, now: u64, text: &mut Text) {
         let first = earlier_of(self.first, now);
         self.first = Some(first);
@@ -310,8 +310,8 @@ impl Pictures {
         text.put(form_word(self.reader.form()));
     }
 
-    /// Ends the recording: prints the last steps, and the counts of the first group of pictures if
-    /// the group has not ended.
+    /// Ends the recording: prints the last steps. If the first group of pictures has not ended,
+    /// also prints its line `group`, if it has begun, and its counts.
     pub fn end(&self, text: &mut Text) {
         self.steps.end(self.pid, text);
         match self.group_progress {

@@ -72,7 +72,7 @@ impl<T: TakesPesPackets> PidPackets<T> {
     }
 
     /// Processes a packet of the PID. All data that the packet completes is passed on at once.
-    /// After bytes that are no PES packet, no more data is passed on.
+    /// After bytes that are neither a PES packet nor a gap marker, no more data is passed on.
     pub fn take(&mut self, packet: &[u8; PACKET], text: &mut Text)
         ensures ended { has_ended self.old.joining.part ≡ true → self.new ≡ self.old }
         ensures joining { has_ended self.old.joining.part ≡ false → self.new.joining

@@ -19,11 +19,13 @@ const JUMP_FLAG: u8 = 0x80;
 /// How a packet follows the packet before it in its PID, by continuity_counter.
 #[derive(Clone, Copy, PartialEq, Eq)]
 pub enum PacketLink {
-    /// The counter continues, or this is the first packet.
+    /// The counter continues, and no jump is announced, or this is the first packet.
     Next,
-    /// A jump of the counter is announced, in this packet or after the packet before.
+    /// A jump of the counter is announced after the packet before, or in this packet, whose counter
+    /// is another.
     Announced,
-    /// The counter is the same: the packet is a repeat, or 15 packets are missing.
+    /// The counter is the same: the packet is a repeat, 15 packets are missing, or the packet
+    /// announces a jump.
     Same,
     /// Packets are missing before this packet.
     Broken,
@@ -32,8 +34,8 @@ pub enum PacketLink {
 /// The state of a PID.
 #[derive(Clone, Copy)]
 pub struct PidState {
-    /// The counter of the last packet with a payload, possibly with `JUMP_FLAG`, and the counter of
-    /// the packet before it.
+    /// The counter of the last packet with a payload, and the counter of the packet before it, each
+    /// possibly with `JUMP_FLAG`. Packets with transport_error_indicator do not count.
     pub counter: u8,
     pub before: u8,
     /// The numbers of the first and the last packet with a payload; 0 if no packet had a payload.

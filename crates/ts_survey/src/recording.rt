@@ -19,7 +19,7 @@ use crate::text::Text;
 use mpeg_ts::{PacketSize, Pid, SurveyOptions};
 use std::alloc::Global;
 
-/// The number of first bytes of a recording that are printed.
+/// The number of first bytes of a recording that are printed, if the recording has so many.
 const HEAD: usize = 11;
 
 /// Up to so many bytes, and one read more, are examined together to detect the packet size. The
@@ -130,7 +130,8 @@ impl Recording {
         self.take_by_kind(bytes, is_end, text)
     }
 
-    // Determines the kind of the recording, and returns how many bytes need not be examined again.
+    // Determines the kind of the recording, if the bytes show it. Returns how many bytes need not
+    // be examined again.
     fn find_kind(&mut self, bytes: &[u8], is_end: bool, first: &mut Text) -> usize
         ensures within { result ≤ length bytes.now }
         ensures kept { is_unknown self.new.kind ≡ true → self.new.out_of_memory ≡ false
@@ -217,7 +218,8 @@ impl Recording {
         }
     }
 
-    // Searches the bytes for the packet size. Returns how many bytes need not be examined again.
+    // Begins a transport stream if the packet size is requested or is found in the bytes. Returns
+    // how many bytes need not be examined again.
     fn inspect(&mut self, bytes: &[u8], is_end: bool, first: &mut Text) -> usize
         ensures within { result ≤ length bytes.now }
         ensures kept { is_unknown self.new.kind ≡ true → self.new.out_of_memory ≡ false
@@ -284,8 +286,8 @@ impl Recording {
         }
     }
 
-    /// Prints all pending lines if no more data is available for now, and ends the recording at its
-    /// end.
+    /// Prints the pending lines about PES packets if no more data is available for now, and ends
+    /// the recording at its end.
     #[tactic(auto, using(crate::proofs::ListedLemmas::stays_as_requested))]
     pub fn pause(&mut self, is_end: bool, has_no_more: bool, text: &mut Text)
         ensures end { is_end ≡ true → ReportsEnd self.old text.new }
@@ -429,8 +431,9 @@ fn pid_number(pid: Option<Pid>) -> Option<u16>
     }
 }
 
-// Returns whether a recording is a file of PES packets, from its first bytes. A time stamp before
-// the first transport packet may have the same bytes, but then the sync byte follows.
+// Returns whether a recording is taken for a file of PES packets: it begins with 00 00 01 BD, and
+// the fifth byte, if there is one, is not the sync byte, which follows a time stamp with these
+// bytes.
 fn is_pes_file(head: &[u8]) -> bool
     ensures { result ≡ begins_with_pes_packet head.now }
 {

@@ -33,7 +33,7 @@ pub enum SurveyFault {
 ///
 /// # Errors
 ///
-/// Returns `Read` if the source fails; the lines known until then were written. Returns `Write` if
+/// Returns `Read` if the source fails; all lines printed before were written. Returns `Write` if
 /// the sink fails, which then has a prefix of the output. Returns `Memory` if memory runs out.
 #[tactic(auto, using(crate::proofs::SurveyLemmas::growing))]
 pub fn survey<S: Source, K: Flush>(

@@ -37,7 +37,7 @@ impl Steps {
     }
 
     /// Processes the decoding time of picture `number`, and the decoding time before it. Prints the
-    /// steps of a second if the second ends with this picture.
+    /// steps of a second if the second ends with this picture and the steps are new.
     pub fn take(&mut self, pid: u16, before: Option<u64>, time: u64, number: u64, text: &mut Text) {
         if let Some(before) = before {
             self.add(Step {
@@ -68,7 +68,7 @@ impl Steps {
     }
 
     // Returns whether a second ends with this decoding time: it is a second or more after the end
-    // of the second before, or earlier than that.
+    // of the second before, or earlier than that, or no second has ended yet.
     fn is_end(&self, time: u64) -> bool {
         match self.last_end {
             Some(last_end) => forward_distance(last_end, time) >= CLOCK_TICKS_PER_SECOND,
@@ -76,7 +76,7 @@ impl Steps {
         }
     }
 
-    // Prints the steps of a second that has ended, and begins the next second.
+    // Prints the steps of a second that has ended, if they are new, and begins the next second.
     fn report(&mut self, pid: u16, text: &mut Text) {
         let Some(range) = self.range else {
             return;
@@ -102,7 +102,7 @@ impl Steps {
         }
     }
 
-    /// Ends the recording: prints the steps since the end of the last second.
+    /// Ends the recording: prints the steps since the end of the last second, if they are new.
     pub fn end(&self, pid: u16, text: &mut Text) {
         let Some(range) = self.range else {
             return;
@@ -127,7 +127,7 @@ fn report_step(step: Step, text: &mut Text) {
     text.number(step.number);
 }
 
-// Returns whether two steps differ.
+// Returns whether two steps differ by `DIFFERENT_TICKS` or more.
 fn are_different(first: Step, second: Step) -> bool {
     first.order.abs_diff(second.order) >= DIFFERENT_TICKS
 }

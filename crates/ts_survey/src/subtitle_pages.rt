@@ -38,7 +38,7 @@ impl SubtitlePages {
         report_first(before, pid, magazine, header.page, text);
     }
 
-    /// Prints for each page how many headers with the subtitle bit were received.
+    /// Prints how many headers with the subtitle bit were received for each page that had any.
     pub fn report(&self, pid: u16, text: &mut Text) {
         let counts = self.counts.as_slice();
         for place in 0..counts.len() {

@@ -46,7 +46,7 @@ impl PartialSections {
         self.bytes.clear();
     }
 
-    // Appends bytes to those received before.
+    // Appends bytes to those received before, if a section has begun and the bytes fit.
     fn add(&mut self, bytes: &[u8]) {
         if self.is_open {
             append_to_section(&mut self.bytes, bytes);
@@ -126,7 +126,7 @@ impl Tables {
     }
 
     /// Makes room for the sections of one more PID, and returns its index. Returns `None` if no
-    /// room is left.
+    /// room is left or memory runs out.
     pub fn add(&mut self) -> Option<u8> {
         let place = self.partial_sections.as_slice().len();
         if place >= MAX_TABLE_PIDS {

@@ -14,7 +14,8 @@ pub fn units_of(pes: &[u8]) -> &[u8]
     following(pes, first_unit_offset(pes))
 }
 
-// Returns the offset of the first data unit in a PES packet.
+// Returns the offset of the first data unit in a PES packet; the number of bytes if there are fewer
+// than ten.
 fn first_unit_offset(pes: &[u8]) -> usize
     ensures { result ≡ first_unit_offset pes.now }
 {

@@ -1,4 +1,4 @@
--- Decoding a created packet returns its original contents.
+-- Decoding a created packet returns the contents that it encodes.
 use Rattle.std.proofs.Common.{rules, ◌≡◌, ℕ, [], zero, suc, ◌+◌, ◌*◌, ◌/◌, ◌%◌, ◌<◌, ◌≤◌, Bool}
 use Rattle.std.proofs.Common.{true, ◌==◌, List, ◌∷◌, ◌++◌, map, replicate, Some, slice_index, refl}
 use Rattle.std.proofs.Common.{sym, ap, ◌∙◌, subst, arith, ◌-◌, ◌^◌, bit_and, div-add-mod', All}

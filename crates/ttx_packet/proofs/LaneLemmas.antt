@@ -125,7 +125,8 @@ even_parity_mask_is_correct v a b c long fits ea eb ec =
 abbrev code_with_parity : ℕ → ℕ
 code_with_parity x = bit_or x (bit_xor (fold_all_bits x) 1 * 2 ^ 7 % 2 ^ 8)
 
--- Setting bit 8 of a code with an even number of ones gives odd parity, checked for all 128 codes.
+-- Setting bit 8 by the folded bits gives each code its byte of odd parity, checked for all 128
+-- codes.
 code_with_parity_is_odd : (x : ℕ) → x < 0x80 → code_with_parity x ≡ odd_parity_byte x
 unfolding is_odd count_ones ones_in
 code_with_parity_is_odd x l =

@@ -1,4 +1,5 @@
--- One wrong bit in each byte changes neither the address nor the page header of a packet.
+-- One wrong bit in each byte changes neither the address nor the page header of a packet sent as
+-- code words.
 use Rattle.std.proofs.Common.{◌≡◌, ℕ, inl, ◌==◌, cond, List, [], ◌∷◌, slice_index, Option, Some}
 use Rattle.std.proofs.Common.{None, refl, arith, option_and_then}
 use Rattle.std.proofs.lemmas.Bool.Decides.{nat_tests}

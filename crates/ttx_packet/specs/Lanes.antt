@@ -1,9 +1,10 @@
--- The steps of the vector code, defined for one byte. Only private contracts use these definitions.
+-- The steps of the vector code, defined without vectors. Only private contracts use these
+-- definitions.
 use Rattle.std.specs.Prelude.{ℕ, ◌*◌, ◌/◌, ◌%◌, ◌^◌, Bool, not, List, map, bit_and, bit_or, bit_xor}
 use lib.Lanes.{mask_l}
 use Rattle.ttx_packet.specs.Parity.{is_odd}
 
--- Swaps each bit that the mask selects with the bit n places above it.
+-- Swaps each bit that the mask selects with the bit n places above it, and clears all other bits.
 abbrev pub swapped_bits : ℕ → ℕ → ℕ → ℕ
 swapped_bits n mask b = bit_or (bit_and (b / 2 ^ n) mask) (bit_and b mask * 2 ^ n % 0x100)
 

@@ -50,8 +50,8 @@ LawOfParity =
 abbrev pub LawOfMirror : Type 0
 LawOfMirror = (b : ℕ) → b < 0x100 → mirror (mirror b) ≡ b
 
--- The packet encodes the page header h: its decoded header is h, its coded bytes are code words,
--- and its text bytes have odd parity.
+-- The packet is a packet X/0 of the magazine, with 42 bytes, and encodes the page header h: its
+-- decoded header is h, its coded bytes are code words, and its text bytes have odd parity.
 pub record IsEncodedHeader (magazine : ℕ) (h : Header) (packet : List ℕ) : Type 0 where
   pub whole : length packet ≡ 42
   pub address : address packet ≡ Some (record { magazine = magazine; packet_number = 0 })
@@ -69,8 +69,8 @@ LawOfHeaderPacket =
     → IsEncodableHeader h
     → IsEncodedHeader magazine h (header_packet magazine h)
 
--- The packet encodes a row with these codes: its address is that of the row, its text bytes carry
--- the codes, and they have odd parity.
+-- The packet encodes a row with these codes: it has 42 bytes and no page header, its address is
+-- that of the row in code words, its text bytes carry the codes, and they have odd parity.
 pub record IsEncodedRow (magazine row : ℕ) (codes packet : List ℕ) : Type 0 where
   pub whole : length packet ≡ 42
   pub address : address packet ≡ Some (record { magazine = magazine; packet_number = row })

@@ -55,7 +55,8 @@ rows-set_above zero xs ys i row h = refl
 rows-set_above (suc n) xs ys i row h =
     grind (arith, nat_tests, get_or-set_other, rows-set_above n xs ys i row)
 
--- If a row is replaced, the page's number of differing cells changes by as much as the row's.
+-- If one of the first n rows of a page is replaced, the number of cells in which these rows differ
+-- from another page changes by as much as that number for the row.
 pub rows-set : (n : ℕ) (xs ys : List (List ℕ)) (i : ℕ) (row : List ℕ)
     → i < n
     → i < length xs

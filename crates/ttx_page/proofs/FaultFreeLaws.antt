@@ -1,4 +1,5 @@
--- Without wrong bits, each cell of a receiver has the sent code.
+-- If well-formed packets arrive without wrong bits, a receiver has the sent codes in each cell that
+-- does not depend on its earlier contents.
 use Rattle.std.proofs.Common.{◌≡◌, ℕ, ◌⊎◌, inl, inr, Bool, true, false, not, ◌&&◌, ◌||◌, cond, List}
 use Rattle.std.proofs.Common.{[], ◌∷◌, ◌++◌, Option, Contains, option_map}
 use Rattle.std.proofs.Common.{unwrap_or, IsFalse, refl, sym, ap, ◌∙◌, subst, arith}
@@ -30,7 +31,8 @@ use Rattle.ttx_page.proofs.TextSpan.{beginning-none_keeps, beginning-push, begin
 use Rattle.ttx_page.proofs.TextSpan.{text_begins_at_header, text_span-push}
 use Rattle.ttx_page.proofs.TextStart.{sound_packets_send_text}
 
--- A correctly received packet changes a cell of a receiver in this way.
+-- A packet received without wrong bits opens or closes the page and changes one cell of it as the
+-- fields of this record state.
 record CellAfterPacket
     (keeps : Bool) (w : PageIdValue) (row column : ℕ) (packet : List ℕ) (old new : State)
     : Type 0 where

@@ -1,4 +1,5 @@
--- Packets before a header of the page have no effect on a receiver, so a receiver may start late.
+-- Packets before a header of the page do not change the codes that all packets show, so a receiver
+-- may start late.
 use Rattle.std.proofs.Common.{◌≡◌, ℕ, Bool, true, List, [], ◌∷◌, ◌++◌}
 use Rattle.std.proofs.Common.{unwrap_or, All, subst, arith}
 use Rattle.std.proofs.lemmas.Bool.Decides.{nat_tests}

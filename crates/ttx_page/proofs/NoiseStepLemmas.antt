@@ -109,7 +109,8 @@ StoresCode class row column sent arrival old new =
     × ((cell new.page row column ≡ cell old.page row column)
     ⊎ (cell new.page row column ≡ space)))
 
--- A received or lost packet changes the receiver and one cell of its page in this way.
+-- A received or lost packet changes the receiver and one cell of its page as the fields of this
+-- record state.
 record CellAfterItem
     (keeps anew : Bool) (class : ReceiverClass) (w : PageIdValue) (row column : ℕ) (sent : List ℕ)
     (arrival : Option (List ℕ)) (old new : State)
@@ -122,8 +123,7 @@ record CellAfterItem
   text_start_erases_cell : (begins_text keeps (kind w sent) || (anew && is_this_page (kind w sent)))
       ≡ true
       → cell new.page row column ≡ space
-  -- At a header of the page that does not start a new text, the cell keeps its code or becomes a
-  -- space.
+  -- At a header of the page, the cell keeps its code or becomes a space.
   repeated : is_this_page (kind w sent) ≡ true
       → (cell new.page row column ≡ cell old.page row column)
       ⊎ (cell new.page row column ≡ space)
@@ -246,23 +246,26 @@ module _ (keeps anew : Bool) (class : ReceiverClass) (w : PageIdValue) (row colu
       (anew ≡ true)
       ⊎ ((has_text_beginning keeps (kind_of_item w) items ≡ true) ⊎ StartedBlank start)
 
-  -- The receiver and one cell of its page have this state after packets were received or lost.
+  -- After packets were received or lost, the receiver and one cell of its page are in the state
+  -- that the fields of this record describe.
   pub record StateAfterItems (start : State) (items : List Item) (now : State) : Type 0 where
     pub heard : now.heard ≡ (has_page_header (kind_of_item w) items || start.heard)
     pub is_open : (has_page_header (kind_of_item w) items || not start.is_open) ≡ true
         → now.is_open ≡ is_open_after (kind_of_item w) items
-    -- Until a header of the page arrives, a blank page that is not open stays blank and not open.
+    -- If the page is not open and the cell is a space, this stays so until a header of the page
+    -- arrives.
     pub waits : has_page_header (kind_of_item w) items ≡ false → StartedBlank start → StartedBlank
         now
-    -- If a header of the page came, and the cell does not depend on its earlier code, the cell has
-    -- the expected code or is a space.
+    -- If a header of the page came, the cell does not depend on its earlier code, and each packet
+    -- of its row in the current text has odd parity and the expected code for the cell, the cell
+    -- has this code or is a space.
     pub code_or_space : has_page_header (kind_of_item w) items ≡ true
         → IsFreshCell start items
         → AreTargets items
         → (cell now.page row column ≡ code) ⊎ (cell now.page row column ≡ space)
-    -- If a header of the page came, and the cell does not depend on its earlier code, the cell has
-    -- the expected code, or may be a space, or the last transmission of the page has no packet of
-    -- its row.
+    -- If in addition the cell may be a space whenever noise or loss hit it in the last transmission
+    -- of the page, the cell has the expected code, or may be a space, or the last transmission has
+    -- no packet of its row.
     pub cell_eq : has_page_header (kind_of_item w) items ≡ true
         → IsFreshCell start items
         → AreTargets items
@@ -457,8 +460,9 @@ module _ (keeps anew : Bool) (class : ReceiverClass) (w : PageIdValue) (row colu
     cell_eq = λ holds. grind arith;
   }
 
-  -- By induction over the packets still to be received or lost, the receiver has this state after
-  -- all packets.
+  -- If `StateAfterItems` is true before further well-formed packets, it is also true after them,
+  -- provided that no page header is lost and the received packets have at most one wrong bit in
+  -- each byte.
   pub over : (start : State) (items : List Item) (sent : List (List ℕ)) (arrived : List Bool)
       (got : List (List ℕ)) (old new : State)
       → IsCell row column

@@ -110,8 +110,8 @@ module _ (class : ReceiverClass) (w : PageIdValue) (sent : List (List ℕ)) (arr
         (starts keeps anew class w row column (text row column) (IsSpaceAllowed row column) old)
 
     -- After a header of the page, if the page does not depend on its earlier contents, each cell
-    -- has the code of the text, or is a space because of noise or loss, or because its row was not
-    -- sent since the last header of the page.
+    -- has the code of the text, or is a space because of noise or loss, or because the last
+    -- transmission of the page has no packet of its row.
     cell_kept :
         has_page_header (kind w) sent ≡ true
         → IsFresh keeps anew w sent old

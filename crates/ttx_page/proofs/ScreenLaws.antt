@@ -14,8 +14,8 @@ use Rattle.ttx_page.proofs.RunLemmas.{RunsBy-as}
 abbrev ShowsClosedPage : Display → Type 0
 ShowsClosedPage d = IsFalse d.receiver_state.is_open → d.screen ≡ Some d.receiver_state.page
 
--- If a header of the page is among the packets, or if this was so before them, the decoded page is
--- on the screen whenever the page is not open.
+-- If a header of the page is among the packets, or if a page that was not open before them was on
+-- the screen, then a page that is not open after them is on the screen.
 settles :
     (class : ReceiverClass) (anew : Bool) (w : PageIdValue) (packets : List (List ℕ))
     (old new : Display)

@@ -23,8 +23,8 @@ MayBeLost packet = (a : PacketAddress) → address packet ≡ Some a → a.packe
 abbrev pub LosesNoHeader : List ℕ → Bool → Type 0
 LosesNoHeader sent arrives = IsFalse arrives → MayBeLost sent
 
--- The received bytes of each sent packet, or `None` if the packet was lost. `got` has the bytes of
--- the packets that arrived.
+-- For each flag, the received bytes of its packet, or `None` if the packet was lost or `got` has no
+-- bytes left for it. `got` has the bytes of the packets that arrived.
 abbrev pub arrivals_from_flags : List Bool → List (List ℕ) → List (Option (List ℕ))
 arrivals_from_flags [] got = []
 arrivals_from_flags (false ∷ arrived) got = None ∷ arrivals_from_flags arrived got
@@ -44,10 +44,10 @@ IsHitOrLost w sent arrivals row column =
     Any (λ pair. (kind w pair.0 ≡ Row row) × LosesOrCorruptsByte pair.0 pair.1 column)
     (span (λ (pair : List ℕ × Option (List ℕ)). kind w pair.0) (zip sent arrivals))
 
--- The law of noise if packets other than page headers are lost, and the other packets have at most
--- one wrong bit in each byte. A cell of a lost row counts as hit. In receivers that drop rows, one
--- hit byte counts as a hit of all cells of its row. So noise never puts a wrong character into the
--- decoded page, even if packets are lost.
+-- The law of noise if packets other than page headers may be lost, and the packets that arrive have
+-- at most one wrong bit in each byte. A cell of a lost row counts as hit. In receivers that drop
+-- rows, one hit byte counts as a hit of all cells of its row. So noise never puts a wrong character
+-- into the decoded page, even if packets are lost.
 abbrev pub LawOfLostRows : Type 0
 LawOfLostRows =
     (class : ReceiverClass) (w : PageIdValue) (sent : List (List ℕ)) (arrived : List Bool)
@@ -75,7 +75,8 @@ pub record LosesNothing (w : PageIdValue) (sent : List (List ℕ)) (arrived : Li
       → IsHitOrLost w sent (arrivals_from_flags arrived got) row column
       ↔ IsHit w sent got row column
 
--- The law of noise is the special case of the law of lost rows in which every packet arrives.
+-- If every packet arrives, the received packets and the hit cells are those of the law of noise. So
+-- the law of noise is a special case of the law of lost rows.
 abbrev pub LawOfNothingLost : Type 0
 LawOfNothingLost =
     (w : PageIdValue) (sent : List (List ℕ)) (arrived : List Bool)

@@ -59,8 +59,8 @@ pub record EndsWithShownText
   -- The page is open exactly if the packets contain a header of the page and no later header ends
   -- it.
   pub is_open : new.is_open ≡ is_open_after (kind w) sent
-  -- If a header of the page was received, each cell has the code that the packets show, or is a
-  -- space if `IsExcused` is true for it.
+  -- If a header of the page was received, each cell has the code that the packets show, or it is a
+  -- space and `IsExcused` is true for it.
   pub cells :
       IsTrue new.heard
       → (row column : ℕ)
@@ -69,9 +69,9 @@ pub record EndsWithShownText
       ⊎ ((cell new.page row column ≡ space) × IsExcused row column)
 
 -- The law of noise, for well-formed packets with at most one wrong bit in each byte and every
--- receiver that had received no header of the page before. If a header of the page was sent, each
--- cell has the sent code, or is a space if its byte had a wrong bit. So noise never puts a wrong
--- character into the decoded page.
+-- receiver that had received no header of the page before and whose page was not open. If a header
+-- of the page was sent, each cell has the code that the packets show, or it is a space and noise
+-- hit it. So noise never puts a wrong character into the decoded page.
 abbrev pub LawOfNoise : Type 0
 LawOfNoise =
     (w : PageIdValue) (sent got : List (List ℕ)) (old new : State)
@@ -83,9 +83,9 @@ LawOfNoise =
     → EndsWithShownText w sent (IsHit w sent got) new
 
 -- If well-formed packets arrive without wrong bits at a receiver that had received no header of the
--- page before, and one of them is a header of the page, each cell has the code that the packets
--- show. What the page contained before and what the receiver does at bytes of even parity has no
--- effect.
+-- page before and whose page was not open, and one of them is a header of the page, each cell has
+-- the code that the packets show. What the page contained before and what the receiver does at
+-- bytes of even parity has no effect.
 abbrev pub LawWithoutNoise : Type 0
 LawWithoutNoise =
     (w : PageIdValue) (sent : List (List ℕ)) (old new : State)

@@ -1,7 +1,7 @@
 -- The meaning of a packet for a receiver of one page (EN 300 706, page header and packets X/1 to
 -- X/24).
 --
--- A header affects the other definitions of this crate only through the kind of its packet.
+-- A header changes a receiver of this crate only through the kind of its packet.
 use Rattle.std.specs.Prelude.{ℕ, ◌&&◌, ◌||◌, not, Bool, true, false, List, Option, Some, None}
 use Rattle.std.specs.Prelude.{◌==◌, nat_le, if◌then◌else◌}
 use Rattle.ttx_packet.specs.declared.header.Header.{Header}

@@ -22,8 +22,8 @@ pub record EndsRecovered
   pub heard : IsTrue new.heard
   -- The page is open exactly if no header after the last header of the page ends it.
   pub is_open : new.is_open ≡ has_no_page_end (kind w) sent
-  -- Each cell of the page has the code that the packets show, or is a space if `IsExcused` is true
-  -- for it.
+  -- Each cell of the page has the code that the packets show, or it is a space and `IsExcused` is
+  -- true for it.
   pub cells :
       (row column : ℕ)
       → IsCell row column

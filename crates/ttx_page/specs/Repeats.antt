@@ -114,8 +114,8 @@ pub record SendsOnlyRowsOfText
 
 -- The packet may follow the earlier packets `before` (not defined by a standard). Its address and
 -- page header are code words. If repeats must not keep earlier text, a header of the page has C4
--- set. A row sent while the page is open has bytes of odd parity, and the codes with which the
--- current text first sent this row.
+-- set. A row sent while the page is open has bytes of odd parity and, if the current text sent this
+-- row before, the codes that it had the first time.
 pub record MayFollow
     (keeps : Bool) (w : PageIdValue) (before : List (List ℕ)) (packet : List ℕ)
     : Type 0 where
@@ -157,7 +157,7 @@ pub record EndsAfterRepeats
       IsTrue (has_page_header (kind w) sent || not old.is_open)
       → new.is_open ≡ is_open_after (kind w) sent
   -- If a header of the page was sent and the page does not depend on its earlier contents, each
-  -- cell has the code of the text, or is a space if `IsExcused` is true for it or the last
+  -- cell has the code of the text, or it is a space, and `IsExcused` is true for it or the last
   -- transmission of the page has no packet of its row.
   pub cells :
       IsTrue (has_page_header (kind w) sent)
@@ -168,9 +168,9 @@ pub record EndsAfterRepeats
       ⊎ ((cell new.page row column ≡ space) × (IsExcused row column ⊎ HasNoRow w sent row))
 
 -- The law of repeats: the final state of every receiver that may blank cells at a repeat, if
--- packets other than page headers are lost, and the other packets have at most one wrong bit in
--- each byte. So, if the page does not depend on its earlier contents, a repeat without C4, erase
--- page, repairs cells that noise has hit, and puts no wrong character into the decoded page.
+-- packets other than page headers may be lost, and the packets that arrive have at most one wrong
+-- bit in each byte. So, if the page does not depend on its earlier contents, it has no wrong
+-- character, and a row that a repeat sends without loss or wrong bits is correct after the repeat.
 abbrev pub LawOfRepeats : Type 0
 LawOfRepeats =
     (keeps anew : Bool) (class : ReceiverClass) (w : PageIdValue) (sent : List (List ℕ))

@@ -40,7 +40,7 @@ pub record ShowsAt (w : PageIdValue) (old : Display) (packet : List ℕ) (new : 
     pub again :
         IsTrue (restarts_page w old.receiver_state packet)
         → (new.screen ≡ Some old.receiver_state.page) ⊎ (new.screen ≡ old.screen)
-    -- A packet that neither ends the page nor is a header of it does not change the screen.
+    -- No other packet changes the screen.
     pub stays :
         IsFalse (has_page_ended old.receiver_state new.receiver_state)
         → IsFalse (restarts_page w old.receiver_state packet)

@@ -68,8 +68,8 @@ while_open kind_of is_open (x ∷ xs) =
     else while_open kind_of false xs)
 
 -- The long span, all transmissions of the current text: the spans of all headers of the page, from
--- the last header that starts a new text on. If repeats must not keep earlier text (`keeps` is
--- false), it equals the span.
+-- the last header that starts a new text on, or of the whole list if no header starts one. If
+-- repeats must not keep earlier text (`keeps` is false), it equals the span.
 abbrev pub text_span : {A : Type 0} → Bool → (A → PacketKind) → List A → List A
 text_span keeps kind_of items = while_open kind_of false (from_text_beginning keeps kind_of items)
 

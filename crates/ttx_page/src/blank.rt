@@ -52,7 +52,7 @@ impl Receiver for Blank {
         &self.memory.page
     }
 
-    /// Receives a packet. Each cell for which a byte of even parity is received becomes a space.
+    /// Receives a packet. If it stores a row, the cell of each byte of even parity becomes a space.
     fn hear(&mut self, packet: &Packet) {
         self.memory.hear(packet, EvenParityChoice::BlanksCell);
     }

@@ -71,7 +71,7 @@ impl DropRow {
         &self.memory.page
     }
 
-    /// Receives a packet, unless it is a row with a byte of even parity.
+    /// Receives a packet, unless it is a row of the page's magazine with a byte of even parity.
     pub fn hear(&mut self, packet: &Packet)
         ensures step { StepBy Dropping self.old.watched self.old.state packet.now self.new.state }
         ensures tuned { self.new.watched ≡ self.old.watched }
@@ -93,8 +93,8 @@ impl DropRow {
     }
 }
 
-/// Returns whether `DropRow` ignores the packet: it is a row of the page's magazine with a byte of
-/// even parity.
+/// Returns whether `DropRow` drops the packet: it is a row of the page's magazine, and one of its
+/// 40 data bytes has even parity.
 pub fn is_dropped(page_id: PageId, packet: &Packet) -> bool
     ensures { result ≡ is_row_with_even_parity page_id packet.now }
 {

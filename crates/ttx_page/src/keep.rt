@@ -50,7 +50,7 @@ impl Receiver for Keep {
         &self.memory.page
     }
 
-    /// Receives a packet. Each cell for which a byte of even parity is received keeps its code.
+    /// Receives a packet. If it stores a row, the cell of each byte of even parity keeps its code.
     fn hear(&mut self, packet: &Packet) {
         self.memory.hear(packet, EvenParityChoice::KeepsCell);
     }

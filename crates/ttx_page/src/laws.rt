@@ -21,16 +21,17 @@ pub fn law_of_span<T>()
 {}
 
 /// The law of noise, for well-formed packets with at most one wrong bit in each byte and a receiver
-/// that had received no header of the page before. Once it has received one, each cell has the sent
-/// code, or is a space if the byte of the cell had a wrong bit.
+/// that had received no header of the page before and whose page was not open. Once it has received
+/// a header of the page, each cell has the code that the packets show, or it is a space and its
+/// byte had a wrong bit.
 #[tactic(auto, using(crate::proofs::NoiseLaws::law_of_noise))]
 pub fn law_of_noise()
     ensures { LawOfNoise }
 {}
 
 /// If well-formed packets arrive without wrong bits at a receiver that had received no header of
-/// the page before, then after a header of the page it has exactly the sent codes, whatever the
-/// page contained before.
+/// the page before and whose page was not open, then after a header of the page it has exactly the
+/// codes that the packets show, whatever the page contained before.
 #[tactic(auto, using(crate::proofs::FaultFreeLaws::law_of_fault_free))]
 pub fn law_without_noise()
     ensures { LawWithoutNoise }
@@ -45,7 +46,7 @@ pub fn law_of_lost_rows()
     ensures { LawOfLostRows }
 {}
 
-/// If no packet is lost, the law of lost rows equals the law of noise.
+/// If no packet is lost, the law of lost rows, for receivers that store rows, is the law of noise.
 pub fn law_of_nothing_lost()
     ensures { LawOfNothingLost }
 {}
@@ -57,7 +58,8 @@ pub fn law_of_dropping()
 {}
 
 /// The law of lost rows for a receiver in any state: after a header of the page, each cell has the
-/// sent code, or a space if the byte of the cell had a wrong bit or was lost.
+/// code that the packets show, or it is a space and the byte of the cell had a wrong bit or was
+/// lost. In a receiver that drops rows, a wrong bit in any byte of the row counts.
 #[tactic(auto, using(crate::proofs::NoiseLaws::law_of_recovery))]
 pub fn law_of_recovery()
     ensures { LawOfRecovery }
@@ -72,8 +74,8 @@ pub fn law_of_screen()
 
 /// The law of repeats, for well-formed packets of a page that is repeated without C4, erase page.
 /// At such a header a receiver may keep or blank each cell. After a header of the page, if no cell
-/// depends on the earlier contents of the page, each cell has the sent code, or is a space if noise
-/// or loss hit it or the last transmission has no packet of its row.
+/// depends on the earlier contents of the page, each cell has the code of the text, or it is a
+/// space and noise or loss hit it, or the last transmission has no packet of its row.
 pub fn law_of_repeats()
     ensures { LawOfRepeats }
 {}
@@ -86,7 +88,7 @@ pub fn law_of_keeping_receivers()
 {}
 
 /// If well-formed packets arrive without wrong bits, a receiver that keeps its page at headers
-/// without C4 has all sent codes, as soon as no cell depends on the earlier contents of the page.
+/// without C4 has the codes of the current text, if no cell depends on the page's earlier contents.
 #[tactic(auto, using(crate::proofs::FaultFreeLaws::law_of_kept_text))]
 pub fn law_of_kept_text()
     ensures { LawOfKeptText }

@@ -38,7 +38,7 @@ impl PacketKind {
     }
 
     /// Returns the meaning of a packet for a receiver of the page `watched`, and the packet's page
-    /// header, which may be of any page (`None` if the packet has none).
+    /// header, which may be of any page (`None` if the packet has none that can be decoded).
     ///
     /// Decodes the address only once, and the coded bytes only in a packet X/0.
     #[inline(always)]
@@ -74,8 +74,8 @@ impl PacketKind {
     }
 }
 
-// Returns whether control bit C11, magazine serial, of a page header is set. Such a header ends
-// pages of all magazines.
+// Returns whether control bit C11, magazine serial, of a page header is set. Such a header also
+// ends pages of other magazines.
 fn is_serial(header: &Header) -> bool
     ensures { result ≡ c11 header.now }
 {

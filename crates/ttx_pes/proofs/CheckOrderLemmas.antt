@@ -19,7 +19,8 @@ use Rattle.ttx_pes.specs.Reading.{teletext_at, unit_at, units_at, value_at}
 use Rattle.ttx_pes.specs.Refusal.{fault_of_check, unit_faults}
 use Rattle.ttx_pes.proofs.LineOrderLemmas.{last_place-push}
 
--- The result is the fault of the first failed test of the list; its first test has number i.
+-- The fault of the first failed test of the list, or `None` if all pass. The list begins with test
+-- number i.
 abbrev pub first_failed_test : List ℕ → ℕ → List Bool → Option PesFault
 first_failed_test b i [] = None
 first_failed_test b i (t ∷ ts) = cond (not t) (Some (fault_of_check b i))
@@ -124,8 +125,8 @@ check_of_unit_gives_unit_fault : (b : List ℕ) (i k r : ℕ) → r < 3 → i �
     → fault_of_check b i ≡ get_or unit_faults r fault.Truncated
 check_of_unit_gives_unit_fault b i k r lt e = grind (arith, nat_tests, get_or_past)
 
--- The data units from number k on can be parsed exactly if all tests pass; otherwise the fault is
--- that of the first failed test.
+-- The n data units from number k on can be parsed exactly if all their tests pass; otherwise the
+-- fault is that of the first failed test.
 unit_tests_find_fault : (n k i before : ℕ) (prefix : List UnitValue) (b d : List ℕ)
     → i ≡ 9 + 3 * k
     → last_place 0 prefix ≡ before

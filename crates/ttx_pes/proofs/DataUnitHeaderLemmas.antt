@@ -108,7 +108,8 @@ data_unit_gives_sent_unit : (field : List ℕ) (at : ℕ)
     → decoded_unit_list (take 46 (drop at field)) ≡ sent_units field (teletext_place at field)
 data_unit_gives_sent_unit field at = grind (arith, nat_tests, block_keeps_byte field at 0)
 
--- If the data units of a data field can be parsed, so can data units with the same headers.
+-- If n data units can be parsed after the units `us`, so can n data units with the same headers
+-- after units `vs` with the same last line order position.
 equal_headers_let_units_decode : (n at : ℕ) (a b : List ℕ) (us vs all : List UnitValue)
     → ((k : ℕ) → k < n → HasSameUnitHeader a b (46 * k + at))
     → last_place 0 us ≡ last_place 0 vs
@@ -170,8 +171,8 @@ equal_headers_have_same_places (suc n) at a b same =
     let rest = equal_headers_have_same_places n (at + 46) a b next in
     rw (head.id, rest) refl
 
--- If a data field can be parsed, a data field with the same data unit headers can be parsed too,
--- and has its Teletext units at the same offsets.
+-- If a data field can be parsed, a data field of the same length with the same data unit headers
+-- can be parsed too, and has its Teletext units at the same offsets.
 pub equal_headers_share_places : (a b places : List ℕ)
     → length a ≡ length b
     → 0 < length a

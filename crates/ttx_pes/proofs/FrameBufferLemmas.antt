@@ -31,7 +31,7 @@ unit_fault_refuses_value b field t f e same bad =
     let there = rw (same, drop-drop 1 39 b) at bad in
     rw (e, there) refl
 
--- The value of a PES packet fits in a `PesFrame`.
+-- If a value can be parsed from the bytes of a PES packet from byte 6 on, it fits in a `PesFrame`.
 accepted_value_is_valid : (body : List ℕ) (v : PesValue)
     → length body + 6 ≤ 1656
     → (length body + 6) % 184 ≡ 0

@@ -102,8 +102,8 @@ numbered_units_are_in_order i last (p ∷ ps) few h lt =
           rises,
     )
 
--- The law of numbered frames: the Teletext packets of one frame form a value that fits in a PES
--- packet.
+-- The law of numbered frames: up to 32 Teletext packets and a PTS below 2^33 form a value that fits
+-- in a `PesFrame`, and its units carry these packets.
 pub numbered_frame_is_valid : LawOfNumberedFrame
 numbered_frame_is_valid pts ps lt few h =
     search (

@@ -13,7 +13,8 @@ use Rattle.ttx_pes.specs.LineOrder.{line_order_place, AreInLineOrder, PrecedesIn
 abbrev ComesAfterPlace : ℕ → UnitValue → Type 0
 ComesAfterPlace before u = u.line ≢ 0 → before < line_order_place u
 
--- If units are in line order, each unit with a defined line comes after all units before it.
+-- If units are in line order after the position `before`, each unit with a defined line comes after
+-- `before` and after all earlier units with a defined line.
 line_order_gives_pairs : (before : ℕ) (us : List UnitValue)
     → AreInLineOrder before us
     → All (ComesAfterPlace before) us × AllPairs PrecedesInLineOrder us

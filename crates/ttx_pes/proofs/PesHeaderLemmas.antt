@@ -88,7 +88,7 @@ body_splits_at_byte_40 b le = grind (
 abbrev pub value_from_pts_and_units : ℕ → List UnitValue → PesValue
 value_from_pts_and_units t us = record { pts = t; units = us }
 
--- If a value can be parsed from bytes, they are a packet of the grammar from byte 6 on.
+-- If a value can be parsed from 184 * n - 6 bytes, they are a packet of the grammar from byte 6 on.
 pub decoded_body_is_valid : (n : ℕ) (b : List ℕ) (v : PesValue)
     → 1 ≤ n
     → n ≤ 9

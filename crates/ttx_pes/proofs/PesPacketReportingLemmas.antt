@@ -105,7 +105,8 @@ faulty_rest_is_answer given old left f ne r =
     settled_result_is_answer given old left r.bytes (Err f) settles ne tt
     (reported_fault_is_rest_kind old left f r).0
 
--- After as many PES packets as a day has frames, further bytes give `TooMany`.
+-- After as many PES packets as a day has frames, a reader reports `TooMany` for bytes that do not
+-- begin with a PES packet.
 pub rest_after_limit_is_refused : (given : ℕ) (old left : Option (List ℕ)) (f : PesFault)
     → given ≡ max_pes_packets
     → IsReportedRest old left f

@@ -156,7 +156,7 @@ read_bytes_are_valid_packet v b rest fit e = elim (cases_lt (length b) 6) [
 ]
 
 -- The law of one value: if a list of bytes begins with two valid PES packets, they are the same
--- packet.
+-- packet and have the same value.
 pub packet_has_one_value : LawOfOneValue
 packet_has_one_value a b x y v w p q e =
     let same =
@@ -170,8 +170,8 @@ pub rest_after-packet : (v : PesValue) (b rest : List ℕ)
 unfolding rest_after
 rest_after-packet v b rest e = rw e refl
 
--- The law of reading back: reading a canonical packet returns its value, and leaves the bytes that
--- follow.
+-- The law of reading back: reading the canonical packet of a valid value returns that value, and
+-- leaves the bytes that follow, unless 2,160,000 packets were read before.
 pub written_packet_reads_back : LawOfReadingBack
 written_packet_reads_back given v rest ne h =
     let b = canonical_packet v ++ rest in

@@ -75,8 +75,8 @@ unit_byte_has_its_check k i lt =
     let unit : (place - 46) / 46 ≡ k = omega arith in
     get_or_past header_byte_checks place _ (omega arith) ∙ rw (rest, unit) refl
 
--- If bytes agree with a packet in all checks before number i, they do so in all checks before a
--- smaller number j.
+-- If bytes agree with a packet in all checks before number i, they do so in all checks before any
+-- number j that is at most i.
 agree_below : (i j : ℕ) (b c : List ℕ) → j ≤ i → AgreeBeforeCheck i b c → AgreeBeforeCheck j b c
 agree_below i j b c le h = grind (arith, nat_tests)
 
@@ -111,8 +111,8 @@ agreeing_packets_share_unit_tests (suc n) k before j b c h long =
       agreeing_packets_share_unit_tests n (suc k),
     )
 
--- If bytes agree with a packet of n data units in all checks up to number j, test j has the same
--- result for both.
+-- If the bytes b agree with a complete packet of n data units in all checks up to number j, test j
+-- has the same result for both. If j is greater than 2, b is tested as n data units too.
 agreeing_packets_share_test : (j m n : ℕ) (b c : List ℕ)
     → AgreeBeforeCheck (suc j) b c
     → (2 < j → m ≡ n)
@@ -139,9 +139,9 @@ agreeing_packets_share_test (suc (suc (suc (suc (suc (suc (suc (suc (suc j))))))
     long all =
     grind (arith, nat_tests, agreeing_packets_share_unit_tests, agree_below)
 
--- `blank_header` is the header of a PES packet of n payloads without Teletext packets, and `blank n
--- i` is byte i of that packet. Its bytes complete the bytes that pass the first checks to a packet
--- of the grammar.
+-- `blank_header n` has bytes 0 to 13 of a PES packet of n payloads without Teletext packets, and
+-- `blank n i` is byte i of that packet. If bytes pass only the first checks, these bytes replace
+-- those of the other checks, so that a packet of the grammar results.
 abbrev blank_header : ℕ → List ℕ
 blank_header n =
     packet_start ++ (bytes_high_first 2 (packet_length n) ++ (0x80 ∷ 0x80 ∷ 0x24 ∷ pts_bytes 0))
@@ -153,8 +153,8 @@ blank_unit_is_stuffing : (n k i : ℕ) → i < 4 → blank n (unit_place k i) �
     i 0
 blank_unit_is_stuffing n k i lt = grind (arith, nat_tests, unit_place, get_or_past)
 
--- `mixed_byte` is the byte of b for all checks before number q, and the byte of the blank packet
--- for the other checks.
+-- `mixed_byte n q b i` is byte i of b if the check number of byte i is less than q, and otherwise
+-- byte i of the blank packet.
 abbrev mixed_byte : ℕ → ℕ → List ℕ → ℕ → ℕ
 mixed_byte n q b i = cond (ltb (check_of_byte i) q) (get_or b i 0) (blank n i) % 256
 

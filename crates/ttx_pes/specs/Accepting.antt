@@ -50,7 +50,7 @@ pub record HasSameUnitHeader (a b : List ℕ) (at : ℕ) : Type 0 where
   pub line : slice_index a (at + 2) ≡ slice_index b (at + 2)
   pub framing_code_matches : slice_index a (at + 3) ≡ slice_index b (at + 3)
 
--- All data units of two data fields have the same headers.
+-- Each data unit that ends within the first data field has the same header in the second.
 abbrev pub HaveSameUnitHeaders : List ℕ → List ℕ → Type 0
 HaveSameUnitHeaders a b =
     (k : ℕ) → data_unit_size * k + 1 + data_unit_size ≤ length a

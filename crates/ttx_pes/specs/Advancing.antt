@@ -91,9 +91,8 @@ abbrev pub buffered_before_known : List ℕ → Option (List ℕ) → Option (Li
 buffered_before_known [] known_bytes = known_bytes
 buffered_before_known (x ∷ buffered) known_bytes = prepend_known (x ∷ buffered) known_bytes
 
--- The next PES packet can be read without a call of the source's device: the reader's buffer is
--- empty, and the source has buffered the complete packet, or bytes with a wrong start code or
--- length.
+-- The next call of `next` does not call the source's device: the reader's buffer is empty, and the
+-- source has buffered the complete packet, or at least six bytes with a wrong start code or length.
 abbrev pub has_borrowed_pes_packet : List ℕ → List ℕ → Bool
 has_borrowed_pes_packet [] borrowed = has_enough_for_packet borrowed
 has_borrowed_pes_packet (x ∷ buffered) borrowed = false

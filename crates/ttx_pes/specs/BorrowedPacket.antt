@@ -1,5 +1,5 @@
--- When the next PES packet is completely buffered in a source, and that pending reports are flushed
--- before a read that may block.
+-- Definitions of when the next PES packet is completely buffered in a source, and of flushing
+-- pending reports before a read that may block.
 use Rattle.std.specs.Prelude.{◌≡◌, ◌⊎◌, ◌&&◌, ℕ, nat_le, Bool, true, false, List, length, take}
 use Rattle.std.specs.Prelude.{Result, Ok, Err}
 use Rattle.ttx_pes.specs.Reading.{size_at}

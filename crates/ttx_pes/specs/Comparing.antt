@@ -20,8 +20,8 @@ pub record ComparingValue : Type 0 where
   pub data_field : List ℕ
   pub count_through_fault : Option ℕ
 
--- The number of PES packets consumed, if the result is the fault of a complete packet; otherwise
--- `None`.
+-- If a reader that has consumed `given` PES packets returns the fault of a complete packet, the
+-- number of packets consumed with that packet, given + 1. Otherwise `None`.
 abbrev pub count_through_fault_after : Progress → Result Compared PesFault → Option ℕ
 count_through_fault_after (Reading given) (Err f) =
     if is_packet_content_fault f then Some (given + 1)

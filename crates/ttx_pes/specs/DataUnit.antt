@@ -1,5 +1,5 @@
--- Data units of a PES data field (EN 300 472, syntax of the PES data field): 46 bytes each. A
--- reader ignores data units that carry no Teletext packet.
+-- Data units of a PES data field (EN 300 472, syntax of the PES data field): 46 bytes each. Of a
+-- data unit that carries no Teletext packet, a reader checks only the first two bytes.
 use Rattle.std.specs.Prelude.{◌≡◌, ℕ, zero, suc, ◌+◌, ◌-◌, ◌*◌, ◌<◌, ◌≤◌, Bool, false, ◌==◌, ◌||◌}
 use Rattle.std.specs.Prelude.{List, [], ◌∷◌, ◌++◌, length, map, replicate, Option, Some, None}
 use Rattle.std.specs.Option.{option_to_list}

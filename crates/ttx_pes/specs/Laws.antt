@@ -114,8 +114,8 @@ abbrev pub LawOfPesPackets : Type 0
 LawOfPesPackets = (bytes : List ℕ) → AreBytes bytes → SplitInto bytes (pes_packets_after 0 bytes)
 
 -- A range of a file contains the PES packets with the indices in the range and, if it extends
--- beyond the last packet of the file, the bytes after that packet. The first packet of the range
--- has the index `first`, if the file has that many packets.
+-- beyond the last packet of the file, the bytes after that packet. Its first index is `first`, or
+-- the number of packets in the file if it has fewer.
 abbrev pub LawOfRanges : Type 0
 LawOfRanges =
     (first : ℕ) (last : Option ℕ) (pes_packets : List (List ℕ)) (rest : List ℕ)

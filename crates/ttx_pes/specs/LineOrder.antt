@@ -37,7 +37,7 @@ AreInLineOrder before (u ∷ units) =
 abbrev pub PrecedesInLineOrder : UnitValue → UnitValue → Type 0
 PrecedesInLineOrder u v = u.line ≢ 0 → v.line ≢ 0 → line_order_place u < line_order_place v
 
--- The unit that carries Teletext packet number i of a frame, counted from 0: lines 7 to 22 of the
+-- The unit that carries Teletext packet number i of a frame, from 0 to 31: lines 7 to 22 of the
 -- first field, then 7 to 22 of the second, as in EN 300 472; data_unit_id 03.
 abbrev pub numbered_unit : ℕ → List ℕ → UnitValue
 numbered_unit i packet =

@@ -40,13 +40,14 @@ with_unit units None = Ok units
 with_unit units (Some u) =
     if may_follow (last_place 0 units) u then Ok (units ++ u ∷ []) else Err fault.LineOrder
 
--- Appends the Teletext unit of a data unit, if there is one, to the units read so far.
+-- Appends the Teletext unit of a data unit, if there is one, to the units read so far, or returns
+-- the fault of the data unit.
 unfoldable pub unit_at : List UnitValue → List ℕ → Result (List UnitValue) PesFault
 unit_at units b = do
   u ← teletext_at b
   with_unit units u
 
--- Appends the Teletext units of n data units to the units read so far.
+-- Appends the Teletext units of n data units to the units read so far, or returns the first fault.
 unfoldable pub units_at : ℕ → List UnitValue → List ℕ → Result (List UnitValue) PesFault
 units_at zero units b = Ok units
 units_at (suc n) units b = do
@@ -90,7 +91,8 @@ is_gap_marker pes_packet = (length pes_packet == payload_size) && is_all_stuffin
 abbrev pub flags_fault : List ℕ → PesFault
 flags_fault b = if is_all_stuffing b then fault.Lost else fault.Flags
 
--- The PTS of a PES packet, parsed from its bytes 6 to 45, or their first fault.
+-- The PTS of a PES packet, parsed from its bytes from byte 6 on, or the first fault before the data
+-- units.
 unfoldable pub pts_at : List ℕ → Result ℕ PesFault
 pts_at b =
     if not (byte_at b 6 / 0x10 == 8) then Err (flags_fault b)
@@ -128,7 +130,7 @@ size_at b =
     Err fault.Length
     else Ok (stated_size b)
 
--- The value of the PES packet at the front of b, and the bytes after the packet.
+-- The value of the PES packet at the front of b and the bytes after the packet, or the first fault.
 unfoldable pub packet_at : List ℕ → Result (PesValue × List ℕ) PesFault
 packet_at b = do
   head ← (if nat_lt (length b) 6 then Err fault.Truncated else Ok (take 6 b))

@@ -46,7 +46,8 @@ abbrev pub fault_of_check : List ℕ → ℕ → PesFault
 fault_of_check b i =
     slice_index_or (packet_faults b) i (slice_index_or unit_faults (i % 3) fault.Truncated)
 
--- The check number of bytes that may have any value: greater than the number of any check.
+-- A number that is greater than the number of any check. Bytes that may have any value have at
+-- least this check number.
 abbrev pub check_of_unchecked_bytes : ℕ
 check_of_unchecked_bytes = 9 + 3 * max_units
 

@@ -1,4 +1,4 @@
-//! Parsed fields of the last PES packet, so that a repeat of this packet need not be parsed.
+//! Parsed fields of the last PES packet, so that the data units of a repeat need not be parsed.
 ghost use Rattle.std.specs.Prelude.{◌≡◌, ◌+◌, ◌/◌, ◌%◌, ◌≤◌, ◌↔◌, true, Ok, Err, OnOk, IfOk, IfErr};
 ghost use Rattle.std.specs.Prelude.{IfSome, length, drop, take, []};
 ghost use Rattle.ttx_pes.specs.DataUnit.{data_unit_size};
@@ -46,7 +46,8 @@ impl Model for BufferedPacket {
 }
 
 // Changes `places` from the offsets of the Teletext units in the data field `kept` to those in
-// `field`. Usually the data units of both are on the same lines, so the offsets do not change.
+// `field`, or returns the first fault of `field`. Usually the data units of both are on the same
+// lines, so the offsets do not change.
 #[inline(always)]
 fn find_places(places: &mut UnitPlaces, kept: &[u8], field: &[u8]) -> Result<(), PesFault>
     requires within { EndWithinField (length kept.now) places.old }
@@ -103,7 +104,7 @@ impl BufferedPacket {
         self.repeats = false;
     }
 
-    // Returns the PTS of the packet in the buffer, in ticks of 90 kHz.
+    // Returns the PTS of the packet in the buffer, in ticks of 90 kHz, or 0 if there is no packet.
     pub(crate) fn pts(&self) -> u64
         ensures { result ≡ self.now.pts }
     {

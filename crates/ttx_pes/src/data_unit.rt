@@ -22,7 +22,7 @@ const DATA_UNIT_LENGTH: u8 = 0x2C;
 // The framing code of a Teletext unit.
 const FRAMING_CODE: u8 = 0xE4;
 
-// Returns whether a data unit carries a Teletext packet.
+// Returns whether a data unit carries a Teletext packet, or its fault: `UnitLength` or `Framing`.
 #[inline(always)]
 #[tactic(auto, unfolding(crate::specs::Reading::teletext_at))]
 pub(crate) fn is_teletext(block: &[u8]) -> Result<bool, PesFault>
@@ -46,7 +46,7 @@ pub(crate) fn is_teletext(block: &[u8]) -> Result<bool, PesFault>
     Ok(true)
 }
 
-// Returns the Teletext unit of a data unit, or `None` if it carries none.
+// Returns the Teletext unit of a data unit, `None` if it carries none, or its fault.
 fn decode_data_unit(block: &[u8]) -> Result<Option<Unit>, PesFault>
     requires { length block.now ≡ data_unit_size }
     ensures exact { teletext_at block.now ≡ result }
@@ -72,7 +72,8 @@ pub(crate) fn decode_unit(block: &[u8]) -> Unit
     Unit::new(block[0], field, line, packet)
 }
 
-// Appends the Teletext unit of a data unit, if there is one, to a `PesFrame`.
+// Appends the Teletext unit of a data unit, if there is one, to a `PesFrame`, or returns the fault
+// of the data unit.
 #[tactic(auto, unfolding(crate::specs::Reading::unit_at))]
 fn append_unit_from_block(frame: &mut PesFrame, block: &[u8]) -> Result<(), PesFault>
     requires room { length frame.old.units + 1 ≤ max_units }

@@ -72,14 +72,14 @@ impl FrameBuffer {
         }
     }
 
-    // Returns the PTS of the stored packet, in ticks of 90 kHz.
+    // Returns the PTS of the stored packet, in ticks of 90 kHz, or 0 if no packet is stored.
     pub(crate) fn pts(&self) -> u64
         ensures { result ≡ self.now.frame.pts }
     {
         self.known.pts()
     }
 
-    // Returns the Teletext units of the stored packet.
+    // Returns the Teletext units of the stored packet, or no units if no packet is stored.
     pub(crate) fn units(&self) -> SentUnits<'_>
         ensures value { result ≡ self.now.frame.units }
         ensures frame { IsPesValue self.now.frame }
@@ -94,8 +94,8 @@ impl FrameBuffer {
         self.known.clear();
     }
 
-    // Stores a packet that may differ from the stored one. Not inlined, for speed: such packets are
-    // rare.
+    // Stores a packet that may differ from the stored one, or removes the stored one if the packet
+    // is invalid. Not inlined, for speed: such packets are rare.
     #[inline(never)]
     fn compare_and_buffer(&mut self, pes_packet: &[u8]) -> Result<bool, PesFault>
         requires { IsPesPacket pes_packet.now }
@@ -122,8 +122,8 @@ impl TakePesPacket for FrameBuffer {
 
     ghost is_take = { BuffersPesPacket };
 
-    // Stores a packet, and compares it with the stored one. For speed, a repeat is tested first
-    // only if the stored packet was a repeat too.
+    // Compares a packet with the stored one, and stores it. An invalid packet only removes the
+    // stored one. For speed, a repeat is tested first only if the stored packet was a repeat too.
     #[inline(always)]
     fn take(&mut self, pes_packet: &[u8]) -> Result<bool, PesFault> {
         if self.known.repeats() {

@@ -21,7 +21,8 @@ pub struct PesFrame {
     // reset.
     units: ArrayVec<Unit, MAX_UNITS>,
     count: usize,
-    // The line order position of the last unit, which the next unit must follow.
+    // The line order position of the last unit with a defined line, which the next unit must
+    // follow, or 0 if there is none.
     last: u8,
 }
 

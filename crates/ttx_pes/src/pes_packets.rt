@@ -71,7 +71,7 @@ pub trait PesPackets {
     ghost device: { Self → List GName } = { no_borrowed_devices };
 
     /// Lets `taker` process the next PES packet. If there is none, the taker is not called, and
-    /// later calls consume nothing.
+    /// nothing is consumed.
     ///
     /// # Errors
     ///

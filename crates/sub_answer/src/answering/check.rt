@@ -62,7 +62,8 @@ pub fn print_verdict<S: Source, P: NumberedPesPackets, K: Sink>(
     print_answer(answer.first, answer.result, out)
 }
 
-/// The answer of a check, and the number of the first PES packet in its file.
+/// The answer of a check, and the number of the first PES packet in its file; 0 if the subtitle
+/// file was not loaded.
 #[derive(Clone, Copy)]
 struct Answer {
     first: u64,

@@ -32,9 +32,9 @@ use ttx_pes::{NumberedPesPackets, PesFault};
 /// faults of the subtitle file are first. The last line is the number of faults, the line of an
 /// accepted transmission, or the line about a failed device or a lack of memory.
 ///
-/// If subtitles are rejected, the PES file is compared with the reliable subtitles; `pes` is not
-/// read if this is impossible. Returns `Done` if the files are accepted, `Refused` if there is a
-/// fault, and `Fault` if a device failed or memory ran out. Nothing more is read or printed after
+/// If the subtitle file has faults, the PES file is compared with the reliable subtitles; `pes` is
+/// not read if this is impossible. Returns `Done` if the files are accepted, `Refused` if there is
+/// a fault, and `Fault` if a device failed or memory ran out. Nothing more is read or printed after
 /// `out` failed.
 pub fn print_every_fault<S: Source, P: NumberedPesPackets, K: Flush>(
     alloc: Global,
@@ -57,8 +57,8 @@ pub fn print_every_fault<S: Source, P: NumberedPesPackets, K: Flush>(
     ensures device { P.device pes.new ≡ P.device pes.old }
     ensures pes_failure_count { CountsFault P.failure_count pes.old result pes.new }
     ensures out_count { CountsFault K.failure_count out.old result out.new }
-    // All output is flushed before the device of the PES file is read. So if this read fails, at
-    // most the line about the failure is still in the buffer.
+    // If the buffer was empty, all output is flushed before the device of the PES file is read. So
+    // if this read fails, at most the line about the failure is still in the buffer.
     ensures followed { K.buffered out.old ≡ 0
         → P.failure_count pes.old < P.failure_count pes.new
         → BuffersLastLineOnly K.contents K.buffered K.is_push out.new }
@@ -87,7 +87,8 @@ pub fn print_every_fault<S: Source, P: NumberedPesPackets, K: Flush>(
 
 // Reports the faults of the subtitle file to a printer, and then the events of the PES file, if it
 // can be checked against the subtitle file. Returns the counts of the PES file; `None` if it was
-// not checked, or if the printer stopped the check.
+// not checked, or if the printer stopped the check. The errors are a failed source and a lack of
+// memory.
 fn report_every_fault<S: Source, P: NumberedPesPackets, K: Flush>(
     alloc: Global,
     stl: &mut S,

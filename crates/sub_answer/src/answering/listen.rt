@@ -52,7 +52,7 @@ pub fn print_listening<P: NumberedPesPackets, K: Sink>(
         ReceiverKind::Keep | ReceiverKind::DropRow => {
             print_state_of::<Keep, P, K>(pes, listening, out)
         }
-        // The function `listen` restarts a receiver of any type at a header.
+        // For `BlankEachHeader`, `listen_pes_packets` restarts the receiver at headers of its page.
         ReceiverKind::Blank | ReceiverKind::BlankEachHeader => {
             print_state_of::<Blank, P, K>(pes, listening, out)
         }

@@ -32,8 +32,8 @@ pub fn print_survey<S: Source, K: Flush>(
     ensures ended { result ≡ Status.Done → IsAtEnd (S.remaining source.new) }
     ensures source_count { CountsFault S.failure_count source.old result source.new }
     ensures out_count { CountsFault K.failure_count out.old result out.new }
-    // All output is flushed before the device of the source is read. So if this read fails, at most
-    // the line about the failure is still in the buffer.
+    // If the buffer was empty, all output is flushed before the device of the source is read. So if
+    // this read fails, at most the line about the failure is still in the buffer.
     ensures followed { K.buffered out.old ≡ 0
         → S.failure_count source.old < S.failure_count source.new
         → BuffersLastLineOnly K.contents K.buffered K.is_push out.new }

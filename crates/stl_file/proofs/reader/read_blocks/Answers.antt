@@ -1,4 +1,4 @@
--- At each return of `read_blocks`, the blocks read so far determine its result.
+-- At each return of `read_blocks`, the bytes read determine its result, unless the source failed.
 use Rattle.std.proofs.Common.{rules, refl, arith}
 use Rattle.std.proofs.lemmas.Bool.Decides.{nat_tests}
 use Rattle.std.proofs.lemmas.Bool.{ne_eqb}

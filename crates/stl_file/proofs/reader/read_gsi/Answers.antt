@@ -1,4 +1,5 @@
--- The bytes of the file determine the result of `read_gsi`, and no file begins with rejected bytes.
+-- If the source does not fail, the bytes of the file determine the result of `read_gsi`. No file
+-- begins with a rejected GSI block.
 use Rattle.std.proofs.Common.{arith, rules}
 use Rattle.std.proofs.lemmas.Grind.{common_steps}
 use Rattle.stl_file.proofs.OpeningLemmas.{invalid_gsi_refuses_opening, if_err_of_every_error}

@@ -1,5 +1,5 @@
--- In each iteration and at each return of `load_all_with_allocator`, exactly the faults of the
--- blocks that were read are reported.
+-- In each iteration and at each return of `load_all_with_allocator`, exactly the faults found so
+-- far are reported, unless the receiver stops the reports.
 use Rattle.std.proofs.Common.{◌∙◌, ◌++◌, ◌<◌, refl, rules, sym, [], ◌∷◌, map, arith}
 use Rattle.std.proofs.Common.{drop, inl, inr}
 use Rattle.std.proofs.lemmas.Bool.Decides.{nat_tests}

@@ -1,4 +1,4 @@
--- `draw_lines` draws one line in each iteration, until no line is left.
+-- `draw_lines` draws one line in each iteration, until a line has a fault or no line is left.
 use Rattle.std.proofs.Common.{arith}
 use Rattle.std.proofs.lemmas.Bool.Decides.{nat_tests}
 use Rattle.stl_rows.proofs.DrawLinesLemmas.{following-codes, line-codes, line-end, line-fault}

@@ -1,4 +1,5 @@
--- A request is answered from the PES packets that the bytes of its source contain.
+-- If `reads_pes_packets` is true of the request, `answer` uses `first` as PES packets, otherwise as
+-- bytes. In both cases its contract follows from that of `answer_from_inputs`.
 use Rattle.std.proofs.Common.{◌∙◌, rules, sym}
 use Rattle.sub_answer.proofs.EndingLemmas.{answers_second, followed_with_file}
 use Rattle.sub_answer.proofs.EndingLemmas.{followed_of_pes_packets}

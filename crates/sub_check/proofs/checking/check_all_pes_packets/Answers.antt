@@ -1,5 +1,5 @@
--- The reported events are those of the whole file, and `check` would return the first fault among
--- them.
+-- If the report sink does not stop and the source does not fail, the reported events are those of
+-- the whole file, and `check` would return the first fault among them.
 use Rattle.std.proofs.Common.{drop, sym, take}
 use Rattle.std.proofs.lemmas.List.{take-append-drop}
 use Rattle.stl_rows.specs.Judged.{has_unreliable_subtitle}

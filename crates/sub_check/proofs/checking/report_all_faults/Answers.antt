@@ -1,4 +1,4 @@
--- If all subtitles are reliable, the criteria are those of the programme.
+-- If all subtitles are reliable, the criteria of the check are those of the programme.
 use Rattle.sub_check.proofs.FirstAnswerLemmas.{known_programme_is_valid, reports_known}
 use Rattle.sub_check.proofs.checking.report_all_faults.Goals as goal
 

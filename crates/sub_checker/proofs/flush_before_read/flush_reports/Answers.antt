@@ -1,4 +1,4 @@
--- Flushing reports no event again. If it fails, the check is stopped.
+-- Flushing neither repeats nor adds an event. If it fails, the check is stopped.
 use Rattle.std.proofs.Common.{◌∙◌, sym}
 use Rattle.sub_io.proofs.FlushingLemmas.{keeps-reported, error_is_not_ok}
 use Rattle.sub_checker.proofs.FusedAudienceLemmas.{flush_stops_device_if_it_fails}

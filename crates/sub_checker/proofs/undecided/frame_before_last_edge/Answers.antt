@@ -1,4 +1,4 @@
--- The expected page is known or unknown in all frames between two of its changes.
+-- Up to the next cue, the expected page is known in all frames or unknown in all of them.
 use Rattle.std.proofs.Common.{◌≡◌, ℕ, arith, subst, sym}
 use Rattle.stl_rows.specs.DuePage.{IsEdge}
 use Rattle.stl_rows.specs.Programme.{ProgrammeValue}

@@ -1,4 +1,4 @@
--- If the bytes of a source are known, `fill` determines the remaining bytes.
+-- If the bytes of a source are known, a successful `fill` determines the remaining bytes.
 use Rattle.sub_io.proofs.DeviceLemmas.{FillsFromKnown-from_result}
 use Rattle.sub_io.proofs.source.fill.Goals as goal
 

@@ -1,4 +1,5 @@
--- `listen_pes_packets` ends at the first PES packet that ends reception, and returns the reason.
+-- `listen_pes_packets` ends at the end of the file, at the first PES packet after TIME, or with a
+-- fault: a PES packet is unreadable or out of order, or loses a packet that must not be lost.
 use Rattle.std.proofs.Common.{◌+◌, ◌≤◌, ◌∙◌, Err, List, Ok, Option, Result, Some, ap, arith, length}
 use Rattle.std.proofs.Common.{refl, subst, sym}
 use Rattle.std.proofs.lemmas.Result.{err_from_is_err_and}

@@ -1,4 +1,5 @@
--- After n PES packets the receiver has used all their packets that arrive.
+-- Loop invariant of `listen_pes_packets`: after n PES packets, the receiver has received exactly
+-- those of their packets that arrive and that it uses.
 use Rattle.std.proofs.Common.{◌≡◌, ◌*◌, ◌-◌, ◌≤◌, ℕ, List, Option, Some}
 use Rattle.ttx_page.specs.Screen.{display}
 use Rattle.ttx_pes.specs.PesGrammar.{max_units}

@@ -1,4 +1,5 @@
--- `first_forbidden_loss` returns the first packet that is listed as lost but must not be lost.
+-- `first_forbidden_loss` returns the index of the first packet that is listed as lost and not
+-- skipped, but must not be lost.
 use Rattle.std.proofs.lemmas.Bool.Decides.{nat_tests}
 use Rattle.std.proofs.Common.{◌<◌, ℕ, length, arith, rules, sym, ◌∙◌}
 use Rattle.std.proofs.lemmas.List.{length-map, nil_from_length}

@@ -1,4 +1,5 @@
--- Each packet so far that is listed as lost may be lost.
+-- Loop invariant of `first_forbidden_loss`: no packet so far is lost that must not be lost, so the
+-- result depends only on the remaining packets.
 use Rattle.std.proofs.Common.{◌≡◌, ◌+◌, drop, option_map}
 use Rattle.sub_rules.specs.PacketRules.{packets_of_units}
 use Rattle.sub_listen.specs.Reception.{first_forbidden_loss, reception_of}

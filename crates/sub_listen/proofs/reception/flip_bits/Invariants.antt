@@ -1,4 +1,5 @@
--- Applying the remaining bit flips to the bytes gives the packet with all bit flips.
+-- Loop invariant of `flip_bits`: the bytes so far, with the remaining bit flips, are the packet
+-- with all bit flips.
 use Rattle.std.proofs.Common.{◌≡◌, drop}
 use Rattle.sub_request.specs.Flips.{with_flips}
 use Rattle.sub_listen.proofs.reception.flip_bits.Given as goal

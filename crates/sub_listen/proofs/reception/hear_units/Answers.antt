@@ -1,4 +1,5 @@
--- Each iteration of `hear_units` passes one more packet to the receiver.
+-- Each iteration of `hear_units` passes one more packet to the receiver, if the packet arrives and
+-- the receiver uses it.
 use Rattle.std.proofs.Common.{◌≡◌, ◌+◌, ◌<◌, ℕ, ◌∷◌, List, drop, length, arith, rules, subst, ◌∙◌}
 use Rattle.std.proofs.lemmas.List.{length-map}
 use Rattle.ttx_packet.specs.PageId.{PageIdValue}

@@ -1,4 +1,5 @@
--- When the receiver has used the remaining packets, it has used all packets of the PES packet.
+-- Loop invariant of `hear_units`: if the receiver now receives the packets that remain of the PES
+-- packet, its state is that after all packets of the PES packet.
 use Rattle.std.proofs.Common.{◌≡◌, ◌+◌, drop}
 use Rattle.sub_rules.specs.PacketRules.{packets_of_units}
 use Rattle.ttx_page.specs.Screen.{Display, display}

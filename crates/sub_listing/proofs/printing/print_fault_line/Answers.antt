@@ -1,4 +1,4 @@
--- The sink received exactly the line of the fault.
+-- If the sink did not fail, it received exactly the line of the fault.
 use Rattle.std.proofs.Common.{◌≡◌, rules, subst, true}
 use Rattle.std.specs.Io.KnownBytes.{Appends}
 use Rattle.sub_io.proofs.DeviceLemmas.{AppendsPrefix-whole}

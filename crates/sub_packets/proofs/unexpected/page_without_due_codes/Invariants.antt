@@ -1,4 +1,5 @@
--- No code of `left` was expected in its cell in the frames from `at` to `frame`.
+-- In `left`, each code that was expected in its cell in the frames from `at` to `frame` is replaced
+-- by a space.
 use Rattle.std.proofs.Common.{◌+◌, ◌-◌, ◌≤◌}
 use Rattle.sub_packets.specs.UnexpectedCodes.{LacksDueCodes}
 use Rattle.sub_plan.specs.Schedule.{due_page_in}

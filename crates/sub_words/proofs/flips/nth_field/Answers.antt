@@ -1,4 +1,5 @@
--- `nth_field` splits the text at its colons and returns one of the fields.
+-- `nth_field` splits the text at its colons and returns the field with the given index, if there is
+-- one.
 use Rattle.std.proofs.Common.{lit<}
 use Rattle.std.proofs.lemmas.Iterator.Consumers.{nth_from_yields_List}
 use Rattle.std.proofs.lemmas.Iterator.Splits.{YieldsList-from_str_split}

@@ -1,4 +1,4 @@
--- `add_items` appends the item of each text, until a text is no item.
+-- `add_items` appends the item of each text, until a text is no item or repeats an earlier item.
 use Rattle.std.proofs.Common.{◌≡◌, ◌∙◌, ◌+◌, ◌<◌, ◌≤◌, ℕ, Bool, true, false, List, ◌∷◌, Option}
 use Rattle.std.proofs.Common.{Some, None, drop, get_or, length, map, subst, sym}
 use Rattle.std.proofs.lemmas.List.{at_drop_all, at_drop_more}

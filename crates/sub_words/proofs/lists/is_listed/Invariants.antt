@@ -1,5 +1,5 @@
--- Loop invariant of `is_listed`: no item so far is equal, so the result depends only on the other
--- items.
+-- Loop invariant of `is_listed`: no item so far is the same by `is_same`, so the result depends
+-- only on the other items.
 use Rattle.std.proofs.Common.{◌≡◌, drop}
 use Rattle.std.specs.List.{list_any}
 use Rattle.sub_words.proofs.lists.is_listed.Given as goal

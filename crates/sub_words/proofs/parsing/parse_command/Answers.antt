@@ -1,4 +1,5 @@
--- `parse_command` returns the request of the command's arguments.
+-- `parse_command` returns the request that the command and its arguments ask for, or a fault; it
+-- returns a fault if there are no arguments.
 use Rattle.std.proofs.Common.{rules}
 use Rattle.clap.specs.Words.{found_of, rows_of}
 use Rattle.clap.specs.declared.parser.matches.ArgMatches.TheViews.{out-ArgMatches}

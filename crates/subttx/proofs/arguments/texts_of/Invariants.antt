@@ -1,5 +1,5 @@
--- Loop invariant of `texts_of`: the texts so far, followed by the texts of the remaining arguments,
--- are the texts of all arguments.
+-- After each iteration of `texts_of`, the texts so far, followed by the texts of the remaining
+-- arguments, are the texts of all arguments.
 use Rattle.std.proofs.Common.{◌≡◌, ◌++◌, drop, map, string_bytes}
 use Rattle.sub_words.specs.Commands.{texts_of}
 use Rattle.subttx.proofs.arguments.texts_of.Given as goal

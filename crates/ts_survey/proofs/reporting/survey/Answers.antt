@@ -1,4 +1,4 @@
--- Each iteration of `survey` appends lines to the output.
+-- Each iteration of `survey` only appends to the output.
 use Rattle.std.proofs.Common.{◌≡◌, ◌≤◌, ◌++◌, ◌∙◌, [], ap, false, length, refl, rules, subst}
 use Rattle.std.proofs.Common.{sym, take}
 use Rattle.std.proofs.KnownBytes.{Appends-trans, Consumes-nil, Consumes-trans}

@@ -1,5 +1,5 @@
--- In each iteration of `survey`, no device has failed, and the text about the bytes read so far is
--- in the sink. The text is flushed if nothing was buffered before the call.
+-- In each iteration of `survey`, no device has failed, and all text printed so far is in the sink.
+-- The text is flushed if nothing was buffered before the call.
 use Rattle.std.proofs.Common.{◌≡◌, ◌≤◌, List, ℕ, false, length, take, true, vec_len}
 use Rattle.std.specs.Io.KnownBytes.{Consumes}
 use Rattle.ts_survey.specs.Counted.{HasReadUpToBuffer}

@@ -1,4 +1,5 @@
--- `next` returns the next item; the consumed bytes contain it, and no byte after it was read.
+-- `next` returns the next item; the consumed bytes determine it, and no more bytes were requested
+-- than it needs.
 use Rattle.std.proofs.Common.{[], refl}
 use Rattle.std.proofs.lemmas.Result.{err_from_is_err_and}
 use Rattle.mpeg_ts.specs.Stream.{remaining_output}

@@ -1,4 +1,4 @@
--- The command reads at most 12,800,897 bytes from the start of its input.
+-- The first 12,800,897 bytes of the input determine the result of the command.
 use Rattle.std.proofs.Common.{◌∙◌}
 use Rattle.sub_listing.proofs.normal.NormalWorkWork.work.Goals as goal
 

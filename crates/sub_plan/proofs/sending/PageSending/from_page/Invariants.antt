@@ -1,5 +1,5 @@
 -- Loop invariant of `from_page`: the packets so far, followed by the remaining rows, are the header
--- of the page and all its rows.
+-- of the page and all its rows that are sent.
 use Rattle.std.proofs.Common.{◌≡◌, ◌-◌, ◌≤◌, ◌∷◌, ◌++◌, length}
 use Rattle.ttx_packet.specs.PageHeader.{header_packet}
 use Rattle.sub_plan.specs.Sending.{watched_header, rows_from}

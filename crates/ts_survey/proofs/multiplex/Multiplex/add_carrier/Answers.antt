@@ -1,4 +1,5 @@
--- The PID that `add_carrier` follows is requested; its line is printed word by word.
+-- If the PID that `add_carrier` follows is requested, no unrequested PID is added to the followed
+-- PIDs; the line of the PID is printed word by word.
 use Rattle.std.proofs.Common.{refl, rules}
 use Rattle.ts_survey.proofs.RequestedLemmas.{one-more-requested}
 use Rattle.ts_survey.proofs.TextLemmas.{adds-last, adds-word}

@@ -1,4 +1,4 @@
--- In each iteration of `read_complete_sections`, the requested PID and page stay the same.
+-- In each iteration of `read_complete_sections`, the requested PID and pages stay the same.
 use Rattle.ts_survey.specs.Requested.{KeepsRequested}
 use Rattle.ts_survey.proofs.multiplex.Multiplex.read_complete_sections.Given as goal
 

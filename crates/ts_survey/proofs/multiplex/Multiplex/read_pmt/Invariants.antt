@@ -1,4 +1,4 @@
--- In each iteration of `read_pmt`, the requested PID and page stay the same.
+-- In each iteration of `read_pmt`, the requested PID and pages stay the same.
 use Rattle.ts_survey.specs.Requested.{KeepsRequested}
 use Rattle.ts_survey.proofs.multiplex.Multiplex.read_pmt.Given as goal
 

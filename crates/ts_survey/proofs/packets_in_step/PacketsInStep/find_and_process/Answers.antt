@@ -1,4 +1,5 @@
--- `find_and_process` begins without items and finds one item after another.
+-- `find_and_process` finds the packets and the skipped bytes between them one after another, each
+-- once and in order.
 use Rattle.std.proofs.Common.{◌≡◌, ◌≤◌, ◌∙◌, ap, arith, drop, length-drop, rules}
 use Rattle.mpeg_ts.specs.PacketSize.{bytes_of}
 use Rattle.ts_survey.proofs.InStepLemmas.{found_none, found_packet, found_skips}

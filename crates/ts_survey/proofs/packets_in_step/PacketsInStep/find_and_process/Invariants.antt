@@ -1,4 +1,4 @@
--- In each iteration of `find_and_process`, the items up to `place` were found; each iteration
+-- In each iteration of `find_and_process`, the items up to `at` were found; each iteration
 -- processes at least one more byte.
 use Rattle.std.proofs.Common.{◌≤◌}
 use Rattle.ts_survey.specs.InStep.{ItemsFound}

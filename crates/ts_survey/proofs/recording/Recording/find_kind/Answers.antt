@@ -1,4 +1,4 @@
--- The line `head` is printed in this call, or was printed before.
+-- When `find_kind` calls `inspect`, the line `head` is printed in this call, or was printed before.
 use Rattle.std.proofs.Common.{◌≡◌, ◌∙◌, ap, false, rules, subst}
 use Rattle.ts_survey.specs.FirstLines.{kind_texts}
 use Rattle.ts_survey.specs.Lines.{AddsTexts}

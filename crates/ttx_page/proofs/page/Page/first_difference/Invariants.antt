@@ -1,7 +1,7 @@
 use Rattle.std.proofs.Common.{◌≡◌, ℕ, ◌<◌, [], slice_index_or}
 use Rattle.ttx_page.proofs.page.Page.first_difference.Given as goal
 
--- In each iteration of `first_difference`, the rows above row i of both pages are equal.
+-- In each iteration of `first_difference`, the first i rows of both pages are equal.
 abbrev pub invariant-loop-i : goal.invariant-loop-i
 invariant-loop-i l =
     (k : ℕ)

@@ -1,4 +1,4 @@
--- A PES packet that differs from the stored packet replaces it in the buffer.
+-- A valid PES packet with another data field replaces the stored packet; a fault removes it.
 use Rattle.std.proofs.Common.{◌∙◌, Bool, false, Ok, Result, arith, subst, sym}
 use Rattle.std.proofs.lemmas.Bool.{true≢false}
 use Rattle.ttx_pes.specs.Accepting.{BuffersPesPacket, FrameBufferValue}
