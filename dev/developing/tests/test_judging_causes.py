@@ -3,9 +3,10 @@ from __future__ import annotations
 
 import os
 import random
+import re
 import unittest
 from types import SimpleNamespace
-from typing import Any, Mapping
+from typing import Any
 
 from subtitles.common.command_line import counted
 from subtitles.common.program import TOP, read
@@ -91,12 +92,12 @@ class SenderFaults(ProgrammeCase):
             self.must(name, any(f"`{name}" in one for one in begins))
 
 
-# Test random causes: each row of dev/vectors/causes.tsv has subtitles, decoded pages, and the
-# causes found when the row was last reviewed.
+# Causes of refused subtitles, by tables. A row has the subtitles with their frames, and the decoded
+# pages with their first frames. `100:a/4` is a page that another header ends 4 frames later. `!` has
+# the frames of a pause between PES packets, `?` unreadable frames, `~` lost frames, and `@` a frame
+# with rows without a header.
 
 CAUSES_FILE = os.path.join(DEV, "vectors", "causes.tsv")
-COUNT = 500  # number of rows
-FRAME_SHIFTS = (-260, -30, -3, -1, 1, 1, 2, 3, 5, 8, 30, 240, 260)  # frames by which cues are moved
 END = 1600  # end of the examined range of frames
 
 
@@ -121,132 +122,95 @@ def empty(within: int = 0) -> Timeline:
     return Timeline(Packets(0), PAGE, 0, within)
 
 
-def steady(decoded: Timeline) -> None:
-    """Set the number of PES packets to 500, enough for pauses between them to be considered."""
-    decoded.count = 500
+def parse_span(frames: str) -> Span:
+    first, _, last = frames.rpartition("-")
+    return Span(int(first or last), int(last))
 
 
-def fake_answer(spans: list[tuple[int, int]], *edges: tuple[int, int]) -> Any:
+def make_programme(subtitles: str, first_number: int = 1) -> ExpectedPages:
+    items = [item.split() for item in subtitles.split(";")]
+    return ExpectedPages(
+        [Subtitle(at, at + first_number - 1, *parse_span(frames), 20, 2, b"")
+         for at, (frames, _) in enumerate(items, 1)], [make_page_named(page) for _, page in items])
+
+
+def decode(sent: str, programme: ExpectedPages, within: int = 0, first: int = 0,
+           last: int = 999) -> Timeline:
+    """Return the decoded pages of a row, for a recording from frame `first` to frame `last`."""
+    decoded = empty(within)
+    spans: dict[str, list[Span]] = {mark: [] for mark in "!?~@"}
+    for item in sent.split():
+        if item[0] in spans:
+            spans[item[0]].append(parse_span(item[1:]))
+            continue
+        frame, page, frames_open = re.split("[:/]", f"{item}/0")[:3]
+        decoded.record_page(int(frame), make_page_named(page))
+        for at in (int(frame), int(frame) + int(frames_open)):
+            decoded.record_opening(at)
+    decoded.first, decoded.last, decoded.lost = first, last, SpanIndex(spans["~"])
+    decoded.uncertain_spans, decoded.pauses = spans["?"], spans["!"]
+    decoded.count = 500  # enough PES packets for pauses between them to be considered
+    decoded.stray_rows = [(span, ((19, programme.pages[-1][18]),)) for span in spans["@"]]
+    return decoded
+
+
+def fake_answer(spans: list[Span], *edges: tuple[int, int]) -> Any:
     """Return output of `check`: fault 72 in the frames `spans`, and other faults with frames."""
     firsts = {number: parse_fault_line(f"refused {number} Edge frame {format_frame(frame)}")
               for number, frame in edges}
     return SimpleNamespace(first_faults=firsts, fault_spans={72: Spans(spans)})
 
 
-class RandomRow:
-    """A row of dev/vectors/causes.tsv: a random programme and its decoded pages."""
+def find_wrong_spans(causes: Causes) -> list[Span]:
+    """Return the frames with a wrong page, as `check` reports them."""
+    wrong = {frame for frame in range(min(causes.timeline.last, END))
+             if not causes.finder.is_expected_page(frame)}
+    return [Span(*ends) for ends in zip(sorted(frame for frame in wrong if frame - 1 not in wrong),
+                                        sorted(frame for frame in wrong if frame + 1 not in wrong))]
 
-    def __init__(self, number: int) -> None:
-        self.chance = chance = random.Random(number)
-        frame, times = chance.choice((100, 300, 500)), list[tuple[int, int]]()
-        for _ in range(chance.randrange(1, 6)):
-            end = frame + chance.choice((25, 50, 80))
-            times.append((frame, end))
-            frame = end + chance.choice((0, 0, 10, 60, 300))
-        texts = [chance.choice("abcdefgh") for _ in times]
-        self.programme = ExpectedPages(
-            [Subtitle(at, at + (number % 7 == 0), begin, end, 20, 2, b"")
-             for at, (begin, end) in enumerate(times, 1)],
-             [make_page_named(text) for text in texts])
-        due = {0: "-"}
-        for (begin, end), text in zip(times, texts):
-            due |= {begin: text, end: "-"}
-        for _ in range(chance.choice((1, 1, 2, 3))):
-            due = self.wrong(due, texts)
-        self.sent = sorted((max(frame, 0), text) for frame, text in due.items())
-        self.within = chance.choice((0, 0, 1, 3))
-        self.held = self.decode()
-        self.subtitles = ";".join(f"{begin}-{end} {text}"
-                                  for (begin, end), text in zip(times, texts))
 
-    def wrong(self, due: dict[int, str], texts: list[str]) -> dict[int, str]:
-        """Return the pages in `due`, by their first frames, with one random fault."""
-        chance = self.chance
-        frame = chance.choice(list(due)[1:] or list(due))
-        text, kind = due[frame], chance.randrange(9)
-        left = {at: item for at, item in due.items() if at != frame}
-        if kind < 3:
-            return {**left, frame + chance.choice(FRAME_SHIFTS): text}
-        if kind == 3:
-            return left or due
-        if kind == 8:
-            return {at: item for at, item in due.items() if at <= frame}
-        if kind == 4:
-            return {**due, frame: chance.choice(texts)}
-        if kind == 5 and text != "-":
-            return {**due, frame: f"{text[0]},{chance.choice('tarmp')}"}
-        if kind == 6:
-            return {at + chance.choice(FRAME_SHIFTS) * (at >= frame): item for at, item in due.
-                    items()}
-        return {**due, frame + chance.choice((1, 3, 10, 40)): chance.choice([*texts, "z", "-"])}
-
-    def decode(self) -> Timeline:
-        """Return the decoded pages, sometimes with unreadable frames, pauses or stray rows."""
-        chance, decoded = self.chance, empty(self.within)
-        decoded.first = chance.choice((0, 0, self.programme.begins[0] - 20))
-        for frame, text in self.sent:
-            decoded.record_page(frame, make_page_named(text))
-            for at in (frame, frame + chance.choice((0, 0, 1, 4))) * (text != "-"):
-                decoded.record_opening(at)
-        decoded.last = chance.choice((END, END, self.sent[-1][0] + 10))
-        if chance.randrange(4) == 0:
-            begin = chance.randrange(600)
-            decoded.uncertain_spans = [Span(begin, begin + chance.choice((5, 100)))]
-        if chance.randrange(4) == 0:
-            begin = chance.choice(self.programme.begins) - 5
-            steady(decoded)
-            decoded.pauses = [Span(begin, begin + chance.choice((4, 5, 6, 40)))]
-        if chance.randrange(8) == 0:
-            frame = self.programme.begins[-1] + 2
-            decoded.stray_rows = [(Span(frame, frame), ((19, self.programme.pages[-1][18]),))]
-        return decoded
-
-    def row(self) -> str:
-        """Return the text of the row: subtitles, sent pages, and causes."""
-        decoded, chance, begin = self.held, self.chance, self.programme.begins[0]
-        lost = [Span(item, item + 30) for item in (begin - 10, begin + 200)
-                if chance.randrange(5) == 0]
-        reach = Span(begin - chance.choice((2, 3, 4, 300)), decoded.last + chance.choice((0, 30))) \
-            if chance.randrange(2) else None
-        decoded.first = chance.choice((decoded.first, begin, begin + 2))
-        decoded.lost = SpanIndex(lost)
-        causes = Causes(self.programme, decoded, reach)
-        wrong = {frame: None for frame in range(min(decoded.last, END))
-                 if not causes.finder.is_expected_page(frame)}
-        edges = [(63, begin + 3), (74, self.programme.subtitles[-1].end - 3)] \
-            if self.chance.randrange(3) == 0 else []
-        begins = [frame for frame in wrong if frame - 1 not in wrong]
-        ends = [frame for frame in wrong if frame + 1 not in wrong]
-        causes.classify_faults(fake_answer([*zip(begins, ends)], *edges))
-        pages = {page: text for text in [*(text for _, text in self.sent), "-"]
-                 if (page := make_page_named(text))}
-        printed = [f"{item.subtitle_index} {item.name} {item.frames} {item.other_index} "
-                   f"{'' if item.sent_page is None else pages.get(item.sent_page, 'due')} "
-                   f"{item.final_frame} {item.details}"
-                   for item in causes.list_causes()]
-        known = [item and item.subtitle_index
-                 for item in (causes.find_cause(63, 0), causes.find_cause(74, 0), *(
-            causes.find_cause(72, frame) for frame in begins[:3]))]
-        delays = [[measure_delay(item, page, decoded, is_complete) for item, page in zip(
-            self.programme.subtitles, self.programme.pages)] for is_complete in (False, True)]
-        sent = " ".join(f"{frame}:{text}" for frame, text in self.sent)
-        about = f"{self.within} {decoded.first} {decoded.last} {lost} {reach} {known}"
-        return "\t".join([self.subtitles, sent, about,
-                          "; ".join(printed), f"{delays[0]} {delays[1]}"])
+def format_cause(cause: Cause, sent: str) -> str:
+    """Return a subtitle's number, the cause, its frames, another subtitle, and the decoded page."""
+    pages = {make_page_named(page): page for page in ["-", *re.findall(r":([^ /]+)", sent)]}
+    frames = "" if cause.frames is None else f" {cause.frames}"
+    other = "" if cause.other_index is None else f" of {cause.other_index + 1}"
+    page = "" if cause.sent_page is None else f", {pages.get(cause.sent_page, 'due')}"
+    return f"{cause.subtitle_index + 1} {cause.name}{frames}{other}{page}"
 
 
 class StoredRows(unittest.TestCase):
+    """Each row of dev/vectors/causes.tsv has random subtitles, decoded pages and options; and the
+    causes, the subtitles to which some faults belong, and the delays when it was last reviewed."""
+
+    def find(self, subtitles: str, sent: str, words: str) -> list[str]:
+        options = dict(word.split("=") for word in words.split())
+        programme = make_programme(subtitles, int(options.get("number", 1)))
+        decoded = decode(sent, programme, *(int(options[name])
+                                            for name in ("within", "first", "last")))
+        causes = Causes(programme, decoded,
+                        parse_span(options["reach"]) if "reach" in options else None)
+        spans = find_wrong_spans(causes)
+        causes.classify_faults(fake_answer(spans, *(
+            (number, int(options[name])) for number, name in ((63, "begin"), (74, "end"))
+            if name in options)))
+        printed = [f"{format_cause(cause, sent)} until {cause.final_frame}"
+                   + f": {cause.details}" * bool(cause.details) for cause in causes.list_causes()]
+        owners = [cause and cause.subtitle_index + 1 for cause in (
+            causes.find_cause(63, 0), causes.find_cause(74, 0), *(
+                causes.find_cause(72, span.first) for span in spans[:3]))]
+        delays = [[measure_delay(item, page, decoded, is_complete) for item, page in zip(
+            programme.subtitles, programme.pages)] for is_complete in (False, True)]
+        return ["; ".join(printed), f"{owners}", f"{delays[0]} {delays[1]}"]
+
     def test_finds_the_causes_of_each_row(self) -> None:
         with open(CAUSES_FILE, encoding="utf-8") as file:
-            rows = file.read().splitlines()
-        self.assertEqual(len(rows), COUNT)
-        for number, row in enumerate(rows):
-            self.assertEqual(RandomRow(number).row(), row, number)
+            for line in file:
+                subtitles, sent, options, *expected = line.rstrip("\n").split("\t")
+                with self.subTest(subtitles, sent=sent, options=options):
+                    self.assertEqual(self.find(subtitles, sent, options), expected)
 
 
-# The subtitles with their frames; the decoded pages with their first frames, where `!` has the
-# frames of a pause, `?` unreadable frames and `@` a frame with rows without a header; and the
-# causes: the subtitle, the cause, its frames, another subtitle, and the decoded page.
+# Rows whose causes were derived by hand.
 ROWS_BY_HAND = {
     "as expected": ("100-150 a", "0:- 100:a 150:-", ""),
     "late by 3 frames": ("100-150 a", "0:- 103:a 150:-", "1 late 3, a"),
@@ -350,41 +314,17 @@ class CausesByHand(unittest.TestCase):
 
     def test_finds_the_causes_derived_by_hand(self) -> None:
         for name, (subtitles, sent, expected) in ROWS_BY_HAND.items():
-            times = [[int(frame) for frame in item.split()[0].split("-")]
-                     for item in subtitles.split(";")]
-            programme = ExpectedPages(
-                [Subtitle(at, at, begin, end, 20, 2, b"") for at, (begin, end) in
-                 enumerate(times, 1)], [make_page_named(item[-1]) for item in subtitles.split(";")])
-            decoded, pages = empty(), dict[Rows, str]()
-            for frame, _, page in (item.partition(":") for item in sent.split() if ":" in item):
-                decoded.record_page(int(frame), make_page_named(page))
-                pages[make_page_named(page)] = page
-            decoded.first, decoded.last = 0, 999
-            decoded.uncertain_spans, decoded.pauses = (
-                [Span(*map(int, item[1:].split("-"))) for item in sent.split() if item[0] == mark]
-                for mark in "?!")
-            steady(decoded)
-            decoded.stray_rows = [(Span(int(item[1:]), int(item[1:])),
-                                   ((19, programme.pages[0][18]),))
-                                  for item in sent.split() if item[0] == "@"]
-            causes = Causes(programme, decoded)
-            faulty = [frame for frame in range(500) if not causes.finder.is_expected_page(frame)]
-            causes.classify_faults(fake_answer([(begin, next(last for last in range(begin, 501)
-                                                             if last + 1 not in faulty))
-                                                for begin in faulty if begin - 1 not in faulty]))
+            programme = make_programme(subtitles)
+            causes = Causes(programme, decode(sent, programme))
+            spans = find_wrong_spans(causes)
+            causes.classify_faults(fake_answer(spans))
             places = {cause.subtitle_index for cause in causes.list_causes()}
             with self.subTest(name):
-                self.assertEqual("; ".join(self.format_cause(cause, pages)
+                self.assertEqual("; ".join(format_cause(cause, sent)
                                            for cause in causes.list_causes()), expected)
-                for begin in faulty:
-                    item = causes.find_cause(72, begin)
+                for first, _ in spans:
+                    item = causes.find_cause(72, first)
                     self.assertIn(item and item.subtitle_index, places)
-
-    def format_cause(self, cause: Cause, pages: Mapping[Rows, str]) -> str:
-        frames = "" if cause.frames is None else f" {cause.frames}"
-        other = "" if cause.other_index is None else f" of {cause.other_index + 1}"
-        page = "" if cause.sent_page is None else f", {pages.get(cause.sent_page, 'due')}"
-        return f"{cause.subtitle_index + 1} {cause.name}{frames}{other}{page}"
 
     def test_extends_the_recording_by_its_pcr(self) -> None:
         for reach, expected in ((None, (10, 20)), ((5, 30), (5, 30)), ((12, 18), (10, 20)),
@@ -455,8 +395,3 @@ class CausesByHand(unittest.TestCase):
                 expected, f"{counted(len(together), 'subtitle')} with a wrong page: {expected}" *
                 bool(together),
                 {name: together.count(name) for name in CAUSE_NAMES}), count)
-
-
-if __name__ == "__main__":
-    for NUMBER in range(COUNT):
-        print(RandomRow(NUMBER).row())
