@@ -36,41 +36,58 @@ class Requests(Case):
     def test_searches_only_the_requested_subtitles_and_packets(self) -> None:
         twice = [*self.transmissions([0] * 24), *self.transmissions([EACH] * 24)]
         half, rest = self.times[6][0], FrameRange(self.times[6][0])
-        rows: list[tuple[dict[str, Any], int, int | None, int]] = [
-            ({}, 24, None, 2), ({"inside": (0, 23)}, 24, 0, 0),
-            ({"inside": (24, 47)}, 24, EACH, 0),
-            ({"between": FrameRange(0, half), "inside": (0, 23)}, 12, 0, 0),
-            ({"between": rest, "inside": (24, 47)}, 12, EACH, 0),
-            ({"between": rest, "left_out": (7, 8), "inside": (0, 23)}, 8, 0, 0)]
-        for request, count, number, runs in rows:
+        # What is requested, the number of cues that match, and the first frame of the programme
+        rows: dict[str, tuple[dict[str, Any], int, int]] = {
+            "the first airing": ({"inside": (0, 23)}, 24, 0),
+            "the second airing": ({"inside": (24, 47)}, 24, EACH),
+            "the first half": ({"between": FrameRange(0, half), "inside": (0, 23)}, 12, 0),
+            "the second half, of the second airing": (
+                {"between": rest, "inside": (24, 47)}, 12, EACH),
+            "the second half without two subtitles": (
+                {"between": rest, "left_out": (7, 8), "inside": (0, 23)}, 8, 0)}
+        for name, (request, count, first) in rows.items():
             result = self.find(twice, **request)
-            self.assertEqual((len(result.airings), [part.origin for part in result.parts]), (
-                runs, [] if number is None else [TICKS * number]), request)
-            self.assertTrue(runs or result.parts[0].line.startswith(
-                f"{count} of {count} cues in the recording match, "), result)
+            lines = [part.line.partition(" in the recording match, ")[0] for part in result.parts]
+            self.check(name, (result.airings, [part.origin for part in result.parts], lines),
+                       ([], [TICKS * first], [f"{count} of {count} cues"]))
 
-    def test_takes_a_given_clock_and_given_delays_into_account(self) -> None:
-        many, late = [0, 0, 0, *[2] * 21], Lateness({2: 1, 0: 1}, {2: 1, 0: 1})
-        parts = [*many[:12], *(item + 400 for item in many[:12])]
-        rows: list[tuple[dict[str, Any], list[int], int]] = [
-            ({}, many, 1), ({"origin": 0}, many, 0), ({"origin": 7200}, many, 0),
-            ({"lateness": late}, many, 0), ({"breaks": 1}, parts, 1),
-            ({"breaks": 1, "lateness": late}, parts, 0), ({"breaks": 1, "origin": 0}, parts, 1)]
-        for request, sent, status in rows:
-            result = self.find(self.transmissions(sent), within=2, **request)
-            self.assertEqual((result.status, len(result.parts)), (
-                status, (1 + ("breaks" in request)) * (1 - status)), (request, result))
-        wrong = [(ticks, text and b"x" + text) for ticks, text in self.transmissions([EACH] * 24)]
+    def test_a_given_origin_selects_the_airing(self) -> None:
+        twice = [*self.transmissions([0] * 24), *self.transmissions([EACH] * 24)]
+        other_texts = [*twice[:24], *((ticks, text and b"x" + text) for ticks, text in twice[24:])]
+        rows: dict[str, tuple[list[tuple[int, bytes]], int | None, int]] = {
+            "two airings": (twice, None, 2), "one has other texts": (other_texts, None, 2),
+            "its origin": (other_texts, 0, 0), "a frame later": (other_texts, TICKS, 0)}
+        for name, (sent, origin, airings) in rows.items():
+            result = self.find(sent, origin=origin)
+            self.check(name, (len(result.airings), len(result.parts), result.status),
+                       (airings, int(not airings), int(airings > 0)))
+
+    def test_many_early_cues_are_clear_if_clock_or_delays_are_given(self) -> None:
+        early, delays = [0, 0, 0, *[2] * 21], Lateness({2: 1, 0: 1}, {2: 1, 0: 1})
+        parts = [*early[:12], *(late + 400 for late in early[:12])]
+        # What is given, the delay of each cue in frames, and the number of parts with a clear origin
+        rows: dict[str, tuple[dict[str, Any], list[int], int]] = {
+            "nothing": ({}, early, 0), "an origin": ({"origin": 0}, early, 1),
+            "an origin of the late cues": ({"origin": 2 * TICKS}, early, 1),
+            "delays": ({"lateness": delays}, early, 1), "a break": ({"breaks": 1}, parts, 0),
+            "a break, and delays": ({"breaks": 1, "lateness": delays}, parts, 2),
+            "a break, and the origin of one part": ({"breaks": 1, "origin": 0}, parts, 0)}
+        for name, (request, late, count) in rows.items():
+            result = self.find(self.transmissions(late), within=2, **request)
+            self.check(name, (len(result.parts), result.status), (count, int(not count)))
+
+    def test_reports_each_new_delay(self) -> None:
         result = self.find(self.transmissions([*[0] * 8, *[50] * 8, *[90] * 8]))
-        self.assertEqual((result.first_shift, len(result.shift_texts)), (self.cues[8].frame, 2))
-        # Delays are measured from the given origin.
+        self.check("shifts", (result.first_shift, len(result.shift_texts)),
+                   (self.cues[8].frame, 2))
+
+    def test_measures_delays_from_the_given_origin(self) -> None:
         result = self.find(self.transmissions([*[100] * 12, *[150] * 12]), origin=0)
-        self.assertIn("(150 frames) late", result.shift_texts[0])
-        late_then = self.transmissions([*[0] * 12, *[50] * 6, *[600] * 6])  # a delay, then a break
-        self.assertEqual(len(self.find(late_then, breaks=1).parts), 2)
-        for origin, runs in ((None, 2), (0, 0), (TICKS, 0)):
-            result = self.find([*self.transmissions([0] * 24), *wrong], origin=origin)
-            self.assertEqual((len(result.airings), result.status), (runs, int(runs > 0)), origin)
+        self.must("shift", "(150 frames) late" in result.shift_texts[0], result.shift_texts)
+
+    def test_a_delay_before_a_break_begins_no_part(self) -> None:
+        delayed = self.transmissions([*[0] * 12, *[50] * 6, *[600] * 6])
+        self.check("parts", len(self.find(delayed, breaks=1).parts), 2)
 
     def test_reports_the_drift_of_the_judged_time_base(self) -> None:
         steady = [at // 6 for at in range(24)]
