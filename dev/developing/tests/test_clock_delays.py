@@ -56,11 +56,9 @@ class Delays(ProgrammeCase):
         stl = write_programme(self, frames)
         for first, second in ((0, 4500 * TICKS), (3_000_000_000, 77_000)):
             sent = [(pts + origin, packets) for some_frames, number, origin in (
-                (frames[:10], 1, first), (frames[10:], 11, second))
-                    for pts,
-                    packets in schedule_pages( self,
-                                               write_programme(self, some_frames, first=number,
-                                                               name="sent.stl"))]
+                        (frames[:10], 1, first), (frames[10:], 11, second))
+                    for pts, packets in schedule_pages(self, write_programme(
+                        self, some_frames, first=number, name="sent.stl"))]
             path = self.write("one.pes", join_pes_packets(sent))
             for given in (False, True):
                 words = ["--origin", str(first)] * given

@@ -84,8 +84,7 @@ class Shapes(unittest.TestCase):
     def test_prefixes_all_anchors_of_a_part_and_their_links(self) -> None:
         some = markup('<a id="x">{}</a><a href="#x">b</a><a id="y" href="#y">c</a>', ' id="')
         self.assertEqual(some.prefix_anchors("p").source,
-                         '<a id="px"> id=&quot;</a><a href="#px">b</a>'
-                                                    '<a id="py" href="#py">c</a>')
+                         '<a id="px"> id=&quot;</a><a href="#px">b</a><a id="py" href="#py">c</a>')
 
 
 class Spans(unittest.TestCase):

@@ -63,8 +63,8 @@ class Blocks(unittest.TestCase):
                 self.assertEqual(message, words if words and "no last" not in words or not rest else
                                  f"block {len(row) + 1} is incomplete", rest)
         [item] = stl.read_stored_subtitles(make_gsi_block(b"", 0, 0) + b"".join(
-            make_tti_block(1, at, at + 2, 20 + at, at, b"x", ebn) for at,
-            ebn in ((0, 0), (1, last))))
+            make_tti_block(1, at, at + 2, 20 + at, at, b"x", ebn)
+            for at, ebn in ((0, 0), (1, last))))
         self.assertEqual((stl.get_subtitle_times(item), item.row, item.justify), ((0, 2), 20, 0))
         group = make_gsi_block(b"", 0, 0) + self.block(1, 0) + self.block(1, last, group=1)
         self.assertTrue(refusal(lambda: list(stl.read_stored_subtitles(group)), DamagedFile))
@@ -78,9 +78,8 @@ class Blocks(unittest.TestCase):
 
     def test_refuses_an_invalid_gsi_block(self) -> None:
         good = make_gsi_block(b"", 0, 0)
-        for data, words in ((good, ""), (good[:-1], "not an EBU STL "
-                                                    "file"), (b"", "not an EBU STL "
-                                                                   "file"),
+        for data, words in ((good, ""), (good[:-1], "not an EBU STL file"),
+                            (b"", "not an EBU STL file"),
                             (good[:3] + b"STL24" + good[8:], "not an EBU STL file"),
                             (good[:3] + b"STL30" + good[8:], "it has 30 frames a second"),
                             (good[:3] + b"STL25.02" + good[11:], "")):
@@ -109,9 +108,8 @@ class Files(Case):
         for byte in {*range(256)} - {0x8F}:
             file = SubtitleFile(self.write("one.stl", make_gsi_block(b"", 1, 1) + make_tti_block(
                 1, 25, 50, 20, 2, b"a" + bytes([byte]))))
-            self.assertEqual(file.describe_byte(1, 1), (f"{byte:02X}", None if byte < 0x20 or
-                                                        0x7F <= byte
-                                                 < 0xA0 else decode_text(bytes([byte]))), byte)
+            letter = None if byte < 0x20 or 0x7F <= byte < 0xA0 else decode_text(bytes([byte]))
+            self.assertEqual(file.describe_byte(1, 1), (f"{byte:02X}", letter), byte)
 
     def test_reads_one_byte_more_than_check_accepts(self) -> None:
         most, path = GSI + 128 * 99_999 + 1, self.path("long.stl")
@@ -168,8 +166,7 @@ class Lines(unittest.TestCase):
     def test_describes_faults_without_a_number(self) -> None:
         named_fault = listing.NamedFault("not shown", "words")
         for fault, place in ((named_fault, ""), (named_fault._replace(block=0), " block 0"),
-                             (named_fault._replace(
-                block=7), " block 7"),
+                             (named_fault._replace(block=7), " block 7"),
                              (named_fault._replace(time="00:00:01:00"), " frame 00:00:01:00")):
             self.assertEqual(fault.line, f"refused not shown{place}", (fault, place))
         self.assertEqual({*listing.read_named_meanings()},

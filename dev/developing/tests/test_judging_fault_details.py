@@ -185,11 +185,8 @@ class FaultDetails(Case):
             [Subtitle(1, 1, 25, 50, 22, 2, b"")], [tuple(pages)]))
         rows: list[tuple[tuple[int, ...], str]] = [
             ((), "a byte"), ((0,), "a byte (start box)"), ((4, 5), "a byte (a space)"),
-            ((5,), "a byte (alpha "
-                   "red)"), ((3,), 'the character '
-                                   '"b"'), ((2, 3, 6), 'the character '
-                                                                                   '"A"'),
-            ((0, 6), 'the character "c"')]
+            ((5,), "a byte (alpha red)"), ((3,), 'the character "b"'),
+            ((2, 3, 6), 'the character "A"'), ((0, 6), 'the character "c"')]
         for (hit, words), (frame, whose) in itertools.product(rows, (
                 (24, "the page"), (25, 'subtitle 1, "Ab  c",'),
                 (50, "the page after subtitle 1"))):

@@ -61,8 +61,7 @@ class Descriptions(Case):
                  'wrong text'),
                 ([cause(0, WRONG_TEXT), cause(1, NEVER), cause(3, NEVER)],
                  "2 of 9 subtitles were never sent (the first at 00:00:01:00, the last at "
-                 "00:00:03:00); "
-                 "other subtitles: wrong text"),
+                 "00:00:03:00); other subtitles: wrong text"),
                 ([cause(0, LATE, 2), cause(1, LATE, 1), cause(3, WRONG_TEXT), cause(5, WRONG_PLACE),
                   cause(6, WRONG_TEXT), cause(8, WRONG_ATTRIBUTE)],
                  "2 of 9 subtitles have the wrong text (the first at 00:00:03:00, the last at "
@@ -75,8 +74,7 @@ class Descriptions(Case):
                  'subtitle 1 at 00:00:00:00 has the wrong text: expected "text", received "texts"'),
                 ([cause(4, LATE, 7), cause(6, LATE, 3), cause(8, LATE, 5)],
                  "3 of 9 subtitles appeared 3 to 7 frames late (the first at 00:00:04:00, the last "
-                 "at "
-                 "00:00:08:00)"),
+                 "at 00:00:08:00)"),
                 ([cause(4, LATE, 7), cause(8, LATE, 7)],
                  "2 of 9 subtitles appeared 7 frames late (the first at 00:00:04:00, the last at "
                  "00:00:08:00)"),

@@ -207,11 +207,9 @@ class Notices(Case):
             return [repeat_notice.line
                     for repeat_notice in find_repeat_notices(headers, request, 0, [(0, 599)])]
 
-        for step, every, words in ((25, 51, "25 frames: give --every "
-                                            "25 "), (25, 50, ""), (25, 25, ""),
-                                   (1, 3, "frame: give --every "
-                                          "1 "), (1, 2, ""), (2, 5, "2 "
-                                                                    "frames")):
+        for step, every, words in ((25, 51, "25 frames: give --every 25 "), (25, 50, ""),
+                                   (25, 25, ""), (1, 3, "frame: give --every 1 "), (1, 2, ""),
+                                   (2, 5, "2 frames")):
             result = warned(step, every)
             self.assertEqual((len(result), words in "".join(result)), (bool(words), True),
                              (step, every))

@@ -256,8 +256,7 @@ class AdjoiningSubtitles(ProgrammeCase):
         for number, within, frames, expected in rows:
             lines = [f"refused {number} Name frame {format_frame(frame)}" for frame in frames]
             printed = make_answer([*lines, f"{len(lines)} faults"] if lines
-                                  else ["accepted 9 frames 2 "
-                                                                          "transmissions"])
+                                  else ["accepted 9 frames 2 transmissions"])
             part = make_part(100, 200, 0, printed, packets=Packets(0), request=make_example_request(
                 "a.stl", "a.pes", "--within", str(within)))
             self.assertEqual(find_adjoining_end(part), expected, (number, within, frames))
