@@ -500,21 +500,15 @@ class StatedFacts(Case):
             if clause := FAULT_CLAUSES.get(number):
                 self.check(f"{number}", {*FIELD.findall(row.meaning)}, {*FIELD.findall(clause)})
 
-    def test_the_verdict_table_has_each_status(self) -> None:
-        rows = re.findall(r"^\| `([a-z ]+)` \|.*\| (\d)[^|]*\|$",
-                          read_document("docs/manual/qc.md"), re.M)
-        self.check("rows", {word: int(status) for word, status in rows}, STATUSES)
-
-    def test_the_table_of_kinds_has_each_status(self) -> None:
-        rows = re.findall(r"^\| `([a-z]+)` \| [^|]+ \| (\d+) \| [^|]+ \|$",
-                          read_document("docs/manual/qc.md"), re.M)
-        self.check("rows", {word: int(status) for word, status in rows}, {
-            kind: STATUSES_BY_KIND.get(kind, OTHER_STATUS) for kind in KIND_NAMES})
-
-    def test_the_table_of_readings_has_each_status(self) -> None:
-        rows = re.findall(r"^\| `([a-z ]+)` \|.*\| (\d) \|$",
-                          read_document("docs/manual/read.md"), re.M)
-        self.check("rows", {word: int(status) for word, status in rows}, READING_STATUSES)
+    def test_tables_have_each_status(self) -> None:
+        kinds = {kind: STATUSES_BY_KIND.get(kind, OTHER_STATUS) for kind in KIND_NAMES}
+        tables: dict[str, tuple[str, str, dict[str, int]]] = {
+            "verdicts of qc": ("qc", r"^\| `([a-z ]+)` \|.*\| (\d)[^|]*\|$", STATUSES),
+            "kinds of errors": ("qc", r"^\| `([a-z]+)` \| [^|]+ \| (\d+) \| [^|]+ \|$", kinds),
+            "verdicts of read": ("read", r"^\| `([a-z ]+)` \|.*\| (\d) \|$", READING_STATUSES)}
+        for name, (page, pattern, statuses) in tables.items():
+            rows = re.findall(pattern, read_document(f"docs/manual/{page}.md"), re.M)
+            self.check(name, {word: int(status) for word, status in rows}, statuses)
 
     def test_each_fault_has_a_row_with_its_anchor(self) -> None:
         rows = re.findall(r'^\| (\d+) \| <a id="n(\d+)"></a>',
