@@ -195,7 +195,7 @@ class FailedChecks(Case):
 
     def test_a_failed_check_gives_status_1(self) -> None:
         other = self.write_program("other", "#!/bin/sh\necho another program\n")
-        for name, *words in (["check-tools", "test_stream_survey.PesLines"],
+        for name, *words in (["check-tools", "test_stream_survey.Lines"],
                              ["check-survey", "--count", "1"]):
             process = self.tool(name, "-p", other, *words)
             last = process.out.decode().splitlines()[-1]

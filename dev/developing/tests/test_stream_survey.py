@@ -1,4 +1,4 @@
-"""Test how the tools read the output of `survey`, and lines that dev/check-survey seldom compares.
+"""Test how the tools read the output of `survey`, and lines that dev/check-survey does not compare.
 
 Random recordings with all kinds of lines are in dev/check-survey.
 """
@@ -8,7 +8,7 @@ import os
 from typing import Callable, Iterable, Sequence
 
 from developing.multiplex import ADAPTATION_ALONE, PACKET, make_packet_header
-from developing.pes import make_packet, make_pes_packet
+from developing.pes import make_pes_packet
 from subtitles.common.command_line import ProgramInterrupted
 from subtitles.common.program import TOP, read
 from subtitles.common.times import CLOCK, TICKS
@@ -19,154 +19,23 @@ from subtitles.stream.survey import (
     Announced, ProgramMap, Survey, VERSION, Video, find_first_pages, survey, survey_runs)
 from .bench import Case
 from .streams import (
-    AUDIO_PID, SLICES, TELETEXT_PID, VIDEO_PID, StreamMaker, make_components, filler,
-    make_mpeg_2_picture, make_video_packet)
+    TELETEXT_PID, VIDEO_PID, StreamMaker, make_components, make_mpeg_2_picture, make_video_packet)
 from .parts import read_survey
-from .transmissions import CLOSING, HEADER, PAGE, make_numbered_row
-from .test_formats_characters import make_character_set_packet
+from .transmissions import CLOSING, PAGE
 
-FIRST_PTS = 1_000_000  # PTS of the first picture and of the first PES packet of Teletext
-LAST_PTS = FIRST_PTS + 100_000 * TICKS  # PTS of the last PES packet of Teletext
+FIRST_PTS = 1_000_000  # PTS of the first PES packet of Teletext
 
 
-def list_lines_of_kinds(case: Case, data: bytes, *kinds: str) -> list[str]:
-    status, lines = case.program("survey", case.write("one.ts", data))
-    case.must("status", status == 0, status)
-    return [line for line in lines if line.split()[0] in kinds]
-
-
-def make_frame_headers(count: int) -> list[bytes]:
-    return [make_pes_packet(FIRST_PTS + TICKS * frame, [CLOSING]) for frame in range(count)]
-
-
-class VideoLines(Case):
-    def list_leads(self, ahead: int) -> list[str]:
-        """Return the `lead` lines of a PES packet whose picture is `ahead` ticks later."""
-        maker = StreamMaker(make_components())
-        maker.put_tables()
-        maker.put(VIDEO_PID, make_video_packet(FIRST_PTS + ahead, make_mpeg_2_picture()))
-        maker.put(TELETEXT_PID, make_pes_packet(FIRST_PTS, [CLOSING]))
-        return list_lines_of_kinds(self, maker.data, "lead")
-
-    def test_prints_a_lead_of_at_most_half_the_clock(self) -> None:
-        for ahead, lead in ((CLOCK // 2, -CLOCK // 2), (CLOCK // 2 + 1, CLOCK // 2 - 1)):
-            self.check(f"{ahead}", self.list_leads(ahead),
-                       [f"lead {TELETEXT_PID} {FIRST_PTS} {lead} {VIDEO_PID} 1"])
-
-    def list_steps(self, times: Iterable[int]) -> list[str]:
-        """Return the fields of the `steps` lines for pictures with these decoding times."""
-        maker = StreamMaker(make_components())
-        maker.put_tables()
-        for time in times:
-            maker.put(VIDEO_PID, make_video_packet(time, make_mpeg_2_picture()))
-        return [line.removeprefix(f"steps {VIDEO_PID} ")
-                for line in list_lines_of_kinds(self, maker.data, "steps")]
-
-    def test_prints_the_steps_of_a_second_if_they_change(self) -> None:
-        # Ticks by which picture 110 is late. A second ends with each 25th picture after the first.
-        rows: dict[int, list[str]] = {
-            0: [], 36_000: ["3600 102 39600 110", "3600 117 3600 117"],
-            -36_000: ["-32400 110 3600 102", "3600 111 3600 111"],
-            900: ["3600 102 4500 110", "3600 127 3600 127"], 899: [],
-            -900: ["2700 110 3600 102", "3600 128 3600 128"], -899: []}
-        for first in (FIRST_PTS, CLOCK - 105 * TICKS):
-            for late, wanted in rows.items():
-                times = [(first + TICKS * at + late * (at > 109)) % CLOCK for at in range(1, 160)]
-                self.check(f"{first}, {late}", self.list_steps(times), ["3600 2 3600 2", *wanted])
-
-
-def pictures(flagged: Sequence[int]) -> bytes:
-    """Return a video stream in which the `flagged` pictures have a random_access_indicator."""
+def make_stream(pes: Iterable[bytes], change: Callable[[list[bytes]], list[bytes]] = list,
+                picture_pts: int = FIRST_PTS) -> bytes:
+    """Return a stream with tables, a picture, and Teletext, whose TS packets `change` changes."""
     maker = StreamMaker(make_components())
     maker.put_tables()
-    for frame in range(30):
-        maker.put(VIDEO_PID,
-                  make_video_packet(FIRST_PTS + TICKS * frame, make_mpeg_2_picture() + SLICES),
-                  frame in flagged)
-    return maker.data
-
-
-class ClockLines(Case):
-    def make_stream(self, usual: int, since: int) -> bytes:
-        """Return a stream with 21 PCRs, `usual` TS packets apart, between two PES packets.
-
-        The last PES packet is `since` TS packets after the last PCR.
-        """
-        maker = StreamMaker(make_components())
-        maker.put_tables()
-        maker.put(TELETEXT_PID, make_pes_packet(FIRST_PTS, []))
-        for number in range(21):
-            maker.put_pcr(FIRST_PTS + TICKS * number)
-            others = usual if number < 20 else since
-            maker.packets += [filler(AUDIO_PID, maker.counters).data for _ in range(others - 1)]
-        maker.put(TELETEXT_PID, make_pes_packet(LAST_PTS, []))
-        return maker.data
-
-    def test_samples_no_pts_long_after_the_last_pcr(self) -> None:
-        for usual, most in ((1, 255), (64, 255), (65, 259), (200, 799)):
-            for since in (most, most + 1):
-                lines = list_lines_of_kinds(self, self.make_stream(usual, since), "ahead")
-                first = f"ahead {TELETEXT_PID} {LAST_PTS} {LAST_PTS - FIRST_PTS - TICKS * 20}"
-                self.check(f"{usual} {since}", lines, [first][:since <= most])
-
-
-def build_teletext(pes: Iterable[bytes], change: Callable[[list[bytes]], list[bytes]] = list
-                   ) -> bytes:
-    """Return a stream with tables and PES packets of Teletext. `change` changes its TS packets."""
-    maker = StreamMaker(make_components())
-    maker.put_tables()
-    tables = maker.taken()
+    maker.put(VIDEO_PID, make_video_packet(picture_pts, make_mpeg_2_picture()))
+    before = maker.taken()
     for item in pes:
         maker.put(TELETEXT_PID, item)
-    return b"".join([*tables, *change(maker.taken())])
-
-
-def make_pes_packets_with(*several: Sequence[bytes]) -> list[bytes]:
-    return [make_pes_packet(FIRST_PTS + TICKS * frame, some) for frame, some in enumerate(several)]
-
-
-def make_packets_changing_third(place: int, *new: int) -> list[bytes]:
-    """Return five PES packets. In the third, the bytes from offset `place` on are `new`."""
-    result = make_frame_headers(5)
-    result[2] = result[2][:place] + bytes(new) + result[2][place + len(new):]
-    return result
-
-
-class PesLines(Case):
-    def test_reports_faults_that_extract_refuses(self) -> None:
-        length = (184).to_bytes(2, "big"), (10 * 184 - 6).to_bytes(2, "big")
-        for pes, refusal in ((make_frame_headers(5), 0), (make_packets_changing_third(3, 0xBE), 31),
-                             (make_packets_changing_third(0, 1), 31),
-                             (make_packets_changing_third(4, *length[0]), 32),
-                             (make_packets_changing_third(4, *length[1]), 32),
-                             (make_packets_changing_third(4, 0, 0), 32),
-                             (make_packets_changing_third(45, 0x20), 0)):
-            lines = list_lines_of_kinds(self, build_teletext(pes), "pes", "end")
-            count, last = (2, 1) if refusal else (5, 0)
-            self.must(f"{refusal}", lines[-1] == f"end {TELETEXT_PID} {count} 0 5 0 {refusal} "
-                      f"{last} {FIRST_PTS + 4 * TICKS}", lines)
-            status, out = self.program("extract", self.path("one.ts"), self.path("out.pes"),
-                                       "--pid", f"{TELETEXT_PID:#x}")
-            self.must(f"{refusal}: extract", out[0].startswith(
-                f"refused {refusal} " if refusal else "written 5 pes") and status == (refusal > 0),
-                      out)
-
-
-FRAMES = make_frame_headers(3)
-GAP_MARKER = b"\0\0\1\xbd\0\xb2" + b"\xff" * 178
-
-
-def remove_second_packet(packets: list[bytes]) -> list[bytes]:
-    return [packets[0], *packets[2:]]
-
-
-def repeat_first_for_second(packets: list[bytes]) -> list[bytes]:
-    return [packets[0], packets[0], *packets[2:]]
-
-
-def scramble_second(packets: list[bytes]) -> list[bytes]:
-    first, second, *rest = packets
-    return [first, second[:3] + bytes([second[3] | 0x80]) + second[4:], *rest]
+    return b"".join([*before, *change(maker.taken())])
 
 
 def announce_jump_in_second(packets: list[bytes]) -> list[bytes]:
@@ -175,138 +44,30 @@ def announce_jump_in_second(packets: list[bytes]) -> list[bytes]:
     return [packets[0], make_packet_header(TELETEXT_PID, 0, ADAPTATION_ALONE) + field, *packets[2:]]
 
 
-def replace_unit_ids(pes: bytes, data_unit_id: int) -> bytes:
-    return pes[:46] + bytes([data_unit_id]) + pes[47:]
-
-
-class Listings(Case):
-    def lines_of(self, data: bytes) -> list[str]:
-        """Return the output lines for a recording, except the first two lines."""
+class Lines(Case):
+    def list_lines(self, data: bytes, *kinds: str) -> list[str]:
+        """Return the lines of `survey` that begin with one of these words."""
         status, lines = self.program("survey", self.write("one.ts", data))
         self.check("status", status, 0)
-        self.check("first lines", lines[:2], ["survey 1", f"head {data[:11].hex()}".rstrip()])
-        return lines[2:]
+        return [line for line in lines if line.split()[0] in kinds]
 
-    def test_prints_all_lines_of_a_programme(self) -> None:
-        other = make_packet(7, 0, [0, 5, 0, 8, 0, 8, 1, 0], b" " * 32)  # header of page 750
-        decoded = "0b0b4869" + "20" * 36
-        begun = f"pes 257 0 1 {FIRST_PTS} 0 heob/88080810 1 0"
-        rows: dict[str, tuple[bytes, str]] = {
-            "rows": (build_teletext(make_pes_packets_with([HEADER, make_numbered_row(20, b"Hi")],
-                                                          [CLOSING], [HEADER])),
-                     f"sub 257 888; pes 257 0 1 {FIRST_PTS} 0 heo/88080810 2 0; "
-                     f"rows 257 0 20:{decoded}; "
-                     f"pes 257 1 1 1003600 0 c/ 1 0; pes 257 2 1 1007200 0 heob/88080810 1 0; "
-                     "rows 257 2 -; subs 257 888 2; end 257 3 0 3 0 0 0 1007200; over 0 5"),
-            "strays": (build_teletext(make_pes_packets_with([HEADER, CLOSING,
-                                                             make_numbered_row(20, b"Hi")],
-                                                            [CLOSING])),
-                       f"sub 257 888; pes 257 0 1 {FIRST_PTS} 0 hecbs/88080810 3 0; rows 257 0 -; "
-                       f"strays 257 0 20:{decoded}; pes 257 1 1 1003600 0 b/ 1 0; subs 257 888 1; "
-                       "end 257 2 0 2 0 0 0 1003600; over 0 4"),
-            "data_unit_id 02": (
-                build_teletext([replace_unit_ids(item, 2)
-                                for item in make_pes_packets_with([HEADER])]),
-                f"sub 257 888; {begun}; rows 257 0 -; subs 257 888 1; "
-                "end 257 1 0 1 0 0 0 1000000; over 0 3"),
-            "data_unit_id 04": (
-                build_teletext([replace_unit_ids(item, 4)
-                                for item in make_pes_packets_with([HEADER])]),
-                "pes 257 0 1 1000000 0 b/ 0 0; end 257 1 0 1 0 0 0 1000000; "
-                "over 0 3"),
-            "two pages": (build_teletext(make_pes_packets_with([HEADER], [other], [HEADER])),
-                          f"sub 257 888; {begun}; rows 257 0 -; sub 257 750; "
-                          "pes 257 1 1 1003600 0 ob/ 1 0; pes 257 2 1 1007200 0 heob/88080810 1 0; "
-                          "subs 257 888 2; subs 257 750 1; end 257 3 0 3 0 0 0 1007200; over 0 5"),
-            "character sets": (
-                build_teletext(make_pes_packets_with([HEADER,
-                                                      make_character_set_packet(28, 0x24)],
-                                                     [make_character_set_packet(29, 0x11, 4)],
-                                                     [make_character_set_packet(29, 0x11, 1)])),
-                "sub 257 888; set 257 28 0 4 4; pes 257 0 1 1000000 0 heob/88080810 2 0; "
-                "rows 257 0 -; set 257 29 4 2 1; pes 257 1 2 1003600 3600 ob/ 1 0; "
-                "subs 257 888 1; end 257 3 0 3 0 0 0 1007200; over 0 5"),
-            "a loss": (build_teletext(make_frame_headers(3), remove_second_packet),
-                       "pes 257 0 1 1000000 0 b/ 1 0; gap 257 1 1 0; "
-                       "pes 257 2 1 1007200 0 b/ 1 0; end 257 3 1 2 0 0 0 1007200; over 0 4"),
-            "a loss behind a repeat": (
-                build_teletext(make_frame_headers(3), repeat_first_for_second),
-                "pes 257 0 1 1000000 0 b/ 1 0; gap 257 1 1 0; "
-                "pes 257 2 1 1007200 0 b/ 1 0; end 257 3 1 3 0 0 0 1007200; over 0 5"),
-            "a gap marker": (
-                build_teletext([FRAMES[0], GAP_MARKER, FRAMES[1]]),
-                "pes 257 0 1 1000000 0 b/ 1 0; gap 257 1 0 0; "
-                "pes 257 2 1 1003600 0 b/ 1 0; end 257 3 1 3 0 0 0 1003600; over 0 5"),
-            "a loss before a gap marker": (
-                build_teletext([FRAMES[0], FRAMES[1], GAP_MARKER, FRAMES[2]],
-                               remove_second_packet),
-                "pes 257 0 1 1000000 0 b/ 1 0; gap 257 1 1 0; gap 257 2 0 0; "
-                "pes 257 3 1 1007200 0 b/ 1 0; end 257 4 2 3 0 0 0 1007200; over 0 5"),
-            "a loss after a gap marker": (
-                build_teletext([FRAMES[0], GAP_MARKER, *FRAMES[1:3]],
-                               lambda packets: [*packets[:2], *packets[3:]]),
-                "pes 257 0 1 1000000 0 b/ 1 0; gap 257 1 0 0; gap 257 2 1 0; "
-                "pes 257 3 1 1007200 0 b/ 1 0; end 257 4 2 3 0 0 0 1007200; over 0 5"),
-            "a scrambled packet": (
-                build_teletext(make_frame_headers(3), scramble_second),
-                "pes 257 0 1 1000000 0 b/ 1 0; gap 257 1 1 1; pes 257 2 1 1007200 0 b/ 1 0; "
-                "end 257 3 1 3 1 0 0 1007200; over 0 5"),
-            "an announced jump": (
-                build_teletext(make_frame_headers(3), announce_jump_in_second),
-                "seam 257 1; pes 257 0 2 1000000 7200 b/ 1 0; end 257 2 0 3 0 0 0 1007200; "
-                "over 0 5"),
-            "half the clock": (
-                build_teletext([make_pes_packet(pts, [CLOSING])
-                                for pts in (FIRST_PTS, FIRST_PTS + CLOCK //
-                                            2)]),
-                f"pes 257 0 2 1000000 {-CLOCK // 2} b/ 1 0; "
-                f"end 257 2 0 2 0 0 0 {FIRST_PTS + CLOCK // 2}; over 0 4"),
-            "a tick less": (
-                build_teletext([make_pes_packet(pts, [CLOSING])
-                                for pts in (FIRST_PTS, FIRST_PTS + CLOCK // 2 - 1)]),
-                f"pes 257 0 2 1000000 {CLOCK // 2 - 1} b/ 1 0; "
-                f"end 257 2 0 2 0 0 0 {FIRST_PTS + CLOCK // 2 - 1}; over 0 4")}
-        tables = ["size 188", "programme 1 512", "stream 512 2", "stream 257 6",
-                  "announce 257 888 656e67 2", "teletext 257"]
-        for name, (data, lines) in rows.items():
-            self.check(name, self.lines_of(data), [*tables, *lines.split("; ")])
+    def test_half_the_clock_is_printed_as_a_step_back(self) -> None:
+        for ticks, printed in ((CLOCK // 2, -CLOCK // 2), (CLOCK // 2 - 1, CLOCK // 2 - 1)):
+            pes = [make_pes_packet(pts, [CLOSING]) for pts in (FIRST_PTS, FIRST_PTS + ticks)]
+            data = make_stream(pes, picture_pts=(FIRST_PTS - ticks) % CLOCK)
+            self.check(f"{ticks} ticks", self.list_lines(data, "lead", "pes"), [
+                f"lead {TELETEXT_PID} {FIRST_PTS} {printed} {VIDEO_PID} 1",
+                f"pes {TELETEXT_PID} 0 2 {FIRST_PTS} {printed} b/ 1 0"])
 
     def test_the_manual_states_the_order_of_gap_and_seam(self) -> None:
         two_ts_packets_each = [make_pes_packet(FIRST_PTS + TICKS * at, [CLOSING] * 4)
                                for at in range(3)]
-        data = build_teletext(two_ts_packets_each,
-                              lambda packets: [*packets[:2], *announce_jump_in_second(packets[2:])])
-        first, second = (line.split(" ")[0] for line in self.lines_of(data)
-                         if line.startswith(("gap ", "seam ")))
+        data = make_stream(two_ts_packets_each,
+                           lambda packets: [*packets[:2], *announce_jump_in_second(packets[2:])])
+        first, second = (line.split(" ")[0] for line in self.list_lines(data, "gap", "seam"))
         manual = " ".join((read(os.path.join(TOP, "docs", "manual", "survey.md")) or "").split())
         self.check("lines", {first, second}, {"gap", "seam"})
         self.must("the manual", f"A `{first}` at the same place comes first." in manual, first)
-
-    def test_ends_pictures_with_group_and_pictures(self) -> None:
-        tables = ["size 188", "programme 1 512", "stream 512 2", "stream 257 6",
-                  "announce 257 888 656e67 2", "teletext 257"]
-        for flagged, passed, count, last in (((3, 15), 3, 12, "0 0"), ((20,), 20, 10, "0 0 20 1")):
-            first = FIRST_PTS + TICKS * passed
-            lines = [f"video 512 {passed}",
-                     *(f"picture 512 {first + TICKS * at}" for at in range(count)),
-                     f"group 512 {first} {first} unknown", f"pictures 512 {last}"]
-            at = len(lines) if passed < 15 else 6  # the second ends with picture 26
-            lines.insert(at, "steps 512 3600 2 3600 2")
-            self.check(f"{flagged}", self.lines_of(pictures(flagged)), [
-                *tables, *lines, "end 257 0 0 0 0 0 0 -", "over 0 62"])
-
-    def test_prints_all_lines_of_other_files(self) -> None:
-        two = b"".join(make_frame_headers(2))
-        run, end = "pes 0 0 2 1000000 3600 b/ 1 0", "end 0 2 0 0 0 0 0 1003600"
-        rows: dict[str, tuple[bytes, list[str]]] = {
-            "two": (two, ["size 0", run, end, "over 0 0"]),
-            "another start": (two + b"\0\0\1\xbe" + bytes(200),
-                              ["size 0", run, "damaged 0 2 start", end, "over 0 0"]),
-            "cut": (two + two[:183], ["size 0", run, "damaged 0 2 cut", end, "over 0 0"]),
-            "nothing": (b"", ["nothing", "over 0 0"]),
-            "RIFF": (b"RIFF" * 3, ["nothing", "over 12 0"])}
-        for name, (data, wanted) in rows.items():
-            self.check(name, self.lines_of(data), wanted)
 
 
 class SurveyAnswers(Case):
