@@ -451,12 +451,11 @@ STATED: list[tuple[str, str, object]] = [
       for words, module, name, unit in (
           ("the first {} bytes of the recording", "recording", "HEAD", 1),
           ("`survey` searches {:,} bytes", "recording", "MAX_INSPECTED_BYTES", 1),
-          ("length is a multiple of {:,} bytes", "recording", "INSPECTED_BYTES", 1),
           ("A row has 40 codes. {:X} (a space)", "rows", "CORRUPT_CELL", 1),
           ("LEAST and MOST differ by less than {}", "steps", "DIFFERENT_TICKS", 1),
           ("after {} bytes if it is 3", "pes_header", "CAPACITY", 1),
           ("of the last {} distances", "clock", "MEDIAN_INTERVALS", 1),
-          ("line is printed {:,} TS packets later", "carrier", "INSPECTED_PACKETS", 1),
+          ("printed up to {:,} TS packets later", "carrier", "INSPECTED_PACKETS", 1),
           ("at most {} Teletext PIDs", "multiplex", "CAPACITY", 1),
           ("video PIDs and {} PIDs with tables", "tables", "MAX_TABLE_PIDS", 1),
           ("remembers the last {} discontinuities", "pid_state", "MAX_STORED_BREAKS", 1)))]
