@@ -342,6 +342,8 @@ STATED: list[tuple[str, str, object]] = [
     ("manual/air.md", "deletes at most {} for each new segment",
      NUMBER_WORDS[MAX_DELETED_SEGMENTS]),
     ("manual/many-pairs.md", "A file without a partner is `not judged` (status {})", OTHER_STATUS),
+    ("MANUAL.md", "The default, {}, allows", DEFAULTS["--every"]),
+    ("MANUAL.md", "(status 127; `qc`: {})", BUG_STATUS),
     ("manual/air.md", "more than {:.0f} minutes after that time", MAX_SEGMENT_SECONDS / 60),
     ("manual/air.md", "has not changed for {} seconds (`--settled`)",
      JUDGE.get_default("settled")),
@@ -357,7 +359,7 @@ STATED: list[tuple[str, str, object]] = [
     ("manual/air.md", "`page 888`: a page in the schedule had no header for {:.0f} minutes",
      PAGE_SILENCE / 60),
     ("../README.md", "x86-64-v2, glibc 2.{} and Python", GLIBC_MINOR),
-    ("MANUAL.md", "with glibc 2.{}, and Python", GLIBC_MINOR),
+    ("MANUAL.md", "with glibc 2.{} or newer", GLIBC_MINOR),
     ("../README.md", "are `--page 888`, `--option {}`", DEFAULTS["--option"]),
     ("../README.md", "and `--every {}` (frames)", DEFAULTS["--every"]),
     ("../README.md", "| {} | as 0, but you gave no clock", STATUSES[RELATIVE]),
@@ -460,13 +462,14 @@ STATED: list[tuple[str, str, object]] = [
           ("remembers the last {} discontinuities", "pid_state", "MAX_STORED_BREAKS", 1)))]
 # For each fault that documents mention, words of which its sentence or table row contains one.
 FAULT_WORDS = {
-    10: "block", 11: "DFC", 13: "DSC|open", 14: "code table", 16: "cumulative", 45: "gap|miss|Lost",
-    50: "character|byte", 52: "line length", 53: "VP", 57: "overlap", 60: "missing recording",
-    61: "jitter", 67: "C4|header|repeats|national options|Everything",
+    10: "block", 11: "DFC", 13: "DSC|open", 14: "code table", 16: "cumulative", 20: "24:00:00:00",
+    45: "gap|miss|Lost", 50: "character|byte", 52: "line length", 53: "VP", 57: "overlap",
+    60: "missing recording", 61: "jitter",
+    67: "C4|header|repeats|national options|Everything",
     69: "same text|earlier packets", 70: "X/28", 73: "repeat|Gap", 77: "close|header",
-    72: "refuses every|lost subtitle|all rows|Everything|reports? of", 78: "unknown|cause",
-    74: "break|during a subtitle|alone|ends so", 79: "pace|PES packets are more|waived?",
-    90: "standard output|OUT"}
+    72: "refuses every|lost subtitle|all rows|Everything|In a pause|reports? of",
+    74: "break|during a subtitle|alone|ends so", 78: "unknown|cause",
+    79: "pace|PES packets are more|waived?", 90: "standard output|OUT"}
 FAULT_MENTION = re.compile(r"\bfault (\d+)\b")
 FIELD = re.compile(r"\b(?:C\d+|X/\d+|TC[IO]|DFC|DSC|CCT|EBN|CS|CF|JC|VP|SGN|SN)\b")
 SENTENCE_END = re.compile(r"(?<=[.?:])\s|\|\n|\n- |\n\n")
