@@ -14,7 +14,7 @@ from typing import Iterable, Iterator
 from subtitles.air.decision import HOUR, MAX_WAIT
 from subtitles.air.judge import HOOK_SECONDS
 from subtitles.air.main import make_judge_parser, make_record_parser, make_status_parser
-from subtitles.air.recorder import MAX_DELETED_SEGMENTS
+from subtitles.air.recorder import MAX_DELETED_SEGMENTS, WRITE_PATIENCE
 from subtitles.air.segments import MAX_SEGMENT_SECONDS
 from subtitles.air.state import PAGE_SILENCE, SILENCE, Monitor
 from subtitles.air.status import CRITICAL, OK
@@ -344,6 +344,10 @@ STATED: list[tuple[str, str, object]] = [
     ("manual/many-pairs.md", "A file without a partner is `not judged` (status {})", OTHER_STATUS),
     ("MANUAL.md", "The default, {}, allows", DEFAULTS["--every"]),
     ("MANUAL.md", "(status 127; `qc`: {})", BUG_STATUS),
+    ("manual/air.md", "could not write for {:.0f} seconds", WRITE_PATIENCE),
+    ("manual/air.md", "`late`: a line has no result {:.0f} minutes after the end (twice",
+     2 * JUDGE.get_default("margin") / 60),
+    ("manual/air.md", "`not judged: not recorded: FROM to TO` (status {})", OTHER_STATUS),
     ("manual/air.md", "more than {:.0f} minutes after that time", MAX_SEGMENT_SECONDS / 60),
     ("manual/air.md", "has not changed for {} seconds (`--settled`)",
      JUDGE.get_default("settled")),
