@@ -362,7 +362,7 @@ STATED: list[tuple[str, str, object]] = [
     ("manual/air.md", "`silence`: no byte was written for {:.0f} seconds", SILENCE),
     ("manual/air.md", "`page 888`: a page in the schedule had no header for {:.0f} minutes",
      PAGE_SILENCE / 60),
-    ("../README.md", "x86-64-v2, glibc 2.{} and Python", GLIBC_MINOR),
+    ("../README.md", "x86-64-v2, glibc 2.{}+ and Python", GLIBC_MINOR),
     ("MANUAL.md", "with glibc 2.{} or newer", GLIBC_MINOR),
     ("../README.md", "are `--page 888`, `--option {}`", DEFAULTS["--option"]),
     ("../README.md", "and `--every {}` (frames)", DEFAULTS["--every"]),
