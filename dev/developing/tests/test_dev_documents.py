@@ -480,7 +480,7 @@ SENTENCE_END = re.compile(r"(?<=[.?:])\s|\|\n|\n- |\n\n")
 OPTION_NAME = re.compile(r"(?<![\w-])--[a-z][a-z-]*")
 # Options of other programs that the documents mention.
 OTHER_OPTIONS = {"--forked", "--now", "--sshloginfile", "--workdir", "--joblog", "--resume-failed",
-                 "--array", "--system"}
+                 "--array", "--system", "--list-axioms"}
 
 
 class StatedFacts(Case):
