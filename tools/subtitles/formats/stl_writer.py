@@ -119,7 +119,7 @@ def find_unstorable(lines: Sequence[tuple[int, bytes]], option: NationalOption) 
             return f"row {number} has text"
         if line and START_BOX not in line:
             return f"row {number} has no start box (0B)"
-        unknown = [code for code in line if code not in make_text_bytes(option)]
+        unknown = line.translate(None, bytes(make_text_bytes(option)))
         if unknown:
             return f"row {number} has the code {unknown[0]:02X}, for which the national option " \
                 f"{option.word} has no byte in a text"

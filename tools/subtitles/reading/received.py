@@ -101,13 +101,14 @@ def find_step_back(packets: Packets, pes: Range) -> int | None:
     """Return the first PES packet whose PTS is at least a frame before the last one, if any."""
     last: int | None = None
     for run in packets.list_runs_between(*pes):
-        if run.pts is None or run.last is None or run.fault:
+        end = run.last
+        if run.pts is None or end is None or run.fault:
             continue
         if last is not None and subtract_pts(last, run.pts) <= -TICKS:
             return run.first
         if run.length > 1 and run.step <= -TICKS:
             return run.first + 1
-        last = run.last
+        last = end
     return None
 
 

@@ -7,7 +7,7 @@ import functools
 import itertools
 from typing import Collection, Iterable, Iterator, NamedTuple, Sequence
 
-from ..common.times import TICKS, count_until, subtract_pts, wrap_pts
+from ..common.times import CLOCK, TICKS, count_until, subtract_pts, wrap_pts
 
 
 PES = 0  # used as the PID of a PES file
@@ -37,11 +37,15 @@ class PacketRun(NamedTuple):
         """Return the PTS of the PES packets, or an empty list if the PES packets have no PTS."""
         if self.pts is None or self.length == 1:  # most runs have one PES packet
             return [] if self.pts is None else [self.pts]
+        end = self.pts + self.step * self.length
+        if self.step > 0 and end <= CLOCK:  # most runs
+            return range(self.pts, end, self.step)
         return [wrap_pts(self.pts + self.step * at) for at in range(self.length)]
 
     def part(self, first: int, length: int) -> PacketRun:
         """Return `length` PES packets of this run, starting with number `first`."""
-        return self._replace(first=first, length=length, pts=self.pts_of(first))
+        return self if length == self.length else self._replace(
+            first=first, length=length, pts=self.pts_of(first))
 
     @property
     def end(self) -> int:
@@ -129,18 +133,17 @@ class Packets:
     def has_page(self) -> bool:
         return any(HEADER in run.flags for run in self.runs)
 
-    def list_runs_between(self, first: int, last: int) -> Iterator[PacketRun]:
-        """Yield the runs of the PES packets from number `first` to `last`."""
-        at = count_until(self.runs, lambda run: run.first > first) - 1
-        for place in range(max(at, 0), len(self.runs)):  # a slice would copy all later runs
-            run = self.runs[place]
-            begin, end = max(run.first, first), min(run.end, last + 1)
-            if run.first > last:
-                return
-            if begin == run.first and end == run.end:
-                yield run
-            elif begin < end:
-                yield run.part(begin, end - begin)
+    def list_runs_between(self, first: int, last: int) -> list[PacketRun]:
+        """Return the runs of the PES packets from number `first` to `last`."""
+        begin = count_until(self.runs, lambda run: run.end > first)
+        runs = self.runs[begin:count_until(self.runs, lambda run: run.first > last)]
+        if not runs or first > last:
+            return []
+        if runs[0].first < first:
+            runs[0] = runs[0].part(first, runs[0].end - first)
+        if runs[-1].end > last + 1:
+            runs[-1] = runs[-1].part(runs[-1].first, last + 1 - runs[-1].first)
+        return runs
 
     def get_pts(self, number: int) -> int | None:
         """Return the PTS of a PES packet, if it has one."""
@@ -153,10 +156,9 @@ class Packets:
                 yield number, run.pts_of(number), run.flags
 
     def pts(self, inside: Range | None = None, flags: str = "") -> Iterator[int]:
-        """Yield the PTS of the PES packets in the range `inside` that have all `flags`."""
-        for run in self.list_runs_between(*inside) if inside else self.runs:
-            if flags in run.flags:
-                yield from run.list_pts()
+        """Return the PTS of the PES packets in the range `inside` that have all `flags`."""
+        runs = self.list_runs_between(*inside) if inside else self.runs
+        return itertools.chain.from_iterable(run.list_pts() for run in runs if flags in run.flags)
 
     def list_runs_with_pts(self) -> Iterator[PacketRun]:
         return (run for run in self.runs if run.pts is not None)
@@ -213,6 +215,8 @@ def describe_subpages(subcodes: Sequence[str], page: str) -> str:
 def find_announced_jumps(packets: Packets, inside: Range, usual: int) -> list[PTSPair]:
     """Return the PTS before and after each announced jump of the counter, if they are more than
     `usual` frames apart. Use only the PES packets `inside`."""
+    if not packets.counter_jumps:
+        return []
     pts = array.array("q", packets.pts(inside))
     previous_pts = {after: before for before, after in zip(pts, itertools.islice(pts, 1, None))
                     if subtract_pts(before, after) > usual * TICKS}
