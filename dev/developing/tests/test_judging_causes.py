@@ -148,7 +148,7 @@ def decode(sent: str, programme: ExpectedPages, within: int = 0, first: int = 0,
         for at in (int(frame), int(frame) + int(frames_open)):
             decoded.record_opening(at)
     decoded.first, decoded.last, decoded.lost = first, last, SpanIndex(spans["~"])
-    decoded.uncertain_spans, decoded.pauses = spans["?"], spans["!"]
+    decoded.uncertain_spans, decoded.pauses = spans["?"], Spans(spans["!"])
     decoded.count = 500  # enough PES packets for pauses between them to be considered
     decoded.stray_rows = [(span, ((19, programme.pages[-1][18]),)) for span in spans["@"]]
     return decoded

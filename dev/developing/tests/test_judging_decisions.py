@@ -308,11 +308,11 @@ class DecodedPages(Case):
                                                                                Span(120, 123)])):
             decoded = self.decode(b"".join(make_pes_packet(TICKS * frame, [HEADER, CLOSING])
                                            for frame in frames))
-            self.must(f"{expected}", decoded.pauses == expected, decoded.pauses)
+            self.check(f"{expected}", [*decoded.pauses], expected)
         for frame, pause in ((89, None), (90, 0), (92, 0), (93, None), (119, None), (120, 1),
                              (123, 1), (124, None)):
-            self.must(f"{frame}", decoded.find_pause(frame) == (None if pause is None else
-                                                           decoded.pauses[pause]))
+            self.check(f"{frame}", decoded.find_pause(frame),
+                       None if pause is None else [*decoded.pauses][pause])
         for decoded.count, is_steady in ((2 * PACKETS_PER_PAUSE, True),
                                          (2 * PACKETS_PER_PAUSE - 1, False)):
             self.must(f"{is_steady}", (decoded.find_pause(91) is not None) == is_steady)

@@ -256,10 +256,10 @@ class ReceivedFrames(unittest.TestCase):
         before, behind = "200:heos:a 205!:he 220:c ", "150:heos:b 160!:h 170:c 310:ho:c"
         alone, both = (self.timeline(sent, begin=300) for sent in (behind, before + behind))
         for name in ("frames", "pages", "open_changes", "header_frames", "erasure_frames",
-                     "stray_rows", "uncertain_spans",
-                     "pauses", "begins", "ends", "count", "first", "last", "states",
-                     "state_frames"):
+                     "stray_rows", "uncertain_spans", "begins", "ends", "count", "first", "last",
+                     "states", "state_frames"):
             self.assertEqual(getattr(both, name), getattr(alone, name), name)
+        self.assertEqual([*both.pauses], [*alone.pauses])
         decoded = self.timeline("200:he 310:he 200:he 400:he", begin=300)
         self.assertEqual((decoded.halt, decoded.last), (2, 310))
         self.assertEqual([self.timeline(twice, first_packet_frame=came).first

@@ -193,6 +193,7 @@ def read_command(args: argparse.Namespace, program_name: str) -> int:
                     lines.append(f"{page_name(*page)} {verdict.last_line}")
                 if verdict.is_stopped:
                     break
+                del verdict  # before the next page is read, since it needs much memory
             for text in lines:
                 reader.printer.print_line(text)
     return combine_statuses(statuses)

@@ -276,6 +276,7 @@ def schedule_pages(program: str, stl: str, subtitles: list[Subtitle], page: Page
         timeline = Timeline(Packets(PES), page, 0)
         for run, texts in survey_runs(program, path, page):
             timeline.receive_run(run, texts)
+    timeline.received_runs.clear()  # PES packets that nothing uses need much memory
     return ExpectedPages(subtitles,
                          [timeline.get_page_at(subtitle.begin) for subtitle in subtitles], timeline)
 

@@ -259,6 +259,8 @@ class CueList:
             cells = join_markup(markup("<td>{}</td>", cell) for cell in row.cells[1:])
             rows.append(markup('<tr id="s{}" class="{}"><th scope="row">{}</th>{}</tr>',
                                row.anchor, " ".join(classes), row.cells[0], cells))
+        table_rows = join_markup(rows, "\n")
+        rows.clear()  # they need much memory
         choices = [("all", "all", len(self.rows)), (ROW_CLASSES[WRONG], "not right", wrong_count)]
         choices += [(kind.key, kind.name, self.counts[kind.key]) for kind in self.kinds
                     if self.counts[kind.key]]
@@ -274,7 +276,7 @@ class CueList:
             "</section>",
             radios if wrong_count else NO_MARKUP, join_words(hidden, "and"),
             "" if self.part.recording else " file", self.make_caption(), heads,
-            join_markup(rows, "\n"))
+            table_rows)
 
     def make_caption(self) -> str:
         """Return the caption of the cue list, which explains its columns."""

@@ -424,12 +424,14 @@ def make_report_page(verdict: Verdict, command_paths: CommandPaths) -> Markup:
                            view.part.first_text,
                            join_markup(view.make_sections(), "\n").prefix_anchors(f"{name}-")))
     body.append(make_footer(verdict, command_paths))
+    filter_style = make_filter_style(view.cue_list for view in views)
+    views.clear()  # a cue list needs much memory
     content = join_markup(body, "\n")
+    body.clear()
     links = join_markup((markup('<a href="#{}">{}</a>', anchor, words) for anchor, words in LINKS
                          if f' id="{anchor}"' in content.source), " ")
     style = read_style(os.path.join(os.path.dirname(__file__), "style.css"))
     return markup(
         "{}<title>{} &#8211; {}</title><style>\n{}{}</style></head><body><main><h1>Report on {}"
         '</h1>\n<nav aria-label="Sections">{}</nav>\n{}\n</main></body></html>\n', HEAD,
-        verdict.word, title, style, make_filter_style(view.cue_list for view in views), title,
-        links, content)
+        verdict.word, title, style, filter_style, title, links, content)

@@ -8,7 +8,7 @@ import itertools
 from typing import Iterable, Iterator, NamedTuple, Sequence
 
 from ..common.times import (
-    FRAMES_OF_A_DAY, NO_FRAME, Span, count_until, find_frames_of_day, split_rising_rows)
+    FRAMES_OF_A_DAY, NO_FRAME, Span, Spans, count_until, find_frames_of_day, split_rising_rows)
 from ..formats.teletext import Page
 from .packets import (
     CLOSED, ERASE, HEADER, NO_RANGE, OPEN, PacketRun, Packets, Range, STRAY, Texts, parse_headers)
@@ -92,7 +92,7 @@ class ReceivedPackets:
         self.halt: int | None = None
         self.is_uncertain = False
         # Frames around gap markers and unreadable PES packets; frames without a PES packet
-        self.uncertain_spans, self.pauses = list[Span](), list[Span]()
+        self.uncertain_spans, self.pauses = list[Span](), Spans()
 
     def add_run(self, run: PacketRun, frames: Sequence[int]) -> bool:
         """Add PES packets with ascending frames. If the frame number has decreased, now or before,
@@ -104,7 +104,8 @@ class ReceivedPackets:
         if self.is_uncertain:
             self.uncertain_spans.append(Span(max(self.last, 0), frames[0]))
             self.is_uncertain = False
-        self.pauses += find_pauses(self.last, frames)
+        for pause in find_pauses(self.last, frames):
+            self.pauses.add(*pause)
         if not isinstance(frames, range):
             self.uneven_frames[len(self.received_runs)] = frames
         self.received_runs.append(run)
@@ -122,10 +123,8 @@ class ReceivedPackets:
     def find_pause(self, frame: int) -> Span | None:
         """Return the pause around a frame. Return `None` if the frame is not in a pause, or if
         pauses are frequent."""
-        at = count_until(self.pauses, lambda span: span.first > frame) - 1
         has_usual_pauses = len(self.pauses) * PACKETS_PER_PAUSE <= self.count
-        return self.pauses[at] if has_usual_pauses and at >= 0 and self.pauses[at].last >= frame \
-            else None
+        return next(self.pauses.between(frame, frame + 1), None) if has_usual_pauses else None
 
     @functools.cached_property
     def uncertain_index(self) -> SpanIndex:
