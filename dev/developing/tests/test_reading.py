@@ -18,7 +18,7 @@ from subtitles.formats.teletext import (
 from subtitles.judging.cues import CERTAIN, NOT_CERTAIN
 from subtitles.judging.status import (
     AS_SHOWN, CheckSummary, DIFFERS, Grounds, NOT_READ, SAME, Severity, WITH_FAULTS, decide_reading)
-from subtitles.reading.dates import find_date
+from subtitles.recording.dates import find_date
 from subtitles.reading.received import (
     ShownPage, choose_header_option, choose_language, find_likely_errors, find_recorded_day,
     find_undecided_option, join_late_pages, mark_cuts, prefer_option, store_pages)

@@ -10,7 +10,8 @@ from developing.pes import decode_pts
 from subtitles.judging.pair import PairJudge
 from subtitles.stream.packets import PacketRun, Packets
 from subtitles.stream.proved import (
-    End, Item, SurveyMismatch, compare_lines, find_end, find_unproved_number, list_items)
+    End, Item, SurveyMismatch, collect_items, compare_lines, find_end, find_unproved_number,
+    list_items)
 from .bench import Case
 from .judged import ProgrammeCase, judge_files
 from .streams import (
@@ -112,6 +113,21 @@ class Comparison(Case):
         self.check("items", [*list_items(packets, (1, 9))], [
             Item(1, 8), Item(2, None, 45), Item(3, None, 37)])
         self.check("end", find_end(packets), End(4, {32}))
+
+    def test_recognises_items_that_were_compared(self) -> None:
+        runs = [PacketRun(0, 1, 5, 0, "h", ""), PacketRun(1, 2, 8, 3, "", ""),
+                PacketRun(3, 1, None, 0, "m", ""), PacketRun(4, 1, 9, 0, "", "", fault=37)]
+        known = collect_items(Packets(PID, runs), (1, 4))
+        rows: dict[str, tuple[int, int, dict[str, Any], bool]] = {
+            "the same": (1, 0, {}, True), "a later header": (2, 0, {}, True),
+            "an earlier header": (0, 0, {}, False), "another PTS": (1, 1, {"pts": 9}, False),
+            "no gap marker": (1, 2, {"flags": ""}, False),
+            "another fault": (1, 3, {"fault": 38}, False), "one more": (1, 3, {"length": 2}, False)}
+        for name, (first, at, change, expected) in rows.items():
+            other = Packets(PID, [*runs[:at], runs[at]._replace(**change), *runs[at + 1:]])
+            self.check(name, known.includes(collect_items(other, (first, 5))), expected)
+        other = Packets(PID, runs, refusal=32)
+        self.check("another end", known.includes(collect_items(other, (1, 4))), False)
 
     def test_ends_after_twenty_calls(self) -> None:
         calls = list[int]()

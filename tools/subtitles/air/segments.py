@@ -16,7 +16,7 @@ from typing import Iterable, Iterator, NamedTuple, Sequence
 from ..cli.single import now as date
 from ..common.command_line import PACKET_SIZES, Stop
 from ..common.times import subtract_pts
-from ..reading.dates import DAY, find_times
+from ..recording.dates import DAY, find_times
 
 # Names such as 20261129T201500.250Z.ts, news-20261129-201500.ts, feed_2026-11-29_20-15-00.ts.
 NAME = re.compile(r"(?:.*\D)?(\d{4})-?(\d\d)-?(\d\d)[T_-]?(\d\d)[-.:]?(\d\d)[-.:]?(\d\d)"

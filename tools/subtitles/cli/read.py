@@ -126,6 +126,7 @@ class PageReader:
         """Read the stored output of `survey` about the page of `recording`."""
         page = recording.request.page
         recording.path, recording.file = self.recording.path, self.recording.file
+        recording.date, recording.compared = self.recording.date, self.recording.compared
         recording.survey = read_stored_survey(self.survey_paths[page], page)
 
     def clear_folder(self, pages: Sequence[Page]) -> None:

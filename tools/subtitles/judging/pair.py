@@ -23,7 +23,6 @@ from ..request.commands import CommandPaths, Listener, OutputNames, make_command
 from ..request.request import (
     OPTION_CHOICE, Request, Selection, Unclear, IncompleteAnswer, WrongInput, describe_option)
 from ..stream.packets import HEADER, NO_RANGE, Range
-from ..stream.proved import find_unproved_number
 from .causes import Causes
 from .check import CheckOutput, check_file_alone, print_file_check_command, run_check
 from .desync import find_desync
@@ -467,7 +466,7 @@ class PairJudge:
         """Raise `SurveyMismatch` if `survey` printed other PES packets of a part than the proved
         command `packets`. Add an entry for those that were not compared."""
         recording, pes = part.judged_recording[0], part.pes or NO_RANGE
-        number = find_unproved_number(recording.make_packets_command(), recording.packets, pes)
+        number = recording.find_unproved_number(pes)
         if number is not None:
             self.verdict.unchecked.append(Unchecked(
                 OUTSIDE, f"whether survey read PES packets {number} to {pes[1]} as the proved "

@@ -22,7 +22,6 @@ from ..judging.timing import (
 from ..recording.recording import Recording
 from ..request.request import PES_CHOICE, Selection, Unclear, write_moved_copy
 from ..stream.packets import Range
-from .dates import find_date
 from .received import CUT_TEXTS, Reading, make_stl, prefer_option, read_pages
 from .result import JudgedRange, RangeVerdict, ReadingVerdict
 
@@ -118,8 +117,7 @@ class ReadingJudge(RangeJudge):
         if self.option and self.option != reading.option:
             raise Unclear(f"--option is {self.option.word}, but C12 to C14 of the headers of the "
                           f"page select {reading.option.word}")
-        data = make_stl(reading, os.path.basename(recording.name), languages,
-                        find_date(recording.path, recording.survey.size or 0))
+        data = make_stl(reading, os.path.basename(recording.name), languages, recording.date)
         with open(request.original_path, "wb") as file:
             file.write(data)
         if reading.day_begin:

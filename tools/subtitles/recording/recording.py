@@ -22,9 +22,11 @@ from ..request.commands import (
 from ..request.request import PID_CHOICE, Request, Selection, Unclear, WrongInput
 from ..stream.gaps import (
     LossPlace, describe_gap_markers, explain_refusal, find_loss_places, find_recorded_range)
-from ..stream.packets import HEADER, PES, PTSPair, Packets
-from ..stream.proved import PacketsCommand, has_proved_numbers
+from ..stream.packets import HEADER, PES, PTSPair, Packets, Range
+from ..stream.proved import (
+    ComparedItems, PacketsCommand, collect_items, find_unproved_number, has_proved_numbers)
 from ..stream.survey import Survey, survey
+from .dates import find_date
 from .notices import Notice, find_announcements, refuse_unsent_page, find_silent_pids
 
 
@@ -142,6 +144,12 @@ class Recording:
             names.make_utf_8_path(self.name, "given")
         self.survey, self.packets = Survey(), Packets(PES)
         self.file: SummedFile | None = None
+        self.compared: dict[int, ComparedItems] = {}  # PES packets of each PID
+
+    @functools.cached_property
+    def date(self) -> bytes:
+        """Return the date of the recording as YYMMDD."""
+        return find_date(self.path, self.survey.size or 0)
 
     def read(self, is_summed: bool) -> None:
         """Read the whole recording, and find the packets of the page. If `is_summed` is true,
@@ -183,6 +191,17 @@ class Recording:
         """Return the command with which the program lists the PES packets of the page's PID."""
         return PacketsCommand(self.command_paths.program_path, self.path,
                               self.list_program_options())
+
+    def find_unproved_number(self, pes: Range) -> int | None:
+        """Compare the PES packets of a range with the output of `packets`, unless they were compared
+        for another page. Return the number of the first one that was not compared, if any."""
+        items, pid = collect_items(self.packets, pes), self.packets.pid
+        if pid in self.compared and self.compared[pid].includes(items):
+            return None
+        number = find_unproved_number(self.make_packets_command(), self.packets, pes)
+        if number is None:
+            self.compared[pid] = items
+        return number
 
     def show_progress(self) -> None:
         self.listener.printer.show_progress(lambda: self.name)

@@ -1,12 +1,14 @@
 """Compare the PES packets that `survey` printed with those of the proved command `packets`."""
 from __future__ import annotations
 
+import array
+import itertools
 import subprocess
 from typing import Collection, Iterable, Iterator, NamedTuple, Sequence
 
 from ..common.command_line import ProgramInterrupted
 from ..formats.listing import ENDS_READING, LOST_PACKETS
-from .packets import Packets, Range
+from .packets import PacketRun, Packets, Range
 
 # `packets` ends at the first PES packet that it refuses, and is called again for the next one.
 MAX_CALLS = 20
@@ -59,12 +61,14 @@ class PacketsCommand(NamedTuple):
 def list_items(packets: Packets, inside: Range) -> Iterator[Item]:
     """Yield the PES packets and gap markers of a range, as `survey` printed them."""
     for run in packets.list_runs_between(*inside):
-        is_marker = run.pts is None and run.flags == "m"
-        for number in range(run.first, run.end):
-            if is_marker:
-                yield Item(number, None, LOST_PACKETS)
-            else:
-                yield Item(number, None if run.fault else run.pts_of(number), run.fault)
+        fault = find_item_fault(run)
+        yield from map(Item, range(run.first, run.end), itertools.repeat(None)
+                       if fault or run.pts is None else run.list_pts(), itertools.repeat(fault))
+
+
+def find_item_fault(run: PacketRun) -> int:
+    """Return the number of the fault for which `packets` refuses the items of a run, or 0."""
+    return LOST_PACKETS if run.pts is None and run.flags == "m" else run.fault
 
 
 def compare_lines(items: Iterator[Item], lines: Iterable[str], end: End) -> int | None:
@@ -76,7 +80,9 @@ def compare_lines(items: Iterator[Item], lines: Iterable[str], end: End) -> int 
         words = line.split()
         if words[:1] != ["pes"]:
             break
-        check_item(next(items, None), Item(int(words[1]), int(words[3])))
+        proved, printed = (int(words[1]), int(words[3]), 0), next(items, None)
+        if printed != proved:
+            check_item(printed, Item(*proved))
         count += 1
     if words == [f"{count}", "pes"]:
         check_item(next(items, None), None)
@@ -100,6 +106,29 @@ def check_item(printed: Item | None, proved: Item | None) -> None:
 def find_end(packets: Packets) -> End:
     """Return the place after the last PES packet, and the faults that may end reading there."""
     return End(packets.count, {packets.refusal} if packets.refusal else packets.damage_faults)
+
+
+class ComparedItems(NamedTuple):
+    """The items of a range that were compared with `packets`: the number of the first, a number for
+    each item (its PTS, or -1 minus its fault), and what follows the items."""
+
+    first: int
+    values: array.array[int]
+    end: End
+
+    def includes(self, other: ComparedItems) -> bool:
+        """Return whether these items end with `other`."""
+        return self.end == other.end and self.first <= other.first and \
+            self.values[other.first - self.first:] == other.values
+
+
+def collect_items(packets: Packets, inside: Range) -> ComparedItems:
+    """Return the items of a range, as `survey` printed them."""
+    values = array.array("q")
+    for run in packets.list_runs_between(*inside):
+        fault = find_item_fault(run)
+        values.extend([-1 - fault] * run.length if fault or run.pts is None else run.list_pts())
+    return ComparedItems(inside[0], values, find_end(packets))
 
 
 def find_unproved_number(command: PacketsCommand, packets: Packets, inside: Range) -> int | None:
