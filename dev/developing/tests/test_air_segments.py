@@ -321,7 +321,7 @@ class Recorded(AirCase):
             self.fill_disk(error)
 
     def fill_disk(self, error: int) -> None:
-        self.put_segments(-30, 0)
+        self.put_segments(-20, 0)
         self.now, room, real = DAY, [0], os.write
 
         def write(file: int, data: bytes) -> int:
@@ -345,6 +345,30 @@ class Recorded(AirCase):
         self.check("what was written stays", self.read_segments()[0], (0.0, b"abcd"))
         self.check("what came later", self.read_segments()[-1][1], b"more")
         self.check("the last one is new", self.are_new()[-1], True)
+
+    def test_keeps_the_history_if_deleting_does_not_help(self) -> None:
+        real, is_full = os.write, True
+
+        def write(file: int, data: bytes) -> int:
+            if is_full:
+                raise OSError(errno.EDQUOT, "full")
+            return real(file, data)
+
+        for free in (0, 1 << 60):  # a quota, and a disk with snapshots
+            self.delete_all("segments")
+            self.put_segments(-1000, 0)
+            self.now, item, is_full = DAY, self.recorder(kept=9999, free=free), True
+            with mock.patch.object(os, "write", write), \
+                    mock.patch.object(recorder, "print_stderr", lambda _: None):
+                for end, count in ((1, 98), (50, 98), (90, 97), (150, 96)):
+                    while self.now < DAY + end:
+                        item.take(b"lost")
+                    self.check(f"until {end}", len(self.read_segments()), count)
+                    self.check("an alarm", self.has_note(), True)
+                is_full = False
+                item.take(b"more")
+            self.check("recorded again", self.read_segments()[-1][1], b"more")
+            self.check("the last one is new", self.are_new()[-2:], [False, True])
 
     def has_note(self) -> bool:
         return os.path.exists(self.path(f"segments/{segments.NOTE}"))

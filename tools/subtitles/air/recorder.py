@@ -20,7 +20,7 @@ MAX_READ_BYTES = 1 << 18  # maximum number of bytes per read
 PIPE_SIZE = 1 << 20  # pipe buffer in bytes: 0.2 seconds at 40 Mbit/s
 # Seconds between writes to a full disk, and seconds after which unwritten bytes are dropped.
 WRITE_RETRY, WRITE_PATIENCE = 0.1, 5.0
-# Segments deleted for each new one: a wrong clock or other files must not delete all at once
+# Segments deleted for each new one: a wrong clock or a full disk must not delete all at once
 MAX_DELETED_SEGMENTS = 2
 MAX_STEP_BACK = 10.0  # seconds by which the names of segments may be ahead of the clock
 MAX_SILENCE = 5.0  # seconds without a byte after which a segment ends, so that `judge` sees them
@@ -54,9 +54,10 @@ class Recorder:
         # Monotonic times of the start, when enough disk space was free, and when bytes were lost.
         self.start = self.last_room = time.monotonic()
         self.last_loss, self.deadline = -math.inf, math.inf  # of writing the last bytes
+        self.deletions = list[float]()  # monotonic times, since a segment with bytes was closed
 
     def take(self, data: bytes) -> None:
-        """Write bytes. If the disk is full, delete the oldest segments. Bytes that still can't be
+        """Write bytes. If the disk is full, delete a few segments. Bytes that still can't be
         written are dropped, and the name of the next segment shows the loss."""
         left, deadline = memoryview(data), time.monotonic() + WRITE_PATIENCE
         if deadline > self.deadline + MAX_SILENCE:
@@ -85,8 +86,7 @@ class Recorder:
         if self.file is None or not 0 <= now - self.segment_begin < self.limits.length:
             self.close()
             self.make_room(now)
-            self.file = self.open_segment(now)
-            self.segment_begin = now
+            self.file, self.segment_begin, self.is_new = self.open_segment(now), now, False
         return self.file
 
     def open_segment(self, now: float) -> int:
@@ -99,14 +99,17 @@ class Recorder:
         self.latest = round(max([now, *(begin + 0.001 for begin, _ in earlier[-1:])]), 3)
         self.name = make_segment_name(self.latest, self.is_new)
         bisect.insort(self.names, (self.latest, self.name))
-        file = os.open(os.path.join(self.folder, self.name),
-                       os.O_WRONLY | os.O_CREAT | os.O_APPEND | os.O_CLOEXEC)
-        self.is_new = False
-        return file
+        return os.open(os.path.join(self.folder, self.name),
+                       os.O_WRONLY | os.O_CREAT | os.O_APPEND)
 
     def close(self) -> None:
         """Close the segment. A thread syncs the file, since the feed can't wait for the disk."""
         if self.file is not None:
+            if os.fstat(self.file).st_size:
+                self.deletions.clear()
+            else:  # the disk is full
+                with contextlib.suppress(FileNotFoundError):
+                    os.unlink(os.path.join(self.folder, self.name))
             threading.Thread(target=store_and_close, args=(self.file,)).start()
             self.file = None
 
@@ -114,12 +117,10 @@ class Recorder:
         """Delete segments from the future that were written before the clock was set back, segments
         after their retention time, and the oldest if too little disk space is free."""
         is_certain = time.monotonic() > self.start + FUTURE_SECONDS
-        for _ in range(MAX_DELETED_SEGMENTS):
-            before = now - self.limits.kept if self.has_room() else math.inf
-            wrong = math.inf if is_certain else self.latest_wrong + 0.001
-            if not self.delete_first(now + MAX_STEP_BACK, wrong):
-                self.delete_first(-math.inf, before)
-        self.has_room()
+        wrong = math.inf if is_certain else self.latest_wrong + 0.001
+        while self.delete_first(now + MAX_STEP_BACK, wrong) or self.delete_first(
+                before=now - self.limits.kept if self.has_room() else math.inf):
+            pass
         self.write_note()
 
     def has_room(self) -> bool:
@@ -142,12 +143,16 @@ class Recorder:
     def delete_first(self, after: float = -math.inf, before: float = math.inf) -> bool:
         """Delete the first segment that begins between two times. Never delete the current segment
         or, before there is one, the last. Return whether a segment was deleted."""
+        if len(self.deletions) >= MAX_DELETED_SEGMENTS and \
+                time.monotonic() < self.deletions[-1] + NOTE_SECONDS:  # that did not help
+            return False
         for begin, name in self.names[bisect.bisect_left(self.names, (after, "")):]:
             if begin >= before or name == (self.name or self.names[-1][1]):
                 break
             self.names.remove((begin, name))
             with contextlib.suppress(FileNotFoundError):  # somebody else deleted it
                 os.unlink(os.path.join(self.folder, name))
+                self.deletions.append(time.monotonic())
                 return True
         return False
 

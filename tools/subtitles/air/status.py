@@ -4,7 +4,6 @@ from __future__ import annotations
 
 import json
 import os
-import re
 import time
 from datetime import datetime
 from typing import Any, Iterator
@@ -15,6 +14,7 @@ from ..results.files import write_file
 
 OK, WARNING, CRITICAL, UNKNOWN = range(4)  # statuses of Nagios and Icinga
 WORDS = ("OK", "WARNING", "CRITICAL", "UNKNOWN")
+ESCAPES = str.maketrans({"\\": r"\\", '"': r'\"', "\n": r"\n"})  # in the values of labels
 
 
 def read_date(text: str | None) -> float | None:
@@ -59,16 +59,11 @@ def format_metrics(lines: list[tuple[str, dict[str, str], float]]) -> str:
     """Return the metrics in Prometheus's text format, with the lines of each metric together."""
     texts = dict[str, str]()
     for name, labels, value in lines:
-        words = ",".join(f'{key}="{escape(word)}"' for key, word in labels.items())
+        words = ",".join(f'{key}="{word.translate(ESCAPES)}"' for key, word in labels.items())
         kind = "counter" if name.endswith("_total") else "gauge"
         texts.setdefault(name, f"# TYPE subttx_air_{name} {kind}\n")
         texts[name] += f"subttx_air_{name}{{{words}}} {value:.15g}\n"
     return "".join(texts.values())
-
-
-def escape(word: str) -> str:
-    """Escape the value of a label."""
-    return re.sub(r'[\\"]', r"\\\g<0>", word).replace("\n", r"\n")
 
 
 def name_feeds(outs: list[str]) -> list[str]:
