@@ -193,8 +193,9 @@ class Recording:
                               self.list_program_options())
 
     def find_unproved_number(self, pes: Range) -> int | None:
-        """Compare the PES packets of a range with the output of `packets`, unless they were compared
-        for another page. Return the number of the first one that was not compared, if any."""
+        """Compare the PES packets of a range with the output of `packets`, unless they were
+        compared for another page. Return the number of the first one that was not compared, if any.
+        """
         items, pid = collect_items(self.packets, pes), self.packets.pid
         if pid in self.compared and self.compared[pid].includes(items):
             return None
