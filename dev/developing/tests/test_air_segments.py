@@ -365,6 +365,7 @@ class Recorded(AirCase):
                         item.take(b"lost")
                     self.check(f"until {end}", len(self.read_segments()), count)
                     self.check("an alarm", self.has_note(), True)
+                self.check("no other files are known", len(item.names), 96)
                 is_full = False
                 item.take(b"more")
             self.check("recorded again", self.read_segments()[-1][1], b"more")

@@ -45,7 +45,7 @@ class Recorder:
 
     def __init__(self, folder: str, limits: Limits) -> None:
         self.folder, self.limits = folder, limits
-        self.names = list_segment_names(folder)  # a pipe can't wait for a large folder each time
+        self.names = list_segment_names(folder)  # of closed segments, since listing takes long
         self.file: int | None = None
         self.name = ""  # name of the current segment
         self.is_new = True  # data before the next segment may be missing
@@ -98,7 +98,6 @@ class Recorder:
         earlier = self.names[:bisect.bisect_left(self.names, (now + MAX_STEP_BACK, ""))]
         self.latest = round(max([now, *(begin + 0.001 for begin, _ in earlier[-1:])]), 3)
         self.name = make_segment_name(self.latest, self.is_new)
-        bisect.insort(self.names, (self.latest, self.name))
         return os.open(os.path.join(self.folder, self.name),
                        os.O_WRONLY | os.O_CREAT | os.O_APPEND)
 
@@ -106,6 +105,7 @@ class Recorder:
         """Close the segment. A thread syncs the file, since the feed can't wait for the disk."""
         if self.file is not None:
             if os.fstat(self.file).st_size:
+                bisect.insort(self.names, (self.latest, self.name))
                 self.deletions.clear()
             else:  # the disk is full
                 with contextlib.suppress(FileNotFoundError):
