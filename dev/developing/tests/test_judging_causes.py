@@ -93,9 +93,9 @@ class SenderFaults(ProgrammeCase):
 
 
 # Causes of refused subtitles, by tables. A row has the subtitles with their frames, and the decoded
-# pages with their first frames. `100:a/4` is a page that another header ends 4 frames later. `!` has
-# the frames of a pause between PES packets, `?` unreadable frames, `~` lost frames, and `@` a frame
-# with rows without a header.
+# pages with their first frames. `100:a/4` is a page that another header ends 4 frames later. `!`
+# has the frames of a pause between PES packets, `?` unreadable frames, `~` lost frames, and `@` a
+# frame with rows without a header.
 
 CAUSES_FILE = os.path.join(DEV, "vectors", "causes.tsv")
 END = 1600  # end of the examined range of frames

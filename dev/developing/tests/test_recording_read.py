@@ -115,7 +115,8 @@ class ChosenPids(Case):
                 (b"", None, "is empty"), (b"850STL25", None, "is a subtitle file"),
                 (b"\0\0\1\xe0", None, "stream_id E0 instead of BD"), (b"\0\0\1\xe0", 188, ""),
                 (b"\0\0\1", None, "is not a transport stream"),
-                (b"\0\0\1\xbd", None, "is not a transport"), (b"\0\0\1\xbd", 0, ""), (b"G", None, "is not a transport stream"), (b"G", 192, "")):
+                (b"\0\0\1\xbd", None, "is not a transport"), (b"\0\0\1\xbd", 0, ""),
+                (b"G", None, "is not a transport stream"), (b"G", 192, "")):
             survey, result = Survey(), ""
             survey.head, survey.size = head, size
             try:
