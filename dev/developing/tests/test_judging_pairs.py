@@ -202,17 +202,6 @@ without an end   |                             | refused
 without an end   | --complete                  | refused
 without an end   | --no-complete               | accepted
 """
-FIVE_WARNINGS = "67 warning, 68 warning, 69 warning, 72 warning, 73 warning"
-# The lines of the severity file, the verdict of a pair with these five faults, and how the last
-# line begins.
-SEVERITIES = f"""
-severity                     | verdict | last line
-{FIVE_WARNINGS}              | waived  | relative, waived: refused 67
-{FIVE_WARNINGS}, 73 error    | refused | refused 73
-67 warning                   | refused | refused 73
-others warning, # no more    | waived  | relative, waived: refused 67
-others warning, 72 error     | refused | refused 72
-"""
 
 
 class Options(Case):
@@ -225,12 +214,3 @@ class Options(Case):
         for row in read_table(OPTIONS):
             judged = judge_files(self, *pairs[row["pair"]], *row["options"].split())
             self.check(f"{row['pair']} {row['options']}", judged.word, row["verdict"])
-
-    def test_judges_by_the_given_severities(self) -> None:
-        pair = [STORY, get_example_path("five-faults.pes"), "--every", "25"]
-        for row in read_table(SEVERITIES):
-            text = row["severity"].replace(", ", "\n") + "\n"
-            judged = judge_files(self, *pair, "--severity", self.write("severity", text.encode()))
-            self.check(f"{row['severity']}: verdict", judged.word, row["verdict"])
-            last = judged.said[-1][:len(row["last line"]) + 1]
-            self.check(f"{row['severity']}: last line", last, f"{row['last line']} ")
