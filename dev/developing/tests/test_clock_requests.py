@@ -65,7 +65,7 @@ class Requests(Case):
     def test_many_early_cues_are_clear_if_clock_or_delays_are_given(self) -> None:
         early, delays = [0, 0, 0, *[2] * 21], Lateness({2: 1, 0: 1}, {2: 1, 0: 1})
         parts = [*early[:12], *(late + 400 for late in early[:12])]
-        # What is given, each delay in frames, and the number of parts with a clear origin
+        # What is given, the delay of each cue in frames, and how many parts have a clear origin
         rows: dict[str, tuple[dict[str, Any], list[int], int]] = {
             "nothing": ({}, early, 0), "an origin": ({"origin": 0}, early, 1),
             "an origin of the late cues": ({"origin": 2 * TICKS}, early, 1),

@@ -19,11 +19,13 @@ from subtitles.stream.survey import (
     Announced, ProgramMap, Survey, VERSION, Video, find_first_pages, survey, survey_runs)
 from .bench import Case
 from .streams import (
-    TELETEXT_PID, VIDEO_PID, StreamMaker, make_components, make_mpeg_2_picture, make_video_packet)
+    AUDIO_PID, TELETEXT_PID, VIDEO_PID, StreamMaker, filler, make_components, make_mpeg_2_picture,
+    make_video_packet)
 from .parts import read_survey
 from .transmissions import CLOSING, PAGE
 
 FIRST_PTS = 1_000_000  # PTS of the first PES packet of Teletext
+LAST_PTS = FIRST_PTS + 100_000 * TICKS  # PTS of the last PES packet, in a stream with PCRs
 
 
 def make_stream(pes: Iterable[bytes], change: Callable[[list[bytes]], list[bytes]] = list,
@@ -58,6 +60,28 @@ class Lines(Case):
             self.check(f"{ticks} ticks", self.list_lines(data, "lead", "pes"), [
                 f"lead {TELETEXT_PID} {FIRST_PTS} {printed} {VIDEO_PID} 1",
                 f"pes {TELETEXT_PID} 0 2 {FIRST_PTS} {printed} b/ 1 0"])
+
+    def make_clock_stream(self, usual: int, since: int) -> bytes:
+        """Return a stream with 21 PCRs, `usual` TS packets apart, between two PES packets.
+
+        The last PES packet is `since` TS packets after the last PCR.
+        """
+        maker = StreamMaker(make_components())
+        maker.put_tables()
+        maker.put(TELETEXT_PID, make_pes_packet(FIRST_PTS, []))
+        for number in range(21):
+            maker.put_pcr(FIRST_PTS + TICKS * number)
+            others = usual if number < 20 else since
+            maker.packets += [filler(AUDIO_PID, maker.counters).data for _ in range(others - 1)]
+        maker.put(TELETEXT_PID, make_pes_packet(LAST_PTS, []))
+        return maker.data
+
+    def test_samples_no_pts_long_after_the_last_pcr(self) -> None:
+        for usual, most in ((1, 255), (64, 255), (65, 259), (200, 799)):
+            for since in (most, most + 1):
+                lines = self.list_lines(self.make_clock_stream(usual, since), "ahead")
+                first = f"ahead {TELETEXT_PID} {LAST_PTS} {LAST_PTS - FIRST_PTS - TICKS * 20}"
+                self.check(f"{usual} {since}", lines, [first][:since <= most])
 
     def test_the_manual_states_the_order_of_gap_and_seam(self) -> None:
         two_ts_packets_each = [make_pes_packet(FIRST_PTS + TICKS * at, [CLOSING] * 4)
