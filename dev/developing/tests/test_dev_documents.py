@@ -342,6 +342,8 @@ STATED: list[tuple[str, str, object]] = [
     ("manual/air.md", "deletes at most {} for each new segment",
      NUMBER_WORDS[MAX_DELETED_SEGMENTS]),
     ("manual/many-pairs.md", "A file without a partner is `not judged` (status {})", OTHER_STATUS),
+    ("manual/many-pairs.md", "unchanged for `--settled S` seconds (default: {})",
+     make_parser("").get_default("settled")),
     ("MANUAL.md", "The default, {}, allows", DEFAULTS["--every"]),
     ("MANUAL.md", "(status 127; `qc`: {})", BUG_STATUS),
     ("manual/air.md", "could not write for {:.0f} seconds", WRITE_PATIENCE),
@@ -489,6 +491,21 @@ class StatedFacts(Case):
             text = " ".join(read_document(os.path.normpath(f"docs/{name}")).split())
             stated = words.format(value)
             self.check(f"docs/{name} states: {stated}", stated in text, True)
+
+    def test_the_useful_keys_are_in_the_schema(self) -> None:
+        schema = read_document("docs/verdict.schema.json")
+        table = read_document("docs/manual/results.md").partition("Useful keys:")[2]
+        rows = re.findall(r"^\| (`[^|]+) \|", table.partition("\n\n##")[0], re.M)
+        self.must("rows", len(rows) > 5, rows)
+        for key in re.findall(r"`(\w+)`", " ".join(rows)):
+            self.must(key, f'"{key}": ' in schema)
+
+    def test_architecture_names_existing_files(self) -> None:
+        paths = subprocess.run(["git", "ls-files"], cwd=TOP, check=True, text=True,
+                               stdout=subprocess.PIPE).stdout.splitlines()
+        text = read_document("docs/ARCHITECTURE.md")
+        for name in re.findall(r"`([\w./]+\.(?:rt|py|tsv))`", text):
+            self.must(name, any(f"/{path}".endswith(f"/{name}") for path in paths))
 
     def test_mentioned_fault_numbers_are_right(self) -> None:
         for path, text in list_document_texts():
