@@ -134,7 +134,7 @@ impl<'a> FileSystem for FilesInMemory<'a> {
 
     fn release_output(&mut self, _file: IntoFile<MemoryFile<'a>>) {}
 
-    fn refuse(&self, _name: &str, _reason: &str) {
+    fn print_refusal(&self, _name: &str, _reason: &str) {
         self.reasons.set(self.reasons.get().saturating_add(1));
     }
 }

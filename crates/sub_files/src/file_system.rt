@@ -52,5 +52,5 @@ pub trait FileSystem {
         ensures { is_call self.old (FileCall.ReleaseOutput file) self.new };
 
     /// Prints the reason why a file is not created, if the device can print.
-    fn refuse(&self, _name: &str, _reason: &str) {}
+    fn print_refusal(&self, _name: &str, _reason: &str) {}
 }

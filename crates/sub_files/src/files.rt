@@ -139,12 +139,12 @@ pub fn create_distinct_file<D: FileSystem>(
 {
     if !differs_from_input(found.input, found.output) {
         if let Some(reason) = reason_for_refusal(found) {
-            files.refuse(output.name(), reason);
+            files.print_refusal(output.name(), reason);
         }
         return None;
     }
     if !differs_from_standard_output(found.standard_output, found.output) {
-        files.refuse(output.name(), "standard output goes into it");
+        files.print_refusal(output.name(), "standard output goes into it");
         return None;
     }
     match files.create(output.name()) {

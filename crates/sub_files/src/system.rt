@@ -148,7 +148,7 @@ impl<'a, R: Files + Eprint> FileSystem for SystemFiles<'a, R> {
         name: &str,
     ) -> Option<CheckedFile<ErrorReporter<'a, R::File, R>, SystemSizeLookup<'a, R>>> {
         let Some(name) = self.keep(name) else {
-            self.refuse(name, "its name is too long");
+            self.print_refusal(name, "its name is too long");
             return None;
         };
         let rt = self.rt;
@@ -175,7 +175,7 @@ impl<'a, R: Files + Eprint> FileSystem for SystemFiles<'a, R> {
         _file: CheckedFile<ErrorReporter<'a, R::File, R>, SystemSizeLookup<'a, R>>,
     ) {}
 
-    fn refuse(&self, name: &str, reason: &str) {
+    fn print_refusal(&self, name: &str, reason: &str) {
         let _ = eprintln!(self.rt; "subttx: {name:?} is not written: {reason}");
     }
 }
