@@ -7,7 +7,7 @@ use crate::files_in_memory::MemoryFile;
 use std::io::Write;
 use std::process::Abort;
 use sub_files::{CheckedFile, SizeLookup};
-use sub_io::{Close, Failed, IntoFile, Sink};
+use sub_io::{Close, Failed, Flush, IntoFile, Sink};
 
 // A size check that reports this number of bytes for any file.
 #[derive(Clone, Copy)]
@@ -37,6 +37,20 @@ fn assert_pushes<K: Sink>(
     assert!(rt; sink.failures() == failures && failures < 9);
 }
 
+// Asserts the result of `flush`, and the number of failed calls afterwards.
+fn assert_flushes<K: Flush>(
+    rt: &impl Abort,
+    sink: &mut K,
+    answer: Result<(), Failed>,
+    failures: u64,
+)
+    requires { CanFail (K.failure_count sink.old) }
+    ensures { CanFail (K.failure_count sink.new) }
+{
+    assert_same(rt, &sink.flush(), &answer);
+    assert!(rt; sink.failures() == failures && failures < 9);
+}
+
 // Asserts the result of `store`, and that `push` fails afterwards.
 fn assert_stores<K: Close>(
     rt: &impl Abort,
@@ -46,6 +60,7 @@ fn assert_stores<K: Close>(
     failures: u64,
 )
     requires { CanFail (K.failure_count sink.old) }
+    ensures { CanFail (K.failure_count sink.new) }
 {
     assert_same_for_case(rt, &sink.store(), &answer, &found);
     assert!(rt; sink.failures() == failures && failures < 9);
@@ -67,4 +82,14 @@ fn a_file_is_stored_where_all_of_it_is_found(rt: HostRuntime) {
     for found in [0, 3, 5, 7, u64::MAX] {
         assert_stores_size(&rt, found, Err(Failed), 1);
     }
+}
+
+#[test]
+fn a_stored_file_can_not_be_flushed(rt: HostRuntime) {
+    let mut buffer = [0; 8];
+    let mut file = CheckedFile::new(MemoryFile::Created(&mut buffer, 0), FixedSizeLookup(3));
+    assert_pushes(&rt, &mut file, b"sub", Ok(3), 0);
+    assert_flushes(&rt, &mut file, Ok(()), 0);
+    assert_stores(&rt, &mut file, 3, Ok(()), 0);
+    assert_flushes(&rt, &mut file, Err(Failed), 2);
 }

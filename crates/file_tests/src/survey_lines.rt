@@ -147,6 +147,27 @@ fn counts_headers_with_c6_alone(rt: HostRuntime) {
     assert_prints(&rt, &SURVEY, &stream, want);
 }
 
+#[test]
+fn finds_no_teletext_where_the_data_identifier_is_in_the_next_ts_packet(rt: HostRuntime) {
+    // The PES packet's first TS packet ends with its PES header.
+    let head = [0x47, 0x41, 0x01, 0x30, 0x8A, 0x00];
+    let rest = [0x47, 0x01, 0x01, 0x31, 0x2C, 0x00];
+    let stream: [&[u8]; 8] = [
+        &head,
+        &FILL[..137],
+        &FIRST[..45],
+        &rest,
+        &FILL[..43],
+        &FIRST[45..],
+        &BEGINS_2,
+        &SECOND,
+    ];
+    let want = "survey 1\nhead 474101308a00ffffffffff\nsize 188\nteletext 257\nsub 257 888\n\
+        pes 257 0 1 3240180000 0 b/ 2 0\n\
+        subs 257 888 1\nend 257 1 0 1 0 0 0 3240180000\nover 0 3\n";
+    assert_prints(&rt, &SURVEY, &stream, want);
+}
+
 // The tables of a transport stream. Programme 1 has PCR_PID 1FF0, MPEG-2 video in PID 110 and
 // private data in PID 101.
 const PAT: [u8; 21] = [
@@ -212,6 +233,28 @@ const SHOWN_LATE: [u8; 18] = [
     0x47, 0x41, 0x10, 0x16, 0x00, 0x00, 0x01, 0xE0, 0x00, 0x00, 0x80, 0x80, 0x05, 0x27, 0x04, 0x75,
     0xC7, 0xC1,
 ];
+
+// A section of a PAT in the PID of the PMT. It names PID 200 for the PMT of programme 1.
+const PAT_IN_PMT_PID: [u8; 21] = [
+    0x47, 0x41, 0x00, 0x10, 0x00, 0x00, 0xB0, 0x0D, 0x00, 0x01, 0xC1, 0x00, 0x00, 0x00, 0x01, 0xE2,
+    0x00, 0x9A, 0x12, 0x01, 0xAE,
+];
+
+#[test]
+fn reads_a_pat_only_in_pid_0(rt: HostRuntime) {
+    let pmt_head = [0x47, 0x42, 0x00, 0x10];
+    let stream: [&[u8]; 7] = [
+        &PAT,
+        &FILL[..167],
+        &PAT_IN_PMT_PID,
+        &FILL[..167],
+        &pmt_head,
+        &PMT[4..],
+        &FILL[..157],
+    ];
+    let want = "survey 1\nhead 474000100000b00d0001c1\nsize 188\nover 0 3\n";
+    assert_prints(&rt, &SURVEY, &stream, want);
+}
 
 #[test]
 fn prints_the_lead_of_the_teletext_over_the_pictures(rt: HostRuntime) {

@@ -165,6 +165,10 @@ fn an_interrupted_flush_is_not_made_again(rt: HostRuntime) {
     assert_flushes(&rt, &mut sink, Err(Failed), 1);
     assert_flushes(&rt, &mut sink, Ok(()), 1);
 
+    let mut sink = IntoFile::new(Interrupted { calls: 1 });
+    assert_flushes(&rt, &mut sink, Err(Failed), 1);
+    assert_flushes(&rt, &mut sink, Ok(()), 1);
+
     let mut buffer = [0; 4];
     let mut sink = BufferedSink::new(IntoWrite::new(Interrupted { calls: 1 }), &mut buffer);
     assert_pushes(&rt, &mut sink, b"x", Ok(1), 0);
