@@ -1,4 +1,5 @@
--- A reader requests no more bytes from its source than it needs.
+-- A read that takes no bytes requests none from the source. Skipping bytes that a source has
+-- buffered consumes exactly these bytes.
 use Rattle.std.proofs.Common.{◌≡◌, ℕ, ◌≤◌, Bool, true, List, ◌++◌, length, take}
 use Rattle.std.proofs.Common.{Option, Some, None, refl, sym, ap, ◌∙◌}
 use Rattle.std.proofs.lemmas.List.{take-take}

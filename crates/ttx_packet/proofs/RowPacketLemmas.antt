@@ -1,5 +1,5 @@
 -- A search of the 40 data bytes for even parity gives the column of the first data byte with even
--- parity.
+-- parity, and no column if all have odd parity.
 use Rattle.std.proofs.Common.{◌≡◌, ℕ, ◌<◌, List, Option, Some, None, IsNone, ◌↔◌, true, false}
 use Rattle.std.proofs.Common.{get_or, sym, refl, arith, drop}
 use Rattle.std.proofs.lemmas.Bool.Decides.{nat_tests}

@@ -9,8 +9,8 @@ use Rattle.ttx_page.specs.Receiver.{RunsBy, Step, StepBy, is_row_with_even_parit
 use Rattle.ttx_page.specs.Receiver.ReceiverClass.{Dropping}
 use Rattle.ttx_page.specs.Screen.{Display, ShowsAt}
 
--- If dropped packets change nothing, all packets have the same effect as the packets that are not
--- dropped.
+-- If dropped packets change nothing and each other packet has its usual effect, a list of packets
+-- has the same effect as the list without the dropped packets.
 module _
     {S : Type 0} (StepsBy PassesBy : S → List ℕ → S → Type 0) (dropped : List ℕ → Bool)
     (over : (old : S) (packet : List ℕ) (new : S)

@@ -165,8 +165,8 @@ span-zip_map_Some : (w : PageIdValue) (sent got : List (List ℕ))
     (span (λ (pair : List ℕ × List ℕ). kind w pair.0) (zip sent got))
 span-zip_map_Some w sent got = grind (arith, nat_tests, kind_of_item, zip-map, span-map)
 
--- If no packet is lost, the law of lost rows has the same received packets and hit cells as the law
--- of noise.
+-- If every packet arrives, the received packets and the hit cells of the law of lost rows are those
+-- of the law of noise.
 pub law_of_nothing_lost : LawOfNothingLost
 law_of_nothing_lost w sent arrived all may = record {
   kept = items-all_arrive_is_true sent arrived (recursion_from_All IsTrue arrived all) may;

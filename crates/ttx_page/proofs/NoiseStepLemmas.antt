@@ -43,7 +43,7 @@ Item = List ℕ × Option (List ℕ)
 abbrev pub kind_of_item : PageIdValue → Item → PacketKind
 kind_of_item w item = kind w item.0
 
--- A packet other than a page header neither opens nor ends the page, so it may be lost.
+-- A packet that is not a page header, and so may be lost, neither opens nor ends the page.
 pub lost_packet_is_no_header : (w : PageIdValue) (packet : List ℕ)
     → MayBeLost packet
     → (is_this_page (kind w packet) ≡ false) × (ends_page (kind w packet) ≡ false)
@@ -252,7 +252,7 @@ module _ (keeps anew : Bool) (class : ReceiverClass) (w : PageIdValue) (row colu
     pub heard : now.heard ≡ (has_page_header (kind_of_item w) items || start.heard)
     pub is_open : (has_page_header (kind_of_item w) items || not start.is_open) ≡ true
         → now.is_open ≡ is_open_after (kind_of_item w) items
-    -- If the page is not open and the cell is a space, this stays so until a header of the page
+    -- If the page is not open and the cell is a space, both remain true until a header of the page
     -- arrives.
     pub waits : has_page_header (kind_of_item w) items ≡ false → StartedBlank start → StartedBlank
         now

@@ -1,4 +1,5 @@
--- Mapping a list maps its last page transmission (span). Packets before its header do not matter.
+-- Mapping a list maps its last page transmission (span). Packets before the last header of the page
+-- do not change the last page transmission.
 use Rattle.std.proofs.Common.{◌≡◌, zero, suc, inl, inr, Bool, true, false, ◌||◌, cond, List, []}
 use Rattle.std.proofs.Common.{◌∷◌, ◌++◌, Some, None, map, zip, find, Any, Contains, refl, ap, ◌∙◌}
 use Rattle.std.proofs.Common.{arith}

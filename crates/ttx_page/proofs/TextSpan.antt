@@ -21,7 +21,8 @@ pub header_alone_begins_text : (k : PacketKind) → begins_text false k ≡ is_t
 header_alone_begins_text k = grind (arith, nat_tests)
 
 module _ {A : Type 0} (kind_of : A → PacketKind) where
-  -- The page is open after the items; `is_open` states whether it is open before them.
+  -- `is_open_from` states whether the page is open after the items, and `is_open` states whether
+  -- the page is open before them.
   abbrev is_open_from : Bool → List A → Bool
   is_open_from is_open [] = is_open
   is_open_from is_open (x ∷ xs) =

@@ -70,8 +70,8 @@ pub settled_value_is_answer : (given : ℕ) (old new : Option (List ℕ)) (taken
 settled_value_is_answer given old new taken bytes r h ne reported =
     grind (arith, nat_tests, left, packet_decides_answer, length-append, call_answer)
 
--- If the consumed bytes determine a fault, they are rejected for that fault even without the bytes
--- that follow.
+-- If the consumed bytes determine a fault, the parser rejects them for that fault even if no bytes
+-- follow.
 pub settled_fault_refuses_packet : (old new : Option (List ℕ)) (taken : List ℕ) (f : PesFault)
     → SettlesPacket old new taken (Err f)
     → ConsumesRefusedBytes old new f

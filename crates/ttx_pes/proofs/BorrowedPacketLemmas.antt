@@ -1,4 +1,5 @@
--- If borrowed bytes are read in several pulls, the bytes that a pull leaves are still borrowed.
+-- If bytes that a source has buffered are read in several pulls, the bytes that a pull does not
+-- return remain buffered.
 use Rattle.std.proofs.Common.{◌≡◌, ◌≢◌, ℕ, ◌+◌, ◌<◌, ◌≤◌, List, [], ◌++◌, length, take, Some, ap}
 use Rattle.std.proofs.Common.{◌∙◌, Bool, Ok, Result, arith, false, length-append}
 use Rattle.std.proofs.Common.{length-take, length-take-le, sym, true}
@@ -45,8 +46,8 @@ pub borrowed_packet_has_header : (borrowed : List ℕ) → has_enough_for_packet
 unfolding has_enough_for_packet
 borrowed_packet_has_header borrowed holds = grind (arith, nat_tests)
 
--- If the source has a complete PES packet buffered, and its first bytes are read, the rest of the
--- packet is still buffered.
+-- If the source has a complete PES packet buffered, and at least the first six of its bytes are
+-- read, the rest of the packet is still buffered.
 pub borrowed_rest_completes_packet : (borrowed left room : List ℕ) (got size : ℕ)
     → has_enough_for_packet borrowed ≡ true
     → borrowed ≡ take got room ++ left
@@ -91,8 +92,8 @@ pub size_decides_whether_enough : (bytes : List ℕ) (r : Result ℕ PesFault)
 unfolding has_enough_for_packet
 size_decides_whether_enough bytes r many is = grind (arith, nat_tests)
 
--- If reading a PES packet failed, no report was pending, because reports are flushed before the
--- device is used.
+-- If reading a PES packet failed, no report was pending: pending reports are flushed unless the
+-- reader is ready, and a ready reader does not fail.
 pub failing_read_has_nothing_pending : (has_pending_reports fails ready : Bool)
     → NothingIsPendingUnlessReady has_pending_reports ready
     → (ready ≡ true → fails ≡ false)

@@ -1,5 +1,5 @@
--- The parser makes the checks in their order. Tests of the bytes determine whether a PES packet can
--- be parsed, and which fault is returned.
+-- The parser makes its checks in the order of their numbers: a PES packet can be parsed exactly if
+-- the bytes pass all tests, and the first failed test determines the fault.
 use Rattle.std.proofs.Common.{◌≡◌, ℕ, zero, suc, ◌+◌, ◌-◌, ◌*◌, ◌/◌, ◌%◌, ◌<◌, Bool, true, false}
 use Rattle.std.proofs.Common.{cond, not, eqb, leb, ltb, List, [], ◌∷◌, length, get_or, take, drop}
 use Rattle.std.proofs.Common.{Option, Some, None, Result, Ok, Err, refl, sym, ap, ◌∙◌, arith, inl}
@@ -19,8 +19,8 @@ use Rattle.ttx_pes.specs.Reading.{teletext_at, unit_at, units_at, value_at}
 use Rattle.ttx_pes.specs.Refusal.{fault_of_check, unit_faults}
 use Rattle.ttx_pes.proofs.LineOrderLemmas.{last_place-push}
 
--- The fault of the first failed test of the list, or `None` if all pass. The list begins with test
--- number i.
+-- `first_failed_test` returns the fault of the first failed test of the list, or `None` if all
+-- pass. The first test of the list has number i.
 abbrev pub first_failed_test : List ℕ → ℕ → List Bool → Option PesFault
 first_failed_test b i [] = None
 first_failed_test b i (t ∷ ts) = cond (not t) (Some (fault_of_check b i))

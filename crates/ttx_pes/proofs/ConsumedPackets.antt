@@ -1,4 +1,4 @@
--- A loop over a reader consumes PES packets one after another.
+-- If n valid PES packets are consumed, and then one more, n + 1 valid PES packets are consumed.
 use Rattle.std.proofs.Common.{◌≡◌, ℕ, ◌+◌, List, [], ◌∷◌, ◌++◌, Option, arith, length-append}
 use Rattle.std.proofs.lemmas.Bool.Decides.{nat_tests}
 use Rattle.std.proofs.lemmas.List.{append-nil}

@@ -108,8 +108,8 @@ data_unit_gives_sent_unit : (field : List ℕ) (at : ℕ)
     → decoded_unit_list (take 46 (drop at field)) ≡ sent_units field (teletext_place at field)
 data_unit_gives_sent_unit field at = grind (arith, nat_tests, block_keeps_byte field at 0)
 
--- If n data units can be parsed after the units `us`, so can n data units with the same headers
--- after units `vs` with the same last line order position.
+-- If n data units can be parsed after the units `us`, n data units with the same headers can be
+-- parsed after the units `vs`, provided that `us` and `vs` end at the same line order position.
 equal_headers_let_units_decode : (n at : ℕ) (a b : List ℕ) (us vs all : List UnitValue)
     → ((k : ℕ) → k < n → HasSameUnitHeader a b (46 * k + at))
     → last_place 0 us ≡ last_place 0 vs

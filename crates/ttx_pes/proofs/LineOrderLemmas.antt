@@ -44,7 +44,7 @@ pub numbered_units_unfold : (i : ℕ) (ps : List (List ℕ)) (p : List ℕ) (us 
     → (us ++ numbered_unit i p ∷ []) ++ numbered_units (i + 1) (drop (i + 1) ps) ≡ all
 numbered_units_unfold i ps p us all lt is e = grind (arith, nat_tests, append_assoc, drop_more)
 
--- After the unit with number i of a frame, the unit with number i + 1 may follow in line order.
+-- If unit number i of a frame has a defined line, unit number i + 1 may follow it in line order.
 pub numbered_unit_precedes_next_place : (i : ℕ) (u : UnitValue) (us : List UnitValue)
     → eqb u.line 0 ≡ false
     → line_order_place u ≡ numbered_place i

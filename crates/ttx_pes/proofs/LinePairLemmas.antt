@@ -1,4 +1,5 @@
--- Line order is a property of pairs of units.
+-- Units are in line order exactly if, for any two units with a defined line, the later unit has the
+-- later line.
 use Rattle.std.proofs.Common.{◌≡◌, ◌≢◌, ℕ, suc, ◌<◌, true, false, eqb, ltb, List, [], ◌∷◌, refl}
 use Rattle.std.proofs.Common.{arith, inl, inr, eq-eqb}
 use Rattle.std.proofs.lemmas.Bool.Decides.{nat_tests}

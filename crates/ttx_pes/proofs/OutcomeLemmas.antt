@@ -1,4 +1,5 @@
--- The result of reading a file is its next result, followed by the results for the rest.
+-- If a read returns a PES packet, the outcome of reading the file is this packet, followed by the
+-- outcome for the remaining bytes. The end of the file and a fault end the outcome.
 use Rattle.std.proofs.Common.{◌≡◌, ℕ, ◌+◌, ◌≤◌, List, Option, Some, None, Result, Ok, Err}
 use Rattle.std.proofs.Common.{ap, ◌∙◌, arith}
 use Rattle.std.proofs.lemmas.Bool.Decides.{nat_tests}
@@ -24,8 +25,8 @@ prepending_answer_gives_outcome : (answer : Result (Option PesValue) PesFault)
     ≡ prepend_answer answer (outcome_until_refusal more.pes_packets more.left)
 prepending_answer_gives_outcome answer more = grind (arith, nat_tests)
 
--- After any result of the reader, the outcome is the same whether the remaining bytes are
--- determined by the length field or by the parser.
+-- After each result of a read, the outcome of reading the file is the same whether the length field
+-- or the parser determines where the remaining bytes begin.
 rest_continues_outcome : (given : ℕ) (bytes : List ℕ) (answer : Result (Option PesValue) PesFault)
     → answer_at given bytes ≡ answer
     → prepend_answer answer (outcome_after (given + 1) (rest_after_pes_packet bytes))

@@ -1,4 +1,6 @@
--- The bytes and the first index of the part that a reader returns are those of the range.
+-- If a reader of a range has skipped no PES packets yet, the bytes that it will read, and the index
+-- of its first packet, are those of the range. If no packets are left to skip, this index is the
+-- number of skipped packets.
 use Rattle.std.proofs.Common.{◌≡◌, ℕ, zero, suc, ◌+◌, List, Option, Some, None}
 use Rattle.std.proofs.Common.{refl, ap, ◌∙◌, arith}
 use Rattle.std.specs.Prelude.{option_map}

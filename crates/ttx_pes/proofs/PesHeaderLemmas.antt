@@ -16,7 +16,8 @@ use Rattle.ttx_pes.proofs.DataUnitLemmas.{AreBytes-drop, suffix_lists_its_bytes}
 use Rattle.ttx_pes.proofs.DataUnitLemmas.{decoded_units_are_valid, valid_units_decode}
 use Rattle.sub_io.proofs.ReadingLemmas.{ok_chain_has_value, Ok-injective, ok_result}
 
--- If a size can be parsed from six bytes, a packet of the grammar begins with them.
+-- If a size can be parsed from six bytes, the size is 1 to 9 times 184, and the bytes are the first
+-- six bytes of a packet of that size in the grammar.
 pub decoded_header_has_size : (b : List ℕ) (size : ℕ) → length b ≡ 6 → AreBytes b → size_at b ≡ Ok
     size
     → (n : ℕ) × (1 ≤ n) × (n ≤ 9) × (size ≡ 184 * n)

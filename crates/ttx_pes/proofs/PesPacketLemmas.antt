@@ -1,4 +1,4 @@
--- A reader consumes complete PES packets.
+-- If a reader returns the fault of a complete PES packet, it has consumed this packet.
 use Rattle.std.proofs.Common.{◌≡◌, ◌≤◌, ℕ, List, [], ◌++◌, length, take, drop, Option, Ok, Err}
 use Rattle.std.proofs.Common.{refl, sym, ap, ◌∙◌, arith, length-take}
 use Rattle.std.proofs.lemmas.List.{append-nil, take-append-drop}

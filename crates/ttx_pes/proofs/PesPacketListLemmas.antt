@@ -278,8 +278,8 @@ packet_list_unfolds : (room given : ℕ) (bytes : List ℕ) (r : Result (Option 
 unfolding pes_packets_from
 packet_list_unfolds room given bytes r value e is = rw e is
 
--- Bytes split into the PES packets read from them, by induction over the packets that may still be
--- read.
+-- After `given` PES packets, the remaining bytes split into the packets that are read from them and
+-- a rest. The proof is by induction over the number of packets that may still be read.
 every_suffix_splits : (room given : ℕ) (bytes : List ℕ)
     → AreBytes bytes
     → given + room ≡ max_pes_packets

@@ -1,5 +1,5 @@
--- To skip, count or take n + 1 PES packets is to do so with the first packet, and then with n
--- packets of the bytes after it.
+-- If bytes begin with a complete PES packet, the functions that skip, count or take n + 1 packets
+-- process this packet, and then n packets of the bytes after it.
 use Rattle.std.proofs.Common.{◌≡◌, ℕ, zero, suc, ◌<◌, ◌≤◌, List, ◌++◌, length, take, drop}
 use Rattle.std.proofs.Common.{Some, None, Result, Ok, Err, refl, sym, ap, ◌∙◌, cond, inl, inr}
 use Rattle.std.proofs.Common.{arith}

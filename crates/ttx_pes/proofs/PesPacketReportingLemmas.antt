@@ -1,4 +1,5 @@
--- A reader of PES packets returns the specified result for each result of receiving a packet.
+-- A reader of PES packets returns the specified result at the end of the file, for a complete
+-- packet, and for bytes that do not begin with a complete packet.
 use Rattle.std.proofs.Common.{◌≡◌, ◌≢◌, ℕ, List, [], ◌++◌, length, take, drop, Option, None}
 use Rattle.std.proofs.Common.{Some, Bool, true, false, Result, Ok, Err, refl, sym, subst, ◌∙◌}
 use Rattle.std.proofs.Common.{arith, inl, inr}

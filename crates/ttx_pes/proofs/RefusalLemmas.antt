@@ -75,8 +75,8 @@ unit_byte_has_its_check k i lt =
     let unit : (place - 46) / 46 ≡ k = omega arith in
     get_or_past header_byte_checks place _ (omega arith) ∙ rw (rest, unit) refl
 
--- If bytes agree with a packet in all checks before number i, they do so in all checks before any
--- number j that is at most i.
+-- If bytes agree with a packet in all checks before number i, and j is at most i, they agree in all
+-- checks before number j.
 agree_below : (i j : ℕ) (b c : List ℕ) → j ≤ i → AgreeBeforeCheck i b c → AgreeBeforeCheck j b c
 agree_below i j b c le h = grind (arith, nat_tests)
 
@@ -338,8 +338,8 @@ refusal_names_first_failure b f fit e =
           )
     ]
 
--- If bytes fail a check, no PES packet can be read from them: that packet would agree with them in
--- all checks.
+-- If check q is the first check that the bytes fail, no PES packet can be read from them, because a
+-- packet that is read agrees with the bytes in all checks, also in check q.
 failed_check_refuses : (b : List ℕ) (q : ℕ)
     → AreBytes b
     → FailsFirstAtCheck q b

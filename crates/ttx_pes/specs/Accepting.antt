@@ -77,7 +77,8 @@ no_buffered_packet = record { pts = 0; count = 0; places = [] }
 abbrev pub data_field_in_buffer : ℕ → List ℕ → List ℕ
 data_field_in_buffer count room = take count (drop 45 room)
 
--- The value of the PES packet with this data field and these parsed fields.
+-- A PES packet with the data field `field` and the parsed fields `h` has this value: the PTS of
+-- `h`, and the Teletext units that the data field has at the offsets in `h`.
 abbrev pub buffered_frame : List ℕ → BufferedPacketValue → PesValue
 buffered_frame field h = record { pts = h.pts; units = sent_units field h.places }
 

@@ -16,8 +16,8 @@ use Rattle.ttx_pes.specs.Reading.{answer_at, is_format_fault, max_pes_packets, p
 use Rattle.ttx_pes.specs.Reading.{rest_after}
 use Rattle.ttx_pes.specs.Reading.{size_at}
 
--- The progress of a reader after a result: a packet is counted, and the end of the file or a fault
--- is final.
+-- After a fault, a reader's progress is `Broken`. After a packet in the progress `Reading`, the
+-- number of packets that were read is one higher. After any other result, the progress is `AtEnd`.
 abbrev pub progress_after : Progress → Result (Option PesValue) PesFault → Progress
 progress_after p (Err _) = Broken
 progress_after (Reading given) (Ok (Some _)) = Reading (given + 1)

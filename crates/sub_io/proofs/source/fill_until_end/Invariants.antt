@@ -1,4 +1,4 @@
--- After each iteration of `fill_until_end` the buffer begins with the bytes read so far, and no
+-- After each iteration of `fill_until_end`, the buffer begins with the bytes read so far, and no
 -- pull has failed.
 use Rattle.std.proofs.Common.{length, ◌-◌, ◌≡◌, ◌≤◌, Bool, take}
 use Rattle.std.specs.Io.KnownBytes.{Consumes}

@@ -1,4 +1,5 @@
--- The masks of the blocks of 16 columns give the first column in which two rows differ.
+-- If two rows differ, the masks of the blocks of 16 columns give the first differing column; if all
+-- masks are zero, the rows are equal.
 use Rattle.std.proofs.Common.{◌≡◌, ◌*◌, false, drop, ap₂, ◌∙◌, arith, rules}
 use Rattle.std.proofs.lemmas.Simd.{length-zip2}
 use lib.Lanes.{zip2}

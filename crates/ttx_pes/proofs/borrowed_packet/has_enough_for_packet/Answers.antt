@@ -1,5 +1,5 @@
--- `has_enough_for_packet` agrees with its definition, which depends only on the number of bytes and
--- on the first six.
+-- `has_enough_for_packet` returns whether the bytes contain a complete PES packet, or six bytes
+-- with a wrong start code or length.
 use Rattle.std.proofs.Common.{◌≡◌, ◌≤◌, ◌∙◌, Err, Ok, ap, length, rules, take}
 use Rattle.ttx_pes.specs.Reading.{size_at}
 use Rattle.ttx_pes.proofs.BorrowedPacketLemmas.{size_decides_whether_enough}

@@ -1,4 +1,5 @@
--- The masks of the blocks of 16 bytes give the first byte of even parity.
+-- The masks of the two blocks of 16 data bytes, and tests of the last 8 data bytes, give the first
+-- data byte with even parity, if there is one.
 use Rattle.std.proofs.Common.{◌*◌, ◌/◌, ◌<◌, length, drop, not, arith, rules, ◌∙◌, ap}
 use Rattle.std.proofs.lemmas.Bool.Decides.{nat_tests}
 use Rattle.std.proofs.lemmas.Bool.{not-false}

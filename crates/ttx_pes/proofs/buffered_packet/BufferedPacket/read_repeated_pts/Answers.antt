@@ -1,4 +1,4 @@
--- A PES packet with the stored data field repeats the stored packet.
+-- A PES packet with a valid header and the stored data field repeats the stored packet.
 use Rattle.std.proofs.Common.{◌∙◌, arith, rules}
 use Rattle.sub_io.specs.Reading.{AreBytes}
 use Rattle.ttx_pes.proofs.RepeatedPacketLemmas.{repeated_packet_keeps_units}

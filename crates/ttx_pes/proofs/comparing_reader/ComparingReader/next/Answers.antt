@@ -1,4 +1,5 @@
--- A comparing reader stores the data field of the consumed PES packet.
+-- After a comparing reader consumes a valid PES packet, its buffer holds the data field of this
+-- packet.
 use Rattle.std.proofs.Common.{refl}
 use Rattle.ttx_pes.proofs.comparing_reader.ComparingReader.next.Goals as goal
 

@@ -1,4 +1,5 @@
--- When no PES packet is still to be skipped, the range begins with the next packet.
+-- When no PES packet is still to be skipped, the index of the range's first packet is the number of
+-- skipped packets.
 use Rattle.std.proofs.Common.{◌∙◌, sym}
 use Rattle.ttx_pes.proofs.PartLemmas.{no_packets_left_to_skip}
 use Rattle.ttx_pes.proofs.part_of_pes_packets.PartOfPesPackets.skip_before_range.Goals as goal
