@@ -100,8 +100,9 @@ no_marker_before_first_packet : (wrong : Bool)
 unfolding with_gap_markers
 no_marker_before_first_packet wrong = grind (arith, nat_tests)
 
--- From the start of a recording, the output of good packets is the bytes for the outcomes of their
--- parts, with gap markers as `with_gap_markers` defines.
+-- From the start of a recording, if no good packet has an empty payload, the output of the good
+-- packets is the bytes for the outcomes of their parts, with gap markers as `with_gap_markers`
+-- defines.
 joining_starts_with_outcomes : (wrong : Bool) (goods : List GoodPacket)
     → FirstFollowsBreak goods
     → HavePayloads goods

@@ -65,8 +65,8 @@ remaining_bytes_give_output number distance v all taken rest given is same none 
     ∙ ap (λ (l : List ℕ). l ++ output_of v rest)
     (sym (consumed_bytes_give_output number distance v taken given same none))
 
--- If a read fails within a PES packet of the recording, and all items before it are valid PES
--- packets, it fails within the same PES packet of the consumed bytes.
+-- If reading the bytes `all` fails within a PES packet, and all items before it are valid PES
+-- packets, the bytes read (`prefix`) end within the same PES packet.
 failure_moves_to_prefix : (index : ℕ) (all prefix left : List ℕ)
     → all ≡ prefix ++ left
     → FailsAfterValidPackets index (Some all) (Some left)
@@ -148,8 +148,8 @@ nothing_changes_no_output before reported u v w takes same only =
     (sym (only ∙ ap (λ (j : JoiningValue). record v { joining = j }) same))
     (record { given = []; takes = takes })
 
--- If further reading made an item pending, and this item was returned, it is part of the output
--- that the consumed bytes determine.
+-- If bytes were consumed and the next pending item was then returned, that item is the start of the
+-- output that was still to be returned before, whatever bytes follow.
 pub next_item_is_output : (before reported : Option (List ℕ)) (u v w : StreamValue) (n : Next)
     → TakesPrefix (output_of u) (output_of v) before reported
     → TakesNext v.joining n w.joining

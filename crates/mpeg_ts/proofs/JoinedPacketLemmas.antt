@@ -235,8 +235,8 @@ new_part_after_incomplete wrong more part h g h1 = grind (
   output-again,
 )
 
--- By induction over the packets, the output of good packets is the output of their parts, in each
--- state of reassembly in which no part has ended the stream.
+-- If no payload is empty, the output of good packets is the output of their parts, in each state of
+-- reassembly in which no part has ended the stream.
 pub joined_output_is_correct : (wrong : Bool) (goods : List GoodPacket) → HavePayloads goods →
     OutputOfGoods wrong
     goods

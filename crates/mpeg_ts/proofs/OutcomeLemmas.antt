@@ -24,8 +24,9 @@ use Rattle.mpeg_ts.specs.declared.joining.Found.TheVariants as found
 pub boolean_cases : {P : Type 0} (b : Bool) → (b ≡ true → P) → (b ≡ false → P) → P
 boolean_cases b h1 h2 = grind (arith, nat_tests)
 
--- `output` gives the bytes of outcomes that come after an item of this kind. A gap marker is output
--- as soon as a gap is detected, but only if the item before the gap is a PES packet.
+-- `output` gives the bytes for the outcomes that come after an item of the given kind: a PES
+-- packet, a gap marker, or no item. A gap marker is output as soon as a gap is detected, but only
+-- if the item before the gap is a PES packet.
 abbrev pub output : Given → List PartOutcome → List ℕ
 output g [] = []
 output g (Gap ∷ more) = gap_marker_where (gave_pes_packet g) ++ output (last_output_after true g)
@@ -177,7 +178,7 @@ pub record IsCompletePacket (bytes : List ℕ) (size : ℕ) : Type 0 where
   pub header_states_size : size_at (take 6 bytes) ≡ Ok size
   pub within : size ≤ length bytes
 
--- The bytes have a wrong start code or length.
+-- The first six bytes have a wrong start code or length.
 pub record HasWrongStartOrLength (bytes : List ℕ) : Type 0 where
   pub has_six_bytes : 6 ≤ length bytes
   pub fault : PesFault
@@ -237,7 +238,7 @@ equal_headers_give_equal_size : (bytes more all : List ℕ)
     → size_at (take 6 all) ≡ size_at (take 6 bytes)
 equal_headers_give_equal_size bytes more all h1 h2 = grind (arith, nat_tests)
 
--- The first outcome of a complete part is its PES packet, whatever packets follow.
+-- The first outcome of a complete part is its PES packet, whatever packets with payload follow.
 pub tail-whole : (wrong : Bool) (part : Part) (size : ℕ) (goods : List GoodPacket)
     → HavePayloads goods
     → part.begins ≡ true
@@ -276,8 +277,8 @@ tail-whole wrong part size (g ∷ more) all begins w =
     less_than_test_is_true : (m n : ℕ) → m < n → nat_lt m n ≡ true
     less_than_test_is_true m n lt = grind (arith, nat_tests)
 
--- The output for a part with a wrong start code or length is its first payloads, up to the one with
--- which they have six bytes, whatever packets follow.
+-- If a part begins with a wrong start code or length, its output is its first payloads, up to the
+-- payload with which they have at least six bytes, whatever packets follow.
 pub output-other : (g : Given) (wrong : Bool) (part : Part) (goods : List GoodPacket)
     → part.begins ≡ true
     → HasWrongStartOrLength (part_bytes part)

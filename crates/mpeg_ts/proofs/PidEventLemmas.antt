@@ -69,12 +69,15 @@ good_packet_is_fresh : (link : PacketLink) (v : JoiningValue) (p : List ℕ) →
 good_packet_is_fresh link v p = grind
     (arith, nat_tests, starting_keeps_fresh, continuing_keeps_fresh)
 
--- The state of reassembly stores the last good packet, if there is one.
+-- The state of reassembly stores the last good packet, whose payload is not empty. If there is no
+-- good packet (`None`), the stored payload is empty.
 abbrev pub RemembersLast : JoiningValue → Option (List ℕ) → Type 0
 RemembersLast v None = v.last ≡ []
 RemembersLast v (Some q) = IsLastHeader v q × (0 < length (payload q))
 
--- The state of reassembly agrees with the history of events since the last good packet.
+-- The state of reassembly agrees with the history of events since the last good packet. After an
+-- unusable packet, or if there is no good packet, the item that became pending last is not a PES
+-- packet.
 pub record RemembersHistory (v : JoiningValue) (s : PacketHistory) : Type 0 where
   pub repeat : v.has_repeat ≡ s.has_repeat
   pub jump : v.has_jump ≡ s.has_jump
@@ -122,7 +125,8 @@ counter_test_is_correct : (v : JoiningValue) (q p : List ℕ)
     → counter_continues v.header p ≡ counter_is_next q p
 counter_test_is_correct v q p h1 = grind (arith, nat_tests, get_or-take)
 
--- The link from the state of reassembly agrees with the link from the history of events.
+-- If the state of reassembly agrees with the last good packet and with the events since then, both
+-- give the same link for the next good packet p.
 remembered_link_is_correct : (v : JoiningValue) (s : PacketHistory) (o : Option (List ℕ))
     (p : List ℕ)
     → RemembersLast v o
@@ -305,8 +309,8 @@ break_marker_is_output_first v Break p wrong more is =
     let cut : (begins p || true) ≡ true = disjunction_with_true (begins p) in
     rw cut (new_part_marker_comes_first (begins p) v p wrong more)
 
--- After an unusable packet, a gap marker precedes the output of further good packets if the item
--- that became pending last is a PES packet.
+-- If the part has not ended the stream, a PES packet became pending last, and data was lost since
+-- then, the output of further good packets begins with a gap marker.
 gap_marker_is_output_first : (v : JoiningValue) (g : Given) (wrong : Bool) (goods : List GoodPacket)
     → has_ended v.part ≡ false
     → (gave_pes_packet g ≡ true → StartAfterBreak wrong goods)
@@ -423,8 +427,8 @@ last_good_unchanged : (v w : JoiningValue) (o : Option (List ℕ))
     → RemembersLast w o
 last_good_unchanged v w o h1 h2 h3 h4 = grind (arith, nat_tests)
 
--- The output of the events of a PID is the output of the good packets among them, by induction over
--- the events.
+-- If the state of reassembly agrees with the history, and no payload is empty, the output of
+-- further events is the output of the good packets among them.
 pub joining_agrees_with_events : (v : JoiningValue) (s : PacketHistory) (all : List PidEvent)
     → RemembersHistory v s
     → AreSound all

@@ -65,7 +65,8 @@ stated_size_covers_header : (h : List ℕ) (size : ℕ) → size_at h ≡ Ok siz
 unfolding size_at
 stated_size_covers_header h size e = grind (arith, nat_tests)
 
--- The bytes of a complete part begin with a PES packet, whether its contents are valid or not.
+-- If bytes are classified as a complete PES packet of some size, they begin with a PES packet of
+-- that size, whether its contents are valid or not.
 pub found_packet_is_pes_packet : (bytes : List ℕ) (size : ℕ)
     → AreBytes bytes
     → found_in bytes ≡ found.CompletePesPacket size

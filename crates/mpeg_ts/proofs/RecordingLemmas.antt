@@ -1,4 +1,4 @@
--- Each PES packet that a recording returns is the first of its remaining output.
+-- Each PES packet that a reader of a recording returns is the first item of its remaining output.
 use Rattle.std.proofs.Common.{◌≡◌, ◌≢◌, ℕ, List, [], ◌++◌, length, take, Option, Some, None}
 use Rattle.std.proofs.Common.{true, refl, sym, ap, ◌∙◌, arith, inl, subst}
 use Rattle.std.proofs.lemmas.Bool.Decides.{nat_tests}

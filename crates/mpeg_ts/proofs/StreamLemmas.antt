@@ -327,8 +327,8 @@ loss_outputs_nothing_more : (j : JoiningValue) (more : List PidEvent)
 unfolding later_output
 loss_outputs_nothing_more j more h1 = grind (arith, nat_tests, boolean_cases)
 
--- Out of step, at most `distance` bytes give no output, since no sync byte in them is followed by
--- another one at that distance.
+-- If reading is out of step and at most `distance` bytes remain, these bytes hold no transport
+-- packet, since no sync byte follows at that distance. So they give no further output.
 skipped_tail_outputs_nothing : (distance number run room : ℕ) (j : JoiningValue) (bytes : List ℕ)
     → length bytes ≤ distance
     → later_output (without_pending j)
@@ -407,7 +407,8 @@ missing_bytes_mean_end known_bytes v h1 h2 h3 h4 =
       length-drop,
     )
 
--- No byte is read beyond those that determine the next item, since fewer bytes give no output.
+-- If nothing is pending, no byte is requested beyond those that determine the next item, since
+-- fewer bytes give no output.
 pub needed_bytes_are_requested : {D : Type 0} (IsPull : D → ℕ → Option ℕ → D → Type 0)
     (borrowed : D → List ℕ)
     (remaining : D → Option (List ℕ)) (v : StreamValue) (w : WindowValue) (before after : D)
@@ -475,7 +476,8 @@ bytes_ahead_hold_packet : (v : StreamValue) (bytes : List ℕ)
     → 188 ≤ length (bytes_ahead v bytes)
 bytes_ahead_hold_packet v bytes h1 = grind (arith, nat_tests, length-drop, length-append)
 
--- Processing a transport packet does not change the output still to be returned.
+-- If nothing is pending and the part has not ended the stream, processing a buffered transport
+-- packet does not change the output still to be returned.
 pub packet_advances_stream : (v w : StreamValue) (bytes : List ℕ)
     → 188 ≤ v.distance
     → v.lead + 188 ≤ length v.window.buffered
@@ -506,7 +508,8 @@ packet_advances_stream v w bytes far there not_ended idle distance number run st
     ∙ stream_outputs_packet v.distance v.number v.run v.in_step v.joining (bytes_ahead v bytes) far
     (bytes_ahead_hold_packet v bytes there) begins not_ended idle
 
--- Skipping a byte that belongs to no packet does not change the output still to be returned.
+-- If nothing is pending and the part has not ended the stream, skipping a byte that belongs to no
+-- packet does not change the output still to be returned.
 pub skipping_advances_stream : (v w : StreamValue) (bytes : List ℕ)
     → 188 ≤ v.distance
     → v.lead + 188 ≤ length v.window.buffered
@@ -528,7 +531,8 @@ pub other_pid_packet_is_ignored : (v : StreamValue) (p : List ℕ)
     → v ≡ record v { joining = after_packet v.number p v.joining }
 other_pid_packet_is_ignored v p h1 = grind (arith, nat_tests)
 
--- Skipping buffered bytes that contain no packet does not change the output still to be returned.
+-- If reading is out of step, skipping buffered bytes that contain no packet does not change the
+-- output still to be returned.
 pub junk_changes_no_output : (v w : StreamValue) (count : ℕ) (bytes : List ℕ)
     → count ≤ length v.window.buffered
     → v.in_step ≡ false
@@ -751,8 +755,8 @@ unit_at_place_is_skipped distance number from at j bytes rest near within sync o
     (sym (append_assoc (take at bytes) unit rest)
     ∙ ap (λ (l : List ℕ). l ++ rest) (sym (take-add at distance bytes)))
 
--- Skipping packets of other PIDs in the source's buffer does not change the output still to be
--- returned.
+-- If reading is in step and the window has no buffered bytes, skipping packets of other PIDs in the
+-- source's buffer does not change the output still to be returned.
 pub other_units_change_no_output : (v w : StreamValue) (taken bytes : List ℕ) (count : ℕ)
     → length taken ≡ count
     → v.window.buffered ≡ []
@@ -795,8 +799,9 @@ unit_of_pid_is_noted distance number j unit rest p near size packet sync not_end
     ∙ stream_outputs_packet distance number 0 true j (unit ++ rest) near
     (omega (arith, size, length-append unit rest)) begins not_ended idle
 
--- Skipping packets of other PIDs in the source's buffer, and processing one of the PID, does not
--- change the output still to be returned.
+-- If nothing is pending and the part has not ended the stream, skipping packets of other PIDs in
+-- the source's buffer, and processing the packet after them, does not change the output still to be
+-- returned.
 pub borrowed_packet_is_output : (v w : StreamValue) (borrowed p bytes : List ℕ) (place count : ℕ)
     → count ≡ place + v.distance
     → count ≤ length borrowed

@@ -1,4 +1,4 @@
--- The buffer receives the next bytes of a recording, and no more are requested than allowed.
+-- The buffer receives the next bytes of a recording, and no more bytes are requested than allowed.
 use Rattle.std.proofs.lemmas.Bool.Decides.{nat_tests}
 use Rattle.std.proofs.Common.{◌≡◌, ℕ, zero, suc, ◌+◌, ◌<◌, List, ◌++◌, length, take}
 use Rattle.std.proofs.Common.{Option, Some, None, refl, sym, ap, ◌∙◌, arith, append_assoc}

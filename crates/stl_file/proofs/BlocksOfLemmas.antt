@@ -19,7 +19,8 @@ use Rattle.stl_file.proofs.SubtitleBlocksLemmas.{front_block_stays_linked}
 use Rattle.stl_file.proofs.SubtitleBlocksLemmas.{linked_text_fits_in_blocks}
 use Rattle.stl_file.proofs.SubtitleBlocksLemmas.{blocks_make_valid_subtitle}
 
--- A TTI block of the normal form is 16 bytes, a part of the subtitle's text, and unused space.
+-- A TTI block of the normal form consists of 16 bytes, a part of the subtitle's text, and unused
+-- space.
 pub block_is_head_text_padding : (s : SubtitleValue) (e : ℕ) (chunk : List ℕ)
     → block_of s e chunk
     ≡ (block_head s e ++ chunk) ++ drop (length chunk) (replicate 112 unused_space)
@@ -101,8 +102,7 @@ blocks_are_linked s (suc full) e text le few h =
     (blocks_are_linked s full (e + 1) (drop 112 text) (omega (arith, length-drop 112 text))
     (omega arith) (suffix_has_no_unused_space 112 text h))
 
--- If a text has no unused space, the texts that are read from the blocks written for it, joined,
--- are the text.
+-- If a text has no unused space, the joined texts of the blocks written for it are the text again.
 blocks_carry_the_text : (s : SubtitleValue) (full e : ℕ) (text : List ℕ)
     → has_no_unused_space text ≡ true
     → flat_map text_of_block (blocks_from s full e text) ≡ text

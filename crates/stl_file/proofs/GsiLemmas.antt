@@ -46,7 +46,7 @@ accepted_gsi_is_valid takes_open g h size e =
       },
     )
 
--- An accepted GSI block is read without a fault.
+-- If a GSI block satisfies the definition, reading it finds no fault and returns it unchanged.
 pub valid_gsi_is_accepted : (takes_open : Bool) (g : List ℕ)
     → IsGsiFor takes_open g
     → checked_gsi takes_open g ≡ Ok g

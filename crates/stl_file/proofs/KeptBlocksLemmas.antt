@@ -35,8 +35,9 @@ pub whole_day_has_no_outside : LawOfWholeDay
 unfolding begins_outside
 whole_day_has_no_outside scope b = grind (arith, nat_tests, in_day (tci b))
 
--- The states of reading both files agree: neither has a current subtitle, both have the same one,
--- or the original file has a skipped subtitle whose blocks the other file lacks.
+-- The states of reading the original file (`full`) and the file without the removed blocks (`cut`)
+-- agree: neither has a current subtitle, both have the same one, or only the original file has one,
+-- and that subtitle is skipped.
 abbrev StartedStatesAgree : Option Bool → Option StartedSubtitle → Option StartedSubtitle → Type 0
 StartedStatesAgree None full cut = (full ≡ None) × (cut ≡ None)
 StartedStatesAgree (Some true) full cut = (o : StartedSubtitle) × (full ≡ Some o) × (cut ≡ Some o)
@@ -63,8 +64,8 @@ findings_agree_after_step room room' next next' b (Ok (More n)) within more give
 findings_agree_after_step room room' next next' b (Ok (Yield s)) within more give skipped on read =
     let rest = on None None (give s refl) read in grind (arith, nat_tests)
 
--- If reading continues after a block that is not skipped, the block has CF 0 and the EBN of a
--- subtitle's block.
+-- If a block is not skipped, and no fault ends reading from this block on, the block has CF 0 and
+-- the EBN of a subtitle's block (00 to EF, or FF).
 read_block_has_subtitle_ebn : (scope : Scope) (begun : Option StartedSubtitle) (b : List ℕ)
     (room : ℕ)
     (next : Option StartedSubtitle → Findings)
@@ -85,8 +86,8 @@ later_block_ignores_scope : (scope : Scope) (o : StartedSubtitle) (b : List ℕ)
 unfolding subtitle_block_step
 later_block_ignores_scope scope o b = refl
 
--- After a subtitle's first block that is inside the scope and yields no subtitle yet, the states of
--- reading both files agree.
+-- If a first block inside the scope yields no subtitle yet, the states of reading the original file
+-- and the file without the removed blocks agree after that block.
 first_block_keeps_agreement : (scope : Scope) (b : List ℕ) (n : Option StartedSubtitle)
     → begins_outside scope b ≡ false
     → subtitle_block_step scope None b ≡ Ok (More n)
@@ -149,8 +150,8 @@ later_block_fault_breaks_reading : (scope : Scope) (o : StartedSubtitle) (b : Li
 unfolding subtitle_block_step
 later_block_fault_breaks_reading scope o b f e = grind (arith, nat_tests)
 
--- If the first block of a list is not removed, the list without the removed blocks begins with that
--- block.
+-- If the first block of a list is not skipped and belongs to a subtitle inside the scope, the list
+-- without the removed blocks begins with that block.
 blocks_within_scope_keep_block : (scope : Scope) (within : Option Bool) (b : List ℕ)
     (bs : List (List ℕ))
     → is_skipped_block b ≡ false

@@ -48,7 +48,8 @@ respelled_blocks_fit from to old new s t =
           _ t.are_subtitle_blocks).1,
     )
 
--- `counts_added_to` adds the counts of the remaining subtitles to the counts so far.
+-- `counts_added_to` adds the counts of the remaining subtitles to the counts so far. If reading the
+-- remaining subtitles finds a fault, the result is that fault.
 abbrev pub counts_added_to : Counts → Result Counts NormalFault → Result Counts NormalFault
 counts_added_to c (Ok d) = Ok (record { tnb = c.tnb + d.tnb; tns = c.tns + d.tns })
 counts_added_to c (Err f) = Err f

@@ -78,7 +78,8 @@ respelled_subtitles_are_blocks (s ∷ ss) (g ∷ gs) h =
           (one.0, rw (whole_scope_keeps_all_groups rest.groups) at rest.are_subtitle_blocks);
     }
 
--- The normal form of a file's subtitles has the blocks of a valid file.
+-- If the blocks of a file contain the subtitles ts, the blocks of the normal form contain the same
+-- subtitles, and are not too many for a file.
 respelling_keeps_the_subtitles : (bs : List (List ℕ)) (ts : List SubtitleValue)
     → AreSubtitleBlocks whole max_blocks bs ts
     → AreSubtitleBlocks whole max_blocks (blocks_of_subtitles ts) ts
@@ -145,7 +146,8 @@ refused_body_writes_nothing s r f old e never c = grind (
   unchanged_sink_keeps_contents,
 )
 
--- An accepted file has these subtitles, this number of them, and these bytes of its normal form.
+-- The file s is accepted: it has the subtitles `ts`, `c.tns` is their number, and the bytes that
+-- `normal` writes are the normal form of s.
 record Accepted (s : List ℕ) (r : ReaderValue) (c : Counts) : Type 0 where
   ts : List SubtitleValue
   is_file : IsFile s (take 1024 s) ts

@@ -77,7 +77,7 @@ file_begins_with_gsi scope s g ts h = ap (take 1024) h.bytes ∙ take_at g (conc
 
 module _ {old new : Option (List ℕ)} {n : ℕ} {block : List ℕ} (f : Fills old n new block)
     (size : length block ≡ 1024) where
-  -- If the GSI block has a fault, no subtitle file begins with these bytes.
+  -- If the first 1024 bytes are a GSI block with a fault, no subtitle file begins with these bytes.
   pub invalid_gsi_refuses_opening : (scope : Scope) (x : StlFault)
       → 1024 ≤ n
       → checked_gsi scope.takes_open block ≡ Err x

@@ -25,8 +25,8 @@ use Rattle.stl_file.proofs.RestLemmas.{valid_blocks_are_read, accepted_bytes_are
 use Rattle.stl_file.proofs.RestLemmas.{joined_groups}
 use Rattle.stl_file.proofs.ScopeLemmas.{whole_scope_keeps_all_groups}
 
--- If the bytes before a call are known, the bytes left after it are known, and the results for the
--- bytes before the call are its result, followed by the results for the bytes left.
+-- If the bytes before a call are known, the bytes left after the call are also known. The results
+-- for the bytes before the call are the call's result, followed by the results for the bytes left.
 pub left-then : (old new : Option (List ℕ)) (rest : List ℕ) {scope : Scope} {from to : ℕ}
     {refused next : Option StartedSubtitle} {t : SubtitleValue} {result : Result Found StlFault}
     → LeadsToResult scope from to refused next old new t result
@@ -50,8 +50,8 @@ stopped_findings_fail to next more s f = grind arith
 is_cut-by : (f : StlFault) → depends_on_end (found_of (Err f)) ≡ true → is_cut f ≡ true
 is_cut-by f e = grind arith
 
--- No subtitle file continues with the bytes that led to a fault; after `Truncated` or `Unfinished`,
--- none ends with them.
+-- No subtitle file continues with the bytes that led to a fault. If the fault is `Truncated` or
+-- `Unfinished`, a file may continue with these bytes, but no file ends with them.
 pub refuses : (from to : ℕ) (old new : Option (List ℕ)) (s : SubtitleValue)
     (next : Option StartedSubtitle)
     (x : StlFault)
@@ -68,7 +68,7 @@ refuses from to old new s next x l = record {
       grind arith;
 }
 
--- The blocks of a single subtitle form one group.
+-- If groups of blocks contain a single subtitle, the joined groups are the blocks of that subtitle.
 one_subtitle_has_one_group : (s : SubtitleValue) (gs : List (List (List ℕ)))
     → AllZip AreBlocksOf (s ∷ []) gs
     → AreBlocksOf s (joined_groups gs)

@@ -37,8 +37,8 @@ use Rattle.stl_file.proofs.FindingsLemmas.{findings_break_at_cut_block}
 abbrev pub joined_groups : List (List (List ℕ)) → List (List ℕ)
 joined_groups gs = flat_map (λ (g : List (List ℕ)). g) gs
 
--- `judged_with_room` gives the subtitles of the bytes or their first fault. `begun` is the current
--- subtitle.
+-- `judged_with_room` gives the subtitles of the bytes, or their first fault, if at most `room`
+-- blocks are permitted. `begun` is the current subtitle.
 abbrev pub judged_with_room : Scope → ℕ → Option StartedSubtitle → List ℕ → SubtitlesOrFault
 judged_with_room scope room begun b = subtitles_of (stopped (findings_with_room scope room begun b))
 
@@ -220,7 +220,7 @@ groups_yield_subtitles scope ((b ∷ others) ∷ gs) ss room out are le =
           groups_yield_subtitles scope gs ts (room - length (b ∷ others)) (rw inside at out) h few)
     ]
 
--- If blocks contain certain subtitles, reading the blocks returns these subtitles without a fault.
+-- If at most `room` blocks contain the subtitles ss, reading the blocks returns ss without a fault.
 pub valid_blocks_are_read : (scope : Scope) (bs : List (List ℕ)) (room : ℕ)
     (ss : List SubtitleValue)
     → AreSubtitleBlocks scope room bs ss
@@ -352,7 +352,8 @@ step_keeps_reading scope room begun before b ss (Ok (Yield s)) le rep e go all =
     (subst (λ (x : List SubtitleValue). AllZip AreBlocksOf x
     (filter (is_inside scope) (own ∷ r.groups))) (sym c.2) has.1)
 
--- If bytes are read as subtitles without a fault, they are blocks that contain these subtitles.
+-- If bytes are read as subtitles without a fault, they are blocks which, after the blocks `before`
+-- of the current subtitle, contain these subtitles.
 pub accepted_bytes_are_valid_blocks : (scope : Scope) (room : ℕ) (begun : Option StartedSubtitle)
     (before : List (List ℕ))
     (b : List ℕ) (ss : List SubtitleValue)

@@ -35,7 +35,8 @@ unfolding subtitle_of_first_block
 accepted_first_block_begins b s e =
     let right = result_of_checks-right (first_block_checks b) _ s e in grind (arith, nat_tests)
 
--- A block that begins a subtitle by the definition is read as the subtitle's first block.
+-- If a block begins a subtitle by the definition `Begins`, reading it as a first block gives that
+-- subtitle, with the text of this block.
 beginning_block_is_accepted : (b : List ℕ) (s : SubtitleValue)
     → Begins s b
     → subtitle_of_first_block b ≡ Ok (record s { text = text_of_block b })
@@ -46,7 +47,8 @@ abbrev pub started_by_first_block : SubtitleValue → List ℕ → StartedSubtit
 started_by_first_block s b =
     record { subtitle = record s { text = text_of_block b }; blocks = 1; is_skipped = false }
 
--- A reader accepts a block that begins a subtitle inside the scope, if its EBN and CF are valid.
+-- If there is no current subtitle, a block inside the scope that begins a valid subtitle starts
+-- that subtitle.
 pub inside_first_block_starts : (scope : Scope) (s : SubtitleValue) (b : List ℕ)
     → begins_outside scope b ≡ false
     → Begins s b
@@ -54,7 +56,7 @@ pub inside_first_block_starts : (scope : Scope) (s : SubtitleValue) (b : List �
 unfolding subtitle_block_step
 inside_first_block_starts scope s b inside h = rw (inside, beginning_block_is_accepted b s h) refl
 
--- A first block outside the scope begins a skipped subtitle.
+-- If there is no current subtitle, a block that begins outside the scope starts a skipped subtitle.
 pub outside_first_block_starts_skipped : (scope : Scope) (b : List ℕ)
     → begins_outside scope b ≡ true
     → subtitle_block_step scope None b ≡ Ok (step_after_block (ebn b) (skipped_subtitle_from b))
@@ -67,8 +69,8 @@ extended_by_block o b = record o {
   blocks = o.blocks + 1;
 }
 
--- A reader accepts a later block with the subtitle's SGN and SN, CF 0 and a valid EBN, up to nine
--- blocks.
+-- If the current subtitle has fewer than nine blocks so far, a block with its SGN and SN and with
+-- CF 0 extends that subtitle.
 pub later_block_extends : (scope : Scope) (o : StartedSubtitle) (b : List ℕ)
     → BelongsTo o.subtitle.sgn o.subtitle.sn b
     → o.blocks < 9
@@ -79,8 +81,8 @@ later_block_extends scope o b belongs few = grind (arith, nat_tests)
 abbrev pub Within : ℕ → ℕ → List ℕ → Type 0
 Within sgn_is sn_is b = BelongsTo sgn_is sn_is b × (ebn b < 240)
 
--- The list g has the blocks of the current subtitle, without its last block. A skipped subtitle is
--- outside the scope.
+-- The list g has the blocks of the current subtitle so far, 1 to 9, without its last block. The
+-- subtitle is skipped if and only if it begins outside the scope.
 pub record IsStartedFrom (scope : Scope) (o : StartedSubtitle) (g : List (List ℕ)) : Type 0 where
   pub first : List ℕ
   pub others : List (List ℕ)
@@ -93,14 +95,16 @@ pub record IsStartedFrom (scope : Scope) (o : StartedSubtitle) (g : List (List �
   pub size : length g ≡ o.blocks
   pub few : o.blocks ≤ 9
 
--- The blocks so far agree with the current subtitle. If there is no current subtitle, no blocks
--- were read.
+-- The list `kept` has the blocks of the current subtitle so far. If there is no current subtitle,
+-- the list is empty.
 abbrev pub Represents : Scope → Option StartedSubtitle → List (List ℕ) → Type 0
 Represents scope None kept = kept ≡ []
 Represents scope (Some o) kept = IsStartedFrom scope o kept
 
--- The effect of a step agrees with the blocks read. After `More None` there are no blocks, or only
--- blocks of a subtitle outside the scope.
+-- The effect of a block agrees with the list `kept` of blocks up to this block. After `More None`,
+-- the list is empty or has all blocks of a subtitle outside the scope. After `More (Some o)`, it
+-- has the blocks of the unfinished subtitle o. After `Yield s`, it has all blocks of the subtitle
+-- s, which is not outside the scope.
 abbrev pub ReachesState : Scope → List (List ℕ) → BlockStep → Type 0
 ReachesState scope kept (More None) = (kept ≡ []) ⊎ AreOutside scope kept
 ReachesState scope kept (More (Some o)) = IsStartedFrom scope o kept
@@ -158,8 +162,8 @@ later_block_reaches_state scope o kept b r size none e h k =
       append-nil,
     )
 
--- If the state of reading agrees with the blocks read, it still does after one more block that is
--- not skipped and is read without a fault.
+-- If the current subtitle agrees with the blocks read, the effect of one more block also agrees
+-- with them, if this block has CF 0 and a valid EBN and is read without a fault.
 subtitle_block_reaches_state : (scope : Scope) (begun : Option StartedSubtitle)
     (kept : List (List ℕ)) (b : List ℕ)
     (r : BlockStep)
@@ -179,8 +183,8 @@ unchanged_state_is_reached : (scope : Scope) (begun : Option StartedSubtitle) (k
     → ReachesState scope kept (More begun)
 unchanged_state_is_reached scope begun kept h = grind (arith, nat_tests)
 
--- If the state of reading agrees with the blocks read, without skipped blocks, it still does after
--- one more block that is read without a fault.
+-- If the current subtitle agrees with the blocks read, without skipped blocks, the effect of one
+-- more block also agrees with them, if this block is read without a fault.
 pub any_block_reaches_state : (scope : Scope) (begun : Option StartedSubtitle)
     (kept : List (List ℕ))
     (b : List ℕ)
@@ -193,7 +197,7 @@ unfolding tti_block_step
 any_block_reaches_state scope begun kept b r size h e =
     grind (arith, nat_tests, append-nil, subtitle_block_reaches_state, unchanged_state_is_reached)
 
--- A subtitle ends with a block that is not skipped.
+-- A block that completes a subtitle inside the scope is not a skipped block.
 pub yielding_block_is_subtitle_block : (scope : Scope) (begun : Option StartedSubtitle) (b : List ℕ)
     (s : SubtitleValue)
     → tti_block_step scope begun b ≡ Ok (Yield s)

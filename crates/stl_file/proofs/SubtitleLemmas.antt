@@ -70,7 +70,8 @@ pub suffix_has_no_unused_space : (n : ℕ) (xs : List ℕ)
 suffix_has_no_unused_space zero xs h = h
 suffix_has_no_unused_space (suc n) xs h = grind (arith, nat_tests, suffix_has_no_unused_space n)
 
--- If a text without unused space is padded with unused space, reading returns the text.
+-- If a text without unused space is padded with unused space, the bytes before the first unused
+-- space are the text.
 pub padding_is_unused_space : (xs : List ℕ) (k : ℕ)
     → has_no_unused_space xs ≡ true
     → bytes_before_unused_space (xs ++ replicate k unused_space) ≡ xs

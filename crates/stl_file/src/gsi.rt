@@ -96,7 +96,8 @@ impl Gsi {
         self.bytes[238..248].copy_from_slice(&counts);
     }
 
-    // Returns the GSI block if a file with this block is accepted, or the block's first fault.
+    // Returns the GSI block if it is accepted, or else its first fault. If `takes_open` is set,
+    // open subtitles and an unspecified display are accepted too.
     #[tactic(auto, unfolding(crate::specs::Gsi::checked_gsi))]
     pub(crate) fn validate(self, takes_open: bool) -> Result<Gsi, StlFault>
         ensures exact { checked_gsi takes_open self ≡ result }

@@ -1,4 +1,5 @@
--- The PES packets of a file are counted one after another.
+-- The PES packets of a file are counted one after another, up to the first bytes that do not begin
+-- with a complete PES packet.
 use Rattle.std.proofs.Common.{◌≡◌, ◌<◌, ℕ, List, arith, drop, length, subst, sym}
 use Rattle.std.proofs.lemmas.Bool.Decides.{nat_tests}
 use Rattle.std.specs.Prelude.{Some, None}

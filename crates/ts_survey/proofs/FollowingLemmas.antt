@@ -14,7 +14,8 @@ use Rattle.ttx_page.proofs.RunLemmas.{RunsBy-append}
 use Rattle.ts_survey.specs.Following.{ReceivesEventOutput, PassesOnNextPart, LawOfReceivedData}
 use Rattle.ts_survey.specs.Following.{ReceivesBytes}
 
--- Once the remaining bytes are also received, all bytes were received.
+-- If a receiver in the state `now` also receives the bytes `left`, it has received the bytes
+-- `whole` since the state `old`.
 abbrev pub CompletesReceivedBytes :
     {T : Type 0} → (T → List ℕ → T → Type 0) → T → List ℕ → T → List ℕ → Type 0
 CompletesReceivedBytes {T} IsTaken old whole now left =

@@ -1,4 +1,4 @@
--- Words that are added to a text one after another form a line.
+-- If words are added to a text one after another, the text grows by the joined words.
 use Rattle.std.proofs.Common.{◌≡◌, ◌∙◌, true, false, Bool, List, [], ◌++◌, ℕ, sym, ap, refl}
 use Rattle.std.proofs.Common.{subst}
 use Rattle.std.proofs.Common.{append-nil}

@@ -1,6 +1,6 @@
--- If `find_packet` finds a complete PES packet, the collected bytes begin with it, whether its
--- contents are valid or not. If it finds a wrong start code or length, they begin with no PES
--- packet.
+-- If `find_packet` finds a complete PES packet, the collected bytes begin with that PES packet,
+-- whether its contents are valid or not. If it finds a wrong start code or length, the collected
+-- bytes do not begin with a PES packet.
 use Rattle.std.proofs.Common.{◌∙◌}
 use Rattle.mpeg_ts.proofs.ReadyLemmas.{found_packet_is_pes_packet, found_fault_is_refused}
 use Rattle.mpeg_ts.proofs.part_bytes.find_packet.Goals as goal

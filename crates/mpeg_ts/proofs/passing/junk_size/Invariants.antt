@@ -1,4 +1,5 @@
--- In each iteration of `junk_size`, the bytes so far contain no sync byte.
+-- In each iteration of `junk_size`, skipping the bytes so far, none of which is a sync byte, does
+-- not change the output if reading is out of step and these bytes complete no loss.
 use Rattle.std.proofs.Common.{◌≡◌, ◌≤◌, ◌-◌, ◌+◌, ◌<◌, List, [], ◌++◌, ℕ, length, take, false}
 use Rattle.mpeg_ts.specs.GoodPackets.{loss_size}
 use Rattle.mpeg_ts.specs.Joining.{JoiningValue, has_ended}

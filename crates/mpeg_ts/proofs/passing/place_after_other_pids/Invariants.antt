@@ -1,4 +1,5 @@
--- In each iteration, all transport packets so far have other PIDs.
+-- In each iteration of `place_after_other_pids`, skipping the transport packets so far, which have
+-- other PIDs, does not change the output.
 use Rattle.std.proofs.Common.{◌≡◌, ◌≤◌, ◌-◌, List, [], ◌++◌, ℕ, drop, length, take, true, false}
 use Rattle.mpeg_ts.specs.Joining.{JoiningValue, has_ended}
 use Rattle.mpeg_ts.specs.Stream.{stream_output}

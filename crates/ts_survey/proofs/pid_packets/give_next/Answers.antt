@@ -1,4 +1,4 @@
--- `give_next` passes on the first of the bytes that are ready.
+-- `give_next` passes the next pending item, the first of the pending bytes, to the receiver.
 use Rattle.ts_survey.proofs.pid_packets.give_next.Goals as goal
 
 pub returns : goal.returns

@@ -1,4 +1,5 @@
--- Each iteration of `give_ready` passes on one part of the bytes that are ready.
+-- Each iteration of `give_ready` passes one pending item to the receiver. The bytes passed on so
+-- far and the bytes still pending are together the bytes that were pending at the start.
 use Rattle.ts_survey.proofs.FollowingLemmas.{first-taken, same-rest}
 use Rattle.ts_survey.proofs.pid_packets.give_ready.Goals as goal
 

@@ -1,4 +1,5 @@
--- The line `over` is printed word by word.
+-- `put_counts_line` adds the line `over`, with the number of bytes that belong to no packet and the
+-- number of packets, to the text.
 use Rattle.ts_survey.proofs.TextLemmas.{adds-last, adds-word}
 use Rattle.ts_survey.proofs.recording.put_counts_line.Goals as goal
 

@@ -1,4 +1,5 @@
--- The lines `survey 1` and `head` are printed word by word.
+-- `put_head_line` adds the line `survey 1`, and the line `head` with the first bytes of the
+-- recording, to the text.
 use Rattle.ts_survey.proofs.TextLemmas.{adds-last, adds-word}
 use Rattle.ts_survey.proofs.recording.put_head_line.Goals as goal
 

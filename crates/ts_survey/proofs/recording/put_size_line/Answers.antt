@@ -1,4 +1,4 @@
--- The line `size` is printed word by word.
+-- `put_size_line` adds the line `size`, with the packet size, to the text.
 use Rattle.ts_survey.proofs.TextLemmas.{adds-last, adds-word}
 use Rattle.ts_survey.proofs.recording.put_size_line.Goals as goal
 

@@ -1,4 +1,4 @@
--- If the bytes of a part begin with a complete PES packet, it becomes pending.
+-- If the bytes of a part begin with a complete PES packet, that PES packet becomes pending.
 use Rattle.std.proofs.Common.{◌≤◌, List, ℕ, arith, length, subst, take}
 use Rattle.ttx_pes.specs.PesPackets.{IsPesPacket}
 use Rattle.mpeg_ts.proofs.joining.Joining.append_payload.Goals as goal

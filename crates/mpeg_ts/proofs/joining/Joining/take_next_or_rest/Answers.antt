@@ -1,5 +1,5 @@
--- `take_next_or_rest` returns a PES packet, a gap marker, bytes that are no PES packet, or
--- no item.
+-- `take_next_or_rest` takes the first pending item: a PES packet, a gap marker, or bytes that do
+-- not begin with a PES packet. If it takes no item, no bytes are pending.
 use Rattle.mpeg_ts.proofs.ReadyLemmas.{packet_is_taken_first}
 use Rattle.mpeg_ts.proofs.joining.Joining.take_next_or_rest.Goals as goal
 

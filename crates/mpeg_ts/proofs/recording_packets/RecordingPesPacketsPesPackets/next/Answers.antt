@@ -1,5 +1,5 @@
--- `next` returns the next item; the consumed bytes determine it, and no more bytes were requested
--- than it needs.
+-- `next` returns the next item. The consumed bytes determine the item, and no more bytes were
+-- requested than the item needs.
 use Rattle.std.proofs.Common.{[], refl}
 use Rattle.std.proofs.lemmas.Result.{err_from_is_err_and}
 use Rattle.mpeg_ts.specs.Stream.{remaining_output}

@@ -1,5 +1,5 @@
--- When the next item is known, at least a transport packet is buffered, and no byte beyond those
--- that determine the item was read.
+-- When the next item is known, at least as many bytes as a transport packet has are buffered, and
+-- no byte beyond those that determine the item was read.
 use Rattle.std.proofs.Common.{◌≡◌, ◌≤◌, ◌+◌, ◌∙◌, [], ap, arith, is_ok, sym}
 use Rattle.mpeg_ts.specs.PacketsInStep.{bytes_needed}
 use Rattle.mpeg_ts.specs.Stream.{StreamValue}

@@ -1,5 +1,5 @@
--- In each iteration of `fill_window_to`, the total of buffered bytes and bytes that may still be
--- read is the same, and no pull has failed.
+-- In each iteration of `fill_window_to`, the number of buffered bytes plus the number of bytes that
+-- may still be read stays the same, and no pull has failed.
 use Rattle.std.proofs.Common.{length, true, ◌+◌, ◌-◌, ◌≡◌, ◌≤◌}
 use Rattle.mpeg_ts.specs.ConsumedStreamBytes.{TakesPrefix}
 use Rattle.mpeg_ts.specs.Window.{RequestsUpTo, buffered_and_left}

@@ -1,5 +1,5 @@
 -- If the PID that `add_carrier` follows is requested, no unrequested PID is added to the followed
--- PIDs; the line of the PID is printed word by word.
+-- PIDs. If memory does not run out, the line of the PID is added to the text.
 use Rattle.std.proofs.Common.{refl, rules}
 use Rattle.ts_survey.proofs.RequestedLemmas.{one-more-requested}
 use Rattle.ts_survey.proofs.TextLemmas.{adds-last, adds-word}

@@ -1,4 +1,5 @@
--- The last line has the two counts, whatever was printed before.
+-- The last line has the number of skipped bytes and the number of packets, whatever was printed
+-- before.
 use Rattle.ts_survey.proofs.ListedLemmas.{ends-reported}
 use Rattle.ts_survey.proofs.recording.Recording.end.Goals as goal
 

@@ -1,4 +1,4 @@
--- The line `head` is printed before the lines of the kind.
+-- The line `head` is printed before the lines of the recording's kind.
 use Rattle.std.proofs.Common.{subst}
 use Rattle.std.specs.Prelude.{◌++◌, ◌∷◌, [], codes}
 use Rattle.ts_survey.specs.FirstLines.{head_texts}
