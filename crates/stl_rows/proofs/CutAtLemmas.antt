@@ -1,4 +1,5 @@
--- The first occurrence of a character splits a text into the part before it and the rest.
+-- If a text has a character, the first occurrence of the character splits the text into the part
+-- before it and a shorter rest. Otherwise the whole text is the only part.
 use Rattle.std.proofs.Common.{◌≡◌, ℕ, ◌<◌, ◌≤◌, List, [], ◌∷◌, length, refl, ◌==◌, arith}
 use Rattle.std.proofs.Common.{Bool, Option, Some, None, option_map, nat_lt, subst, sym}
 use Rattle.std.proofs.lemmas.Bool.{ltb-false, ltb-true}

@@ -53,7 +53,8 @@ module _ (n : National) (items : LayoutItems) (t : SubtitleValue) (cells : List 
       rw (is, cutting_flat_codes_gives_lines n 0 0 (text_after_strip items t.text))
       (text_lines_are_seven_bit n 0 0 (text_after_strip items t.text))
 
-  -- If no byte of the text is rejected, the lines decide the result of drawing.
+  -- If no byte of the text is rejected, drawing the lines that are cut from the cells gives the
+  -- result of drawing the subtitle.
   pub drawn_by-cut : (row_shift : ℕ) (place : Place)
       → faults_of_codes (codes_by_layout n items t.text) ≡ []
       → row_shift ≡ shift_of_lines items (prepared_cut_lines items cells)

@@ -28,7 +28,7 @@ module _ (items : LayoutItems) (jc row_shift : ℕ) (place : Place) (page : Rows
       ap (map (prepared_by_layout items)) cut
       ∙ ap (λ own. own ∷ map (prepared_by_layout items) (lines_after_first following)) (sym is)
 
-  -- If the first line has a fault, that fault is the first fault of all lines.
+  -- If the first line has a fault, that fault is the result of drawing all lines.
   pub line-fault : (fault : RowFault)
       → line_fault_at items row_shift place line ≡ Some fault
       → drawn_from_place items jc row_shift place page (prepared_cut_lines items rest) ≡ Err fault

@@ -1,5 +1,5 @@
--- Drawing lines one after another on the blank page gives the page that shows the lines. If a line
--- has a fault, the first fault is the result of drawing.
+-- If a subtitle has no fault, drawing its lines one after another on the blank page gives the page
+-- that shows the lines. Otherwise the subtitle's first fault is the result of drawing.
 use Rattle.std.proofs.Common.{◌≡◌, ◌≢◌, ℕ, suc, ◌+◌, ◌-◌, ◌<◌, ◌≤◌, false, List, [], ◌∷◌, ◌++◌, Ok}
 use Rattle.std.proofs.Common.{Err, length, map, get_or, refl, sym, ap, ◌∙◌, arith, inl, inr, rules}
 use Rattle.std.proofs.Common.{get_or-set_other, length-append, append_assoc, append-nil}

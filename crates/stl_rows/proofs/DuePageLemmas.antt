@@ -94,8 +94,8 @@ module _ (n : Drawing) (ts : List SubtitleValue) (f at : ℕ) (t : SubtitleValue
   pub ends_after : f < t.tco
   ends_after = rw (← is) at (first.after at t (omega arith) inside)
 
-  -- If the first subtitle whose TCO is after the frame starts later, no subtitle is expected at the
-  -- frame.
+  -- If the first subtitle whose TCO is after the frame also starts after the frame, no subtitle is
+  -- expected at the frame.
   pub none-between : f < t.tci
       → (k : ℕ) (d : SubtitleValue)
       → k < length ts
@@ -111,8 +111,8 @@ module _ (n : Drawing) (ts : List SubtitleValue) (f at : ℕ) (t : SubtitleValue
       let order : s.tci < s.tco = (All-contains IsSubtitle ts s ok.each member).times in
       grind (arith, subtitles_before_or_after s member, order, edge.4)
 
-  -- If the first subtitle whose TCO is after the frame starts later, the next cue is the TCI of
-  -- that subtitle.
+  -- If the first subtitle whose TCO is after the frame also starts after the frame, the next cue is
+  -- the TCI of that subtitle.
   pub next_edge-tci : f < t.tci → IsNextEdge ts f t.tci
   next_edge-tci gap = record {
     is_edge = (at, t, inside, sym is, inl refl);
@@ -125,7 +125,8 @@ module _ (n : Drawing) (ts : List SubtitleValue) (f at : ℕ) (t : SubtitleValue
         );
   }
 
-  -- If the first subtitle whose TCO is after the frame has started, the next cue is its TCO.
+  -- If the first subtitle whose TCO is after the frame has started by the frame, the next cue is
+  -- the TCO of that subtitle.
   pub next_edge-tco : t.tci ≤ f → IsNextEdge ts f t.tco
   next_edge-tco low = record {
     is_edge = (at, t, inside, sym is, inr refl);
@@ -232,8 +233,8 @@ module _ (n : Drawing) (ts : List SubtitleValue) (f at : ℕ) (ok : IsProgramme 
           λ l. let following = after edge.0 edge.1 l edge.2 in grind arith in
           grind (arith, nat_tests, cases_lt)
 
--- If no cue is after an earlier frame and at or before a frame, both frames have the same expected
--- page. A checker that looks at earlier frames needs this.
+-- If no cue is after the frame `f - j` and at or before the frame `f`, the expected page is the
+-- same at both frames. Rules of the checker that look back at earlier frames need this lemma.
 pub due_page_stays_without_edges : (n : Drawing) (ts : List SubtitleValue) (f j : ℕ)
     → j ≤ f
     → ((e : ℕ) → IsEdge ts e → f < e + j → e ≤ f → ⊥)

@@ -1,4 +1,4 @@
--- `load` returns the first fault of a file.
+-- If a subtitle file has faults, `load` returns the first of them.
 use Rattle.std.proofs.Common.{◌≡◌, ℕ, List, ◌∷◌, Option, Some, None, []}
 use Rattle.std.proofs.Common.{Ok, map, inl, inr}
 use Rattle.std.proofs.Common.{Err, refl, sym, ◌<◌, ◌≤◌, ◌⊎◌, Bool, true, false, arith, take}

@@ -1,4 +1,5 @@
--- If the source fails, exactly the faults that are found before the failure were reported.
+-- If the source fails, exactly the faults that are found before the block of the failure have been
+-- reported.
 use Rattle.std.proofs.Common.{◌≡◌, ℕ, ◌+◌, ◌*◌, ◌/◌, List, ◌∷◌, ◌++◌, length, Option, [], Some}
 use Rattle.std.proofs.Common.{Result, true, refl, arith, length-append}
 use Rattle.std.specs.Prelude.{is_ok}

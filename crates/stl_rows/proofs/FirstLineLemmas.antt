@@ -1,4 +1,5 @@
--- The first line of a text is found cell by cell.
+-- The first line of a text ends before the first new line, or with the last cell if the text has no
+-- new line.
 use Rattle.std.proofs.lemmas.Bool.Decides.{nat_tests}
 use Rattle.std.proofs.Common.{arith}
 use Rattle.std.proofs.Common.{◌≡◌, ℕ, ◌+◌, ◌<◌, ◌≤◌, List, [], ◌∷◌, ◌++◌, length, get_or, take}

@@ -172,8 +172,9 @@ undecided-last (t ∷ ts) (bit ∷ bits) other start frame le each past =
     (λ k d h. each (suc k) d (omega arith)) (λ k d h. past (suc k) d (omega arith)) in
     grind (arith, nat_tests)
 
--- The first subtitle that ends after the frame decides, by its bit and its TCI, whether the
--- expected page is unknown.
+-- From the start frame on, the expected page is unknown if and only if the first subtitle that ends
+-- after the frame starts after the frame and has its bit set: an unreliable subtitle directly
+-- precedes it.
 pub undecided-next : (ts : List SubtitleValue) (bits : List Bool) (other : Bool)
     (start frame at : ℕ) (d : SubtitleValue)
     → start ≤ frame

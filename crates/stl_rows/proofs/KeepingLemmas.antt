@@ -1,5 +1,6 @@
--- The subtitles kept so far, but for the last if the next is not in order with it, followed by the
--- reliable subtitles of the rest of the file, are all reliable subtitles of the file.
+-- The reliable subtitles of a file are the subtitles kept so far, followed by the reliable
+-- subtitles of the rest. The last kept subtitle is left out if the next subtitle is compared with
+-- it and is not in order with it.
 use Rattle.std.proofs.Common.{◌≡◌, ℕ, zero, suc, ◌+◌, ◌-◌, ◌<◌, ◌≤◌, Bool, false, true, List, []}
 use Rattle.std.proofs.Common.{◌∷◌, ◌++◌, length, take, drop, map, replicate, Option, Some, None}
 use Rattle.std.proofs.Common.{refl, sym}
@@ -204,8 +205,8 @@ is_followed None left = true
 is_followed (Some times) left = is_followed_in_order times left
 
 -- The reliable subtitles of a file are the kept subtitles, followed by the reliable subtitles of
--- the rest. The last kept one is left out if the next subtitle is compared with it and is not in
--- order with it.
+-- the rest. The last kept subtitle is left out if the next subtitle is compared with it and is not
+-- in order with it.
 abbrev pub judged_with_kept : Drawing → Option Times → KeptRecords → Findings → ReliableSubtitles
 judged_with_kept drawing before k left =
     if k.compares_with_last_kept && not (is_followed before left)

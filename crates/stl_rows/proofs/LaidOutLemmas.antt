@@ -178,7 +178,8 @@ drawn_from_place-step items jc row_shift place page line lines false long is res
     pitch_is_positive : 0 < pitch items
     pitch_is_positive = grind (arith, nat_tests)
 
--- Drawing the lines from a position on gives the page that shows all of them, or their first fault.
+-- Drawing lines on a page of 24 rows, from a place on, gives this page with the lines drawn over
+-- it, or the first fault of the lines.
 drawn_from_place-over : (items : LayoutItems) (jc row_shift : ℕ) (place : Place) (page : Rows)
     (lines : List (List ℕ))
     → length page ≡ 24

@@ -1,4 +1,5 @@
--- Layouts are parsed item by item, and their codes pair by pair.
+-- The text of a layout is parsed item by item, and the codes in an item are parsed as pairs of
+-- digits.
 use Rattle.std.proofs.Common.{◌≡◌, ℕ, zero, suc, ◌+◌, ◌<◌, ◌≤◌, Bool, true, false, List, [], ◌∷◌}
 use Rattle.std.proofs.Common.{length, get_or}
 use Rattle.std.proofs.Common.{drop, refl, ap, ◌∙◌, arith, nat_lt, add-one, drop-cons}

@@ -1,4 +1,5 @@
--- The lines of a text are read one text code at a time.
+-- While the lines of a text are read, each cell is appended to the current line, and a new line or
+-- the end of the text ends the current line.
 use Rattle.std.proofs.Common.{◌≡◌, ℕ, zero, suc, ◌≤◌, List, ◌∷◌, ◌++◌, map, length, drop, refl, []}
 use Rattle.std.proofs.Common.{ap, arith, length-append, ◌∙◌}
 use Rattle.std.proofs.lemmas.Bool.Decides.{nat_tests}

@@ -101,8 +101,8 @@ programme_has_no_follow_faults n records ts t ok =
           drawable,
     ) refl
 
--- If the rest of a file is read, and the subtitles before it and in it are a programme together,
--- the rest of the file has no faults.
+-- If the rest of a file is read without an error, and the subtitles before and in the rest are a
+-- programme together, the rest of the file has no faults.
 programme_is_faultless : (n : Drawing) (records : List SubtitleValue) (left : Findings)
     (ts : List SubtitleValue)
     → subtitles_of (stopped left) ≡ Ok ts
@@ -143,7 +143,8 @@ unfolding loaded_programme
 loaded_file_has_no_faults drawing file programme h = (no_faults_load_programme (faults drawing file)
     _ programme h).0
 
--- The law of loading follows from the equivalence of the definition of a file and its reading.
+-- If the definition of a subtitle file and the reader agree on the GSI block and the subtitles of
+-- any bytes, the law of loading holds.
 pub files_load_as_programmes : ((scope : Scope) (s g : List ℕ) (ts : List SubtitleValue)
     → IsFileFor scope s g ts
     ↔ ((g ≡ take 1024 s) × (subtitles_of (stopped (findings_within_scope scope s)) ≡ Ok ts)))

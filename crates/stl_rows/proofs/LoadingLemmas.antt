@@ -1,5 +1,5 @@
--- In the loop of `load_all`, the faults reported so far and the faults of the rest of the file are
--- all faults of the file.
+-- In the loop of `load_all`, the faults reported so far, followed by the faults of the rest of the
+-- file, are all faults of the file.
 use Rattle.std.proofs.Common.{rules, ◌≡◌, ◌<◌, ◌≤◌, ◌+◌, ℕ, Bool, true, false, List, ◌∷◌, ◌++◌, []}
 use Rattle.std.proofs.Common.{take, length, map, Option, Some, None, refl, sym}
 use Rattle.std.proofs.Common.{◌∙◌, ◌-◌, ap, inl, inr, arith, length-take, append_assoc, append-nil}
@@ -153,9 +153,10 @@ stops-last drawing before t block old mid new order row is_order is_row some p q
       Reports-trans,
     )
 
--- The faults reported so far, followed by the faults of the rest of the file, are all its faults.
--- The kept subtitles, but for the last if the next is not in order with it, followed by the
--- reliable subtitles of the rest, are all its reliable subtitles.
+-- The faults reported so far, followed by the faults of the rest of the file, are all faults of the
+-- file. The kept subtitles, followed by the reliable subtitles of the rest, are all reliable
+-- subtitles of the file. The last kept subtitle is left out if the next subtitle is compared with
+-- it and is not in order with it.
 pub record LoadingInvariant (drawing : Drawing) (file : List ℕ) (left : Findings)
     (before : Option Times)
     (kept : KeptRecords) (early : List LoadFault) : Type 0 where
@@ -236,8 +237,8 @@ module _ {D : Type 0} {IsReported : D → LoadFault → D → Type 0} {old mid n
         reported = stops.3;
       }
 
-  -- If reading ended with a fault of the file, not with a failed read of the source, the reported
-  -- faults are at least one, and all are in the bytes of the file.
+  -- If reading ended with a fault that is neither a failed read of the source nor `Ended`, at least
+  -- one fault was reported, and all reported faults are in the bytes of the file.
   pub fault_is_in_file-end : (early : List LoadFault) (fault : StlFault) {from block : ℕ}
       → All (IsReportedUpToBlock from) early
       → is_file_read_failure fault ≡ false

@@ -1,5 +1,5 @@
--- Each expected page has 24 rows of 40 codes below 128. The lines of a text have only such codes,
--- before and after a layout prepares the lines.
+-- Each expected page has 24 rows of 40 codes below 128. The lines of a text have only codes below
+-- 128, before and after a layout prepares the lines.
 use Rattle.std.proofs.Common.{◌≡◌, ℕ, zero, suc, ◌+◌, ◌<◌, List, [], ◌∷◌, ◌++◌, map, get_or, refl}
 use Rattle.std.proofs.Common.{Bool, false, Ok, Option, Some, None, arith, drop, length, lit<, take}
 use Rattle.std.specs.List.{range_with_len, AllByRecursion}

@@ -1,5 +1,6 @@
--- The codes at the end of a line are counted. With `fit`, only codes that fit in the row are added
--- there; without `fit`, all codes are.
+-- `trailing_count` is the number of cells at the end of a line that are in a range of codes. With
+-- `fit`, a layout adds only codes that fit in the row at the end of a line; without `fit`, it adds
+-- all codes. An empty line gets no codes.
 use Rattle.std.proofs.Common.{◌≡◌, ℕ, zero, suc, ◌+◌, ◌-◌, ◌<◌, ◌≤◌, true, false, List, [], ◌∷◌}
 use Rattle.std.proofs.Common.{length}
 use Rattle.std.proofs.Common.{get_or, drop, refl, arith, ◌++◌, take, max, ap, ◌∙◌}

@@ -1,4 +1,4 @@
--- A page has the printable characters of its text.
+-- A drawn page has the same printable characters as the text of its subtitle.
 use Rattle.std.proofs.Common.{◌≡◌, ◌≢◌, ℕ, zero, suc, ◌+◌, ◌<◌, ◌≤◌, Bool, true, false, List, []}
 use Rattle.std.proofs.Common.{◌∷◌, ◌++◌, map, refl, sym, ap, ◌∙◌, arith, Option}
 use Rattle.std.proofs.Common.{None, Ok, inl, inr, ◌⊎◌}
@@ -410,7 +410,7 @@ printing_codes-kept items n place zero (byte ∷ bytes) =
     (lines_of_codes (text_codes_after_skip n (place + 1) (code_and_extra_bytes n byte bytes).1
     bytes)))
 
--- A drawn page has the printable characters of the lines of its text.
+-- A drawn page has the same printable characters as the lines of the subtitle's text.
 printed_part-drawn : (national : National) (items : LayoutItems) (t : SubtitleValue) (page : Rows)
     → drawn_by national items t ≡ Ok page
     → printed_lines page ≡ printed_lines (lines_of_codes (codes_by_layout national items t.text))

@@ -1,4 +1,5 @@
--- A line, its prepared form and the row that shows it have the same printable characters.
+-- A line and its prepared form have the same printable characters, and so has the row that shows
+-- the line, if the line fits in the row.
 use Rattle.std.proofs.Common.{◌≡◌, ℕ, zero, suc, ◌+◌, ◌-◌, ◌≤◌, Bool, true, List, []}
 use Rattle.std.proofs.Common.{◌∷◌, ◌++◌, length, take, drop, replicate, refl, sym, ap, ◌∙◌}
 use Rattle.std.proofs.Common.{arith, Option, Some, None, append-nil}
@@ -187,7 +188,8 @@ printed_part-line_with_layout_codes items cells = grind (
   printed_part-line_with_before_codes,
 )
 
--- The prepared form of a line has the same cells from the first printable cell to the last.
+-- The prepared form of a line has the same cells as the line, from the first printable cell to the
+-- last.
 pub printed_part-prepared : (items : LayoutItems) (cells : List ℕ)
     → printed_part (prepared_by_layout items cells) ≡ printed_part cells
 unfolding prepared_by_layout

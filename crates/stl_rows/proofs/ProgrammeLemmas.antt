@@ -1,4 +1,4 @@
--- A programme and one more subtitle without faults are a programme.
+-- A programme followed by one more valid subtitle without faults is a programme.
 use Rattle.std.proofs.Common.{◌≡◌, ℕ, ◌-◌, ◌<◌, ◌≤◌, List, [], ◌∷◌, ◌++◌, Result, ◌∙◌, ap, Some}
 use Rattle.std.proofs.Common.{length, get_or, arith, length-append}
 use Rattle.std.proofs.lemmas.Bool.{cases_lt}

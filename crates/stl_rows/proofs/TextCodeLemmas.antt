@@ -1,5 +1,5 @@
--- One or two bytes of a text are one text code. The cell of a text code is below 128. The table of
--- common bytes agrees with its definition.
+-- One or two bytes of a text are one text code. If a text code has a cell, the cell is below 128.
+-- The table of common bytes agrees with the definition of common bytes.
 use Rattle.std.proofs.Common.{◌≡◌, ℕ, ◌+◌, ◌<◌, List, ◌∷◌, Option, Some, length, get_or, drop}
 use Rattle.std.proofs.Common.{refl, arith, true, ◌==◌}
 use Rattle.std.proofs.Common.{add-one, drop-cons}

@@ -1,5 +1,5 @@
--- While the text codes are read one by one, a few properties of each line determine the first fault
--- of a text.
+-- The first fault of a text is found while the text codes are read one by one. It depends only on
+-- the rejected bytes, and on the row, number of cells, start box and double height of each line.
 use Rattle.std.proofs.Common.{rules, ◌≡◌, ℕ, ◌+◌, Bool, true, false, cond, List, [], ◌∷◌, ◌++◌}
 use Rattle.std.proofs.Common.{Option, None, length, refl, sym, ap, ◌∙◌, arith, length-append}
 use Rattle.std.proofs.Common.{append-nil}
@@ -22,7 +22,7 @@ use Rattle.stl_rows.specs.LineByLine.{with_cell}
 use Rattle.stl_rows.specs.TextCode.{first_of, lines_of_codes, faults_of_codes, text_codes}
 use Rattle.stl_rows.proofs.LineByLineLemmas.{code_joins_cells, line_end_closes_cells}
 
--- The state of the current line has the number of its cells, and whether they contain a start box
+-- The state of the current line holds the number of its cells, and whether they contain a start box
 -- and double height.
 pub record HasShape (cells : List ℕ) (line : OpenLine) : Type 0 where
   pub count : length cells ≡ line.len
@@ -95,8 +95,8 @@ reported_fault_is_first before cells line ls h =
       option_or_assoc,
     )
 
--- The first fault of text codes is the fault of the first rejected byte; otherwise a fault found
--- before; otherwise the first fault of the lines left.
+-- The first fault of text codes is the fault of the first rejected byte. If no byte is rejected, it
+-- is the fault found before these text codes, or else the first fault of the lines that are left.
 abbrev IsReported : List (ℕ × TextCode) → Type 0
 IsReported ss =
     (before : Option RowFault) (cells : List ℕ) (line : OpenLine)

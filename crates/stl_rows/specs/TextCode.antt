@@ -97,8 +97,8 @@ code_and_extra_bytes national byte bytes =
     (option_map (λ code. (Cell code, 1)) (cell_of_pair national byte (first_of bytes)))
     (text_code national byte, 0)
 
--- The text codes of bytes from `place` on, each with its place. The first `taken` bytes belong to
--- the text code before them.
+-- The text codes of bytes, each with the place of its first byte; the first of the bytes is at
+-- `place`. The first `taken` bytes belong to the text code before them, and give no text code.
 abbrev pub text_codes_after_skip : National → ℕ → ℕ → List ℕ → List (ℕ × TextCode)
 text_codes_after_skip national place taken [] = []
 text_codes_after_skip national place (suc taken) (byte ∷ bytes) = text_codes_after_skip national
@@ -107,15 +107,16 @@ text_codes_after_skip national place zero (byte ∷ bytes) =
     (place, (code_and_extra_bytes national byte bytes).0)
     ∷ text_codes_after_skip national (place + 1) (code_and_extra_bytes national byte bytes).1 bytes
 
--- The text codes of bytes from `place` on, each with its place.
+-- The text codes of bytes, each with the place of its first byte; the first of the bytes is at
+-- `place`.
 abbrev pub text_codes : National → ℕ → List ℕ → List (ℕ × TextCode)
 text_codes national place bytes = text_codes_after_skip national place 0 bytes
 
--- A fault of this kind at a place.
+-- The fault of the given kind at a place: the index of a byte, or the number of a line.
 abbrev pub fault_of : ℕ → RowFaultKind → RowFault
 fault_of place kind = record { kind = kind; at = place }
 
--- The fault of a rejected text code, at the place of its byte; `None` if the text code is accepted.
+-- If the text code is a rejected byte, the fault of this byte, at its place; otherwise `None`.
 abbrev pub fault_of_code : ℕ → TextCode → Option RowFault
 fault_of_code place (Refused kind) = Some (fault_of place kind)
 fault_of_code place _ = None

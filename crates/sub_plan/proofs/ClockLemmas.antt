@@ -1,4 +1,4 @@
--- A clock converts the PTS of a frame back to that frame.
+-- A clock converts the PTS of a frame of the day back to that frame.
 use Rattle.std.proofs.lemmas.Bool.Decides.{nat_tests}
 use Rattle.std.proofs.Common.{◌≡◌, ◌≢◌, ℕ, zero, suc, ◌+◌, ◌-◌, ◌/◌, ◌%◌, ◌^◌, ◌<◌}
 use Rattle.std.proofs.Common.{◌↔◌, Option, Some, None, refl, sym, ◌∙◌, arith, MatchOption}

@@ -1,4 +1,4 @@
--- The first TCI and the last TCO of a programme are frames of the day.
+-- If a programme has a subtitle, its first TCI and its last TCO are frames of the day.
 use Rattle.std.proofs.Common.{◌≡◌, ℕ, ◌+◌, ◌-◌, ◌<◌, ◌≤◌, List, [], ◌∷◌, Option, Some, None, length}
 use Rattle.std.proofs.Common.{get_or, refl, ◌∙◌, arith, All}
 use Rattle.std.proofs.lemmas.Bool.Decides.{nat_tests}

@@ -1,5 +1,5 @@
--- The last base at or before a frame decides whether it has a page transmission; the last frame of
--- a schedule always has one.
+-- The distance of a frame from the last base at or before it decides whether the frame has a page
+-- transmission; the last frame of a schedule always has one.
 use Rattle.std.proofs.Common.{◌≡◌, ℕ, zero, suc, ◌+◌, ◌-◌, ◌%◌, ◌<◌, ◌≤◌, ◌==◌, Bool, true, false}
 use Rattle.std.proofs.Common.{◌++◌, refl, sym, ap, ◌∙◌, arith, inl, inr, All, Decides}
 use Rattle.std.proofs.Math.Bool.{or-true}
@@ -160,7 +160,8 @@ sends-again due every first last s low high sent none =
     in
     grind (arith, nat_tests, base_is_last_base, sends, base_stays_without_new_base, add-mod_right)
 
--- The last page transmission at or before a frame shows the page expected at that frame.
+-- If `every` is positive, the last page transmission at or before a frame shows the page expected
+-- at that frame.
 pub last_sending_exists : (due : ℕ → Rows) (every first last f : ℕ) → 1 ≤ every → first ≤ f →
     (g : ℕ)
     × IsLastSending due every first last f g
@@ -183,8 +184,8 @@ last_sending_exists due every first last f some low =
       },
     )
 
--- Any `every` consecutive frames contain a page transmission: if the last transmission were before
--- these frames, another would follow it among them.
+-- If `every` is positive, any `every` consecutive frames of a schedule contain a page transmission:
+-- if the last transmission were before these frames, another would follow it among them.
 pub every_gap_has_a_sending : (due : ℕ → Rows) (every first last g : ℕ)
     → 1 ≤ every
     → first ≤ g

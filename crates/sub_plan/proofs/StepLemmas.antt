@@ -57,7 +57,8 @@ steps-more every from end some inside =
     rw (further, add-mod_right (j - (from + every)) every) refl) in
     grind (arith, nat_tests)
 
--- The frames from the base b to before `end` have the same expected page.
+-- The frames from the base b to before `end`, which is at most the last frame, have the same
+-- expected page.
 pub record IsIntervalOfOnePage (due : ℕ → Rows) (first b end last : ℕ) : Type 0 where
   pub low : first ≤ b
   pub some : b < end

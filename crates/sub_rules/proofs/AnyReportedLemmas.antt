@@ -1,5 +1,6 @@
--- Most events of a frame have no PES packet number. So a test for such numbers needs only the
--- events about frame numbers, and each event has the number of its own PES packet.
+-- Of the events of a frame, only those about frame numbers can have a PES packet number, which is
+-- the number of the frame's own PES packet. So a test for PES packet numbers needs only these
+-- events.
 use Rattle.std.proofs.lemmas.Bool.Decides.{nat_tests}
 use Rattle.std.proofs.Common.{◌≡◌, ℕ, zero, suc, ◌+◌, ◌==◌, Bool, true, false, not, List, [], ◌∷◌}
 use Rattle.std.proofs.Common.{◌++◌, map, length, Option, refl, ◌∙◌, ap₂, arith}

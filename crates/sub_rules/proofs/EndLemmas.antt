@@ -1,5 +1,5 @@
--- After the first entry, the active faults before a frame are those at the previous frame end, and
--- the gap before an entry begins after the latest frame.
+-- Except for the first entry of a transmission, the active faults before a frame are those at the
+-- previous frame end, and the gap before an entry begins after the latest frame.
 use Rattle.std.proofs.lemmas.Bool.Decides.{nat_tests}
 use Rattle.std.proofs.Common.{◌≡◌, ℕ, ◌+◌, ◌-◌, ◌<◌, arith}
 use Rattle.sub_rules.specs.Events.{previous_end_frame, gap_length, latest_frame, active_faults_at}

@@ -1,6 +1,6 @@
 -- If two transmissions have the same frame numbers, and the same packets in the first n frames,
--- everything that depends only on these is equal. So more packets of the last frame do not change
--- the events before its end.
+-- then the active faults, and the events and steps at the ends of these frames, are equal. So more
+-- packets of the last frame do not change the events before its end.
 use Rattle.std.proofs.Common.{◌≡◌, ℕ, zero, suc, ◌+◌, ◌-◌, ◌≤◌, map, take}
 use Rattle.std.proofs.Common.{Option, refl, sym, ap, ◌∙◌, arith, take-take}
 use Rattle.sub_rules.specs.Events.{previous_end_frame, events_at_end, gap_length, is_gap, is_silent}

@@ -1,4 +1,5 @@
--- The events of a transmission are those of its entries, if each entry is one PES packet.
+-- If each entry of a transmission is one PES packet, the events of the transmission are those of
+-- its entries, followed by those at its end.
 use Rattle.std.specs.Prelude.{ℕ, zero, suc, ◌+◌, List, [], ◌++◌, length}
 use Rattle.sub_rules.specs.Events.{closing_events, events_at_end, first_header_events, gap_length}
 use Rattle.sub_rules.specs.Events.{latest_frame, order_events, packet_events}

@@ -1,4 +1,5 @@
--- The packets of one more frame follow those of the first frames of a transmission.
+-- If a transmission has a frame n, the packets before frame n + 1 are those before frame n,
+-- followed by those of frame n.
 use Rattle.std.proofs.Common.{◌≡◌, ℕ, ◌+◌, ◌<◌, [], ◌∷◌, ◌++◌, length, get_or, take, sym, ap, ◌∙◌}
 use Rattle.std.proofs.Common.{arith}
 use Rattle.std.specs.List.{flat_map}

@@ -1,4 +1,5 @@
--- The PES packets of a file are read one at a time.
+-- If the reader returns a PES packet, the PES packets of a file are this packet and those of the
+-- remaining bytes. A packet is skipped if its PTS belongs to no frame or its contents have a fault.
 use Rattle.std.proofs.lemmas.Bool.Decides.{nat_tests}
 use Rattle.std.proofs.Common.{◌≡◌, ℕ, zero, suc, ◌+◌, ◌<◌, ◌≤◌, true, false, List, []}
 use Rattle.std.proofs.Common.{◌∷◌, ◌++◌, length-append, Option, Some, None, Result, Ok, Err, refl}
@@ -62,8 +63,9 @@ file_of-then : (clock : Clock) (answer : Result (Option PesValue) PesFault) (mor
     ≡ pes_packets_after_answer clock answer (file_of_pes_packets clock more)
 file_of-then clock answer more = grind (arith, nat_tests)
 
--- The contents of a PES file are the PES packet that the reader's result gives, followed by the
--- contents of the remaining bytes; there is no PES packet if that result gives none.
+-- If the reader's next result is a PES packet, valid or with a fault in its contents, the contents
+-- of a PES file are this packet and the contents of the remaining bytes. Otherwise no PES packet is
+-- left.
 pub pes_packets_at-next : (clock : Clock) (given : ℕ) (bytes : List ℕ)
     (answer : Result (Option PesValue) PesFault)
     → given ≤ max_pes_packets
@@ -76,7 +78,7 @@ pes_packets_at-next clock given bytes answer few is =
     ap (file_of_pes_packets clock) (pes_packets_after-next given bytes answer few is)
     ∙ file_of-then clock answer (pes_packets_after (given + 1) (rest_after_pes_packet bytes))
 
--- If the reader's result gives a PES packet, this packet is the next one of the remaining bytes.
+-- If the reader's result gives a PES packet, this packet is the next packet of the remaining bytes.
 answer_reads_pes_packet : (clock : Clock) (n : ℕ) (bytes : List ℕ) (pes_packets : List PesPacket)
     (unread : Option UnreadReason) (pes_packet : PesPacket) (answer : Result (Option PesValue)
     PesFault)

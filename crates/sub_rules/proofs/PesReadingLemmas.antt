@@ -1,5 +1,5 @@
--- The reader's next result is the next frame of a file that ends at its first skipped packet, or
--- the end of that file.
+-- For a file that ends at its first skipped PES packet, the reader's next result is the next frame,
+-- the end of the file, or the fault at which the file ends.
 use Rattle.std.proofs.lemmas.Bool.Decides.{nat_tests}
 use Rattle.std.proofs.Common.{◌≡◌, ℕ, suc, ◌+◌, ◌<◌, ◌≤◌, List, [], ◌∷◌, length, drop, get_or}
 use Rattle.std.proofs.Common.{Option, Some, None, Result, Ok, Err, refl, ap, arith}

@@ -1,4 +1,5 @@
--- Each test decides a property of truth values, numbers, lists, packets or frames.
+-- Each test of truth values, numbers, lists, packets or frames is true if and only if the tested
+-- property holds.
 use Rattle.std.proofs.Common.{◌≡◌, ℕ, zero, suc, ◌<◌, ◌≤◌, Bool, true, false, not, ◌&&◌}
 use Rattle.std.proofs.Common.{◌||◌, nat_le, List, Some, None, All, refl}
 use Rattle.std.proofs.Common.{arith}

@@ -1,4 +1,5 @@
--- The reports of two lists of steps are those of the first list, followed by those of the second.
+-- The reports of two lists of steps, one after another, are those of the first list, followed by
+-- those of the second list, whose history then includes the first list.
 use Rattle.std.proofs.lemmas.Bool.Decides.{nat_tests}
 use Rattle.std.proofs.Common.{◌≡◌, ◌&&◌, List, [], ◌∷◌, ◌++◌, refl, sym, ap, ◌∙◌, append_assoc}
 use Rattle.std.proofs.Common.{arith}

@@ -1,5 +1,5 @@
--- `draw_subtitle_on`: with the default layout, a subtitle without faults draws the page of its
--- lines. Another layout draws the subtitle by its items.
+-- `draw_subtitle_on`: with the default layout, drawing a subtitle without faults gives the page
+-- that shows its lines. With another layout, the layout's items decide how the subtitle is drawn.
 use Rattle.std.proofs.Common.{arith}
 use Rattle.std.proofs.lemmas.Bool.Decides.{nat_tests}
 use Rattle.stl_rows.proofs.DefaultLayoutLemmas.{drawn-none, drawn-some}

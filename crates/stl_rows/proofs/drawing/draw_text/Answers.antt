@@ -1,5 +1,5 @@
--- In `draw_text`, the page shows the lines so far after each cell and each new line, and all lines
--- at the end of the text.
+-- In `draw_text`, the page shows the complete lines so far after each cell and each new line, and
+-- all lines at the end of the text.
 use Rattle.std.proofs.Common.{arith, length-append, ◌∷◌, ◌++◌, []}
 use Rattle.std.proofs.lemmas.Bool.Decides.{nat_tests}
 use Rattle.stl_rows.proofs.DrawnPageLemmas.{is_drawn-end, is_drawn-fits, is_drawn-next}

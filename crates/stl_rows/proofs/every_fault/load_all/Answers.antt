@@ -1,4 +1,5 @@
--- `load_all`: the kept subtitles are the programme against which a transmission is checked.
+-- If `load_all` returns subtitles, they are those against which a transmission is checked, and all
+-- faults of the file have been reported.
 use Rattle.std.proofs.Common.{sym}
 use Rattle.stl_rows.proofs.every_fault.load_all.Goals as goal
 

@@ -1,7 +1,7 @@
 -- Loop invariant of `load_all_with_allocator`: the faults reported so far, followed by the faults
--- of the rest of the file, are all its faults. The kept subtitles, but for the last if the next is
--- not in order with it, followed by the reliable subtitles of the rest, are all its reliable
--- subtitles.
+-- of the rest of the file, are all faults of the file. The kept subtitles, followed by the reliable
+-- subtitles of the rest, are all reliable subtitles of the file. The last kept subtitle is left out
+-- if the next subtitle is compared with it and is not in order with it.
 use Rattle.std.proofs.Common.{◌≡◌, ◌-◌, ℕ, false, List, Some}
 use Rattle.std.specs.List.{All}
 use Rattle.sub_io.specs.Reporting.{Reports}

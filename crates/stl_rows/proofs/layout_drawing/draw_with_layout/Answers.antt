@@ -1,4 +1,5 @@
--- `draw_with_layout` returns the fault of a rejected byte; otherwise the lines decide the result.
+-- `draw_with_layout` returns the fault of the first rejected byte. If no byte is rejected, the
+-- lines of the text decide the result.
 use Rattle.std.proofs.Common.{arith}
 use Rattle.std.proofs.lemmas.Bool.Decides.{nat_tests}
 use Rattle.stl_rows.proofs.CutLemmas.{cut_lines_are_seven_bit, drawn_by-cut, drawn_by-refused}

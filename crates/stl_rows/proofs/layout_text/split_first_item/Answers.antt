@@ -1,4 +1,5 @@
--- `split_first_item`: the text before the first comma is the first part of the text.
+-- `split_first_item` returns the first part of a text that is split at commas, and the shorter text
+-- after the first comma, if the text has a comma.
 use Rattle.stl_rows.proofs.CutAtLemmas.{split_at_mark-first}
 use Rattle.stl_rows.proofs.layout_text.split_first_item.Goals as goal
 

@@ -1,5 +1,5 @@
--- `draw_expected`: after all subtitles, or in a gap, no subtitle is due; otherwise the first
--- subtitle whose TCO is after the frame is due.
+-- `draw_expected`: after all subtitles, or in a gap, no subtitle is expected. At any other frame
+-- the first subtitle whose TCO is after the frame is expected.
 use Rattle.std.proofs.Common.{arith, rules, ◌∙◌, ap, sym}
 use Rattle.std.proofs.lemmas.Bool.Decides.{nat_tests}
 use Rattle.std.specs.Result.{result_unwrap_or}

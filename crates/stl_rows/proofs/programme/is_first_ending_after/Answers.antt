@@ -1,4 +1,5 @@
--- `is_first_ending_after`: the previous subtitle has ended by the frame, and this one has not.
+-- If `is_first_ending_after` returns true, all subtitles before the index have ended by the frame,
+-- and the subtitle at the index and all later ones have not.
 use Rattle.std.proofs.Common.{arith}
 use Rattle.std.proofs.lemmas.Bool.Decides.{nat_tests}
 use Rattle.stl_rows.proofs.DuePageLemmas.{ended-until, left-from}

@@ -1,5 +1,6 @@
--- The last cue is the TCI of the first subtitle whose TCO is after the frame, or the TCO of the
--- subtitle before it.
+-- If the first subtitle whose TCO is after the frame has started by the frame, the last cue is the
+-- TCI of that subtitle. Otherwise the last cue is the TCO of the last subtitle that has ended, if
+-- there is one.
 use Rattle.std.proofs.Common.{arith, rules}
 use Rattle.stl_rows.proofs.DuePageLemmas.{last_edge-gap, last_edge-tci, later_subtitles_start_after}
 use Rattle.stl_rows.proofs.programme.last_cue_until.Goals as goal

@@ -1,4 +1,5 @@
--- The next cue is the TCI or TCO of the first subtitle whose TCO is after the frame.
+-- The next cue is the TCI of the first subtitle whose TCO is after the frame, or the TCO of that
+-- subtitle if it has started. If no TCO is after the frame, there is no next cue.
 use Rattle.std.proofs.Common.{arith, rules}
 use Rattle.stl_rows.proofs.DuePageLemmas.{next_edge-tci, next_edge-tco}
 use Rattle.stl_rows.proofs.programme.next_cue_after.Goals as goal

@@ -1,4 +1,4 @@
--- The subtitle that ends at a frame is the first subtitle whose TCO is after the previous frame.
+-- If a subtitle ends at a frame, it is the first subtitle whose TCO is after the previous frame.
 use Rattle.std.proofs.Common.{arith, rules, ◌-◌, ◌∙◌, ap, Some}
 use Rattle.stl_rows.proofs.DuePageLemmas.{ends-next, no_tco_means_none_ending}
 use Rattle.stl_rows.proofs.DuePageLemmas.{no_tco_means_none_ending-next}

@@ -1,4 +1,4 @@
--- `first_fault` returns the first fault of a subtitle.
+-- `first_fault` returns the first fault of a subtitle, or none if the subtitle can be drawn.
 use Rattle.std.proofs.Common.{arith}
 use Rattle.std.proofs.lemmas.Bool.Decides.{nat_tests}
 use Rattle.stl_rows.proofs.DefaultLayoutLemmas.{drawn-none, drawn-some}

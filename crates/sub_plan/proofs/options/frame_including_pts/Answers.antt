@@ -1,5 +1,5 @@
--- The frame is the number of ticks since the first tick of frame 0, divided by 3600, if it is in
--- the day.
+-- The frame that includes a PTS is the number of ticks since the first tick of frame 0, divided by
+-- 3600. If the quotient is not a frame of the day, no frame includes the PTS.
 use Rattle.std.proofs.Common.{arith}
 use Rattle.std.proofs.lemmas.Bool.Decides.{nat_tests}
 use Rattle.sub_plan.specs.FrameTime.{frame_with_tolerance}

@@ -1,5 +1,5 @@
 -- `send_all` writes the page transmissions from base to base, and then the page transmission of the
--- last frame.
+-- last frame. If a write fails, the sink has received a prefix of the bytes of these transmissions.
 use Rattle.std.proofs.Common.{◌≡◌, arith, refl, rules, ◌∙◌, inr, []}
 use Rattle.std.proofs.lemmas.Result.{err_from_is_err_and}
 use Rattle.sub_plan.specs.Schedule.{due_page_in}

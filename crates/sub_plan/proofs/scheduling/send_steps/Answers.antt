@@ -1,4 +1,5 @@
--- `send_steps` writes one page transmission after another.
+-- `send_steps` writes one page transmission after another. If a write fails, the sink has received
+-- a prefix of the bytes of these transmissions.
 use Rattle.std.proofs.Common.{arith, rules}
 use Rattle.std.proofs.lemmas.Result.{err_from_is_err_and}
 use Rattle.sub_plan.proofs.StepLemmas.{steps-more, steps-none}

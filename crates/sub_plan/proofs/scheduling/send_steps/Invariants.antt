@@ -1,5 +1,5 @@
--- Loop invariant of `send_steps`, at each frame: the PES packets of all earlier frames with these
--- Teletext packets are written.
+-- Loop invariant of `send_steps`, at each frame: one PES packet with the same Teletext packets has
+-- been written for each earlier frame with a page transmission.
 use Rattle.std.proofs.Common.{◌≡◌, ◌-◌, ◌<◌, ◌≤◌}
 use Rattle.ttx_pes.specs.LineOrder.{numbered_units}
 use Rattle.sub_plan.specs.Steps.{pes_packet_bytes_at, steps}
