@@ -1,6 +1,6 @@
--- If each property of the inputs and the file that is known at the end of a run is replaced by a
--- weaker one, the result is still true. The same applies to the bytes that were written and flushed
--- before a source failed.
+-- If a statement about the end of a run is true, it stays true when its properties of the inputs
+-- and of the file are replaced by weaker ones. The same applies to a statement about the bytes that
+-- were written and flushed before a source failed.
 use Rattle.std.proofs.lemmas.Bool.Decides.{nat_tests}
 use Rattle.std.proofs.Common.{arith}
 use Rattle.std.proofs.Common.{◌≡◌, ◌∙◌, ap, refl, subst, ℕ, List, [], ◌∷◌, ◌++◌}

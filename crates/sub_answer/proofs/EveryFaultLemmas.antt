@@ -1,5 +1,5 @@
--- The events of a subtitle file, and then those of a PES file, are reported to a printer, and they
--- determine the answer.
+-- The events of a subtitle file, and then those of a PES file, are reported to a printer, and these
+-- events determine the result of the check.
 use Rattle.std.proofs.lemmas.Bool.Decides.{nat_tests}
 use Rattle.std.proofs.Common.{◌≡◌, ◌∙◌, ap, refl, sym, subst, arith, inl, inr, ℕ, ◌<◌, ◌≤◌}
 use Rattle.std.proofs.Common.{List, [], ◌∷◌, take, length, Bool, true, false, Option}

@@ -61,8 +61,8 @@ same_status :
     → result ≡ status
 same_status printed new status result h runs = grind (arith, nat_tests)
 
--- For `check`: the status is `Done` exactly if the PES packets that were read are accepted for the
--- subtitle file. This says nothing about another command.
+-- The status of `check` is `Done` exactly if the PES packets that were read are accepted for the
+-- subtitle file. Nothing is required of the status of another command.
 abbrev IsDoneExactlyIfAccepted : Request → List ℕ → List ℕ → Status → Type 0
 IsDoneExactlyIfAccepted (ask.Check stl pes options national layout scope all) file bytes status =
     (read : List ℕ)

@@ -1,4 +1,5 @@
--- The events of a PES file are reported to a printer, and they determine the answer.
+-- The events of a PES file are reported to a printer, and these events determine the result of the
+-- check.
 use Rattle.std.proofs.Common.{◌≡◌, ◌∙◌, ap, refl, sym, subst, arith, ℕ, ◌+◌, ◌≤◌}
 use Rattle.std.proofs.Common.{zero, suc, List, take, length, Bool, true, false, Option}
 use Rattle.std.proofs.Common.{Some, None, Result, Ok, Err, ◌-◌}

@@ -1,5 +1,5 @@
--- Files that a check accepts are also accepted with any greater `within`, unless a source fails or
--- memory cannot be allocated.
+-- If the PTS of frame 0 is less than 2^33, files that a check accepts are also accepted with any
+-- greater `within`, unless a source fails or memory cannot be allocated.
 use Rattle.std.proofs.Common.{◌≡◌, false, refl, Result, Ok, Err, IsOk}
 use Rattle.sub_io.specs.Device.{failed}
 use Rattle.sub_rules.specs.Fault.{is_failure}

@@ -1,4 +1,5 @@
--- The fault that the report sink stored is the first fault among the events.
+-- If a report sink stores the first broken rule that is reported, the stored fault is the first
+-- fault among the events.
 use Rattle.std.proofs.lemmas.Bool.Decides.{nat_tests}
 use Rattle.std.proofs.Common.{◌≡◌, ℕ, List, [], ◌∷◌, length, Option, Some, None, Result, Err, refl}
 use Rattle.std.proofs.Common.{sym, subst, arith, All, true}

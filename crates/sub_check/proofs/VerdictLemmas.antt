@@ -1,5 +1,5 @@
--- The events for the whole file determine whether the file is accepted, and which properties its
--- transmission has.
+-- If the source does not fail, the events for the whole PES file determine the result: the file is
+-- accepted exactly if its bytes carry a transmission that is good by the options.
 use Rattle.std.proofs.lemmas.Bool.Decides.{nat_tests}
 use Rattle.std.proofs.lemmas.Slice.Zip.{AllZip-long}
 use Rattle.std.proofs.Common.{◌≡◌, ◌≢◌, ◌↔◌, ℕ, ◌≤◌, List, [], Bool, All, Some, None}
@@ -55,14 +55,16 @@ use Rattle.sub_check.specs.CheckedFiles.{events_of_first_pes_packets, frames_rea
 use Rattle.sub_check.proofs.FirstReportedLemmas.{first_reported_cell_differs, each_complete}
 use Rattle.sub_check.proofs.CompleteReadLemmas.{complete_file_gives_frames}
 
--- The whole PES file was read, up to a rest that contains no PES packet.
+-- The counts in the result are those of the PES packets that were not skipped. If no PES packet was
+-- skipped and no bytes are unread, the bytes of the file are exactly its PES packets.
 abbrev pub IsReadCompletely : ProgrammeValue → OptionsValue → List ℕ → Accepted → Type 0
 IsReadCompletely programme options bytes a =
     let file = pes_packet_file_of (clock_of options) bytes in
     MatchesReadFile (criteria_of programme options file.unread) (clock_of options) bytes
     file.pes_packets a
 
--- A file is accepted if no event is a fault; otherwise the first fault is returned.
+-- If the file is accepted, it was read completely and no event is a fault; otherwise the returned
+-- fault is the first fault among the events.
 abbrev pub Decides : ProgrammeValue → OptionsValue → List ℕ → Result Accepted CheckFault → Type 0
 Decides programme options bytes result =
     MatchResult result
@@ -70,7 +72,8 @@ Decides programme options bytes result =
     × (first_reported_fault (all_events_of programme options bytes) ≡ None))
     (λ f. first_reported_fault (all_events_of programme options bytes) ≡ Some f)
 
--- If the source failed within a PES packet, no event of the packets before it is a fault.
+-- If the result is that the source failed while PES packet `pes` was read, the file has at least
+-- `pes` PES packets, and no event of the first `pes` of them is a fault.
 abbrev pub ReadsUntilAnswer : ProgrammeValue → OptionsValue → List ℕ → Result Accepted CheckFault →
     Type 0
 ReadsUntilAnswer programme options bytes result =

@@ -1,4 +1,4 @@
--- The checker's state agrees with the frames sent so far between two PES packets. The checker
+-- Between two PES packets, the checker's state agrees with the frames sent so far. The checker
 -- decides correctly whether a PES packet continues the last frame, and its steps and its state
 -- after the packet are those of the rules.
 use Rattle.std.proofs.lemmas.Bool.Decides.{nat_tests}

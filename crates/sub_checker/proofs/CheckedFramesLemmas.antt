@@ -1,5 +1,5 @@
--- The checker's state agrees with the rules when it reaches the first frame, a frame without a PES
--- packet, and a later frame. It does not depend on later frames.
+-- When the checker reaches the first frame, a frame without a PES packet, or a later frame, its
+-- state agrees with the rules. The state does not depend on frames after that frame.
 use Rattle.std.proofs.lemmas.Bool.Decides.{nat_tests}
 use Rattle.std.proofs.Common.{◌≡◌, ℕ, zero, suc, ◌+◌, ◌-◌, ◌<◌, ◌≤◌, Bool, false, nat_le, cond}
 use Rattle.std.proofs.Common.{List, [], ◌∷◌, ◌++◌, length, map, Option, None, refl, sym, ap, ◌∙◌}

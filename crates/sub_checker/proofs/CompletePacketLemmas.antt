@@ -1,5 +1,6 @@
--- If the page is correct at the end of a frame, no cell is unexpected, and a few comparisons show
--- that no fault is active.
+-- If the page is correct at the end of a frame, no cell is unexpected. If, in addition, no fault
+-- was active before, the page is not incomplete, no header is overdue, the silence is not too long,
+-- and the expected page is known, no fault is active at the end of the frame.
 use Rattle.std.proofs.lemmas.Bool.Decides.{nat_tests}
 use Rattle.std.proofs.Common.{◌≡◌, ℕ, zero, suc, ap, ◌+◌, ◌<◌, Bool, true, false}
 use Rattle.std.proofs.Common.{not, Option, None, is_some, refl}

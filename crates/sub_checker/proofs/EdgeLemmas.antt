@@ -1,5 +1,4 @@
--- The expected page, and what the checker stores about it, stay the same until the expected page
--- changes.
+-- The expected page, and what the checker stores about that page, stay the same until the next cue.
 use Rattle.std.proofs.lemmas.Bool.Decides.{nat_tests}
 use Rattle.std.proofs.Common.{Option, Some, None, ◌≡◌, ℕ, zero, suc, ◌+◌, ◌-◌, ◌<◌, ◌≤◌, Bool, true}
 use Rattle.std.proofs.Common.{List, refl, ap, ◌∙◌, arith}
@@ -46,7 +45,7 @@ next_cue_stays records frame f (Some edge) reports low before =
       least = λ e is l. reports.least e is (omega arith);
     }
 
--- `IsAtFrame` stays true until the next cue.
+-- If `IsAtFrame` is true at a frame, it is true at each later frame of the day before the next cue.
 pub IsAtFrame-later :
     (p : ProgrammeValue) (every : ℕ) (s : Listener) (first latest_frame last frame : ℕ)
     (edge : Option ℕ) (f : ℕ)

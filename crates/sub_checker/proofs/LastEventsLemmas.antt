@@ -144,7 +144,7 @@ equal_events_have_same_reports es fs is =
     })
 
 module _ (k n : ℕ) (u : UnreadReason) where
-  -- The list's events are followed by the fault of the unread bytes, with PES packet number i.
+  -- The events of the list are followed by the fault of the unread bytes, which names PES packet i.
   abbrev with_unread_fault : List Event → ℕ → List Event
   with_unread_fault es i = es ++ Reported (unread_fault i (Some u)) ∷ []
 
@@ -235,7 +235,8 @@ closing_events_agree g list pes last c given follows is = rw is (go (length list
         (endings_eq g list n last c all here)))
         (by n all here g.unread)
 
--- Lists of events with the same reports are passed to the device in the same way.
+-- If two lists of events have the same reports, a reporter passes both lists to the device in the
+-- same way.
 pub same_reports_are_relayed_alike : {D : Type 0} {d : _} {IsReported : D → Event → D → Type 0}
     {a b : Reporter D d}
     (es fs : List Event) → AreSameReports es fs
@@ -290,9 +291,9 @@ closing_reports_if_fault_is_left pes given c = grind (
   ending_faults_reports_nothing_if_none,
 )
 
--- The checker's step at the end of the file is that of the rules: it has the same two values,
--- whether a fault ended reading, and whether subtitles are unreliable or an event is reported at
--- the end of the file.
+-- The checker's last step at the end of the file has the same two values as the last step by the
+-- rules: whether a fault ended reading, and whether a subtitle is unreliable or an event is
+-- reported at the end of the file.
 pub closing_steps_agree :
     (g : Criteria) (list : Transmission) (pes : ℕ) (last : List (List ℕ)) (c : CheckerValue)
     (given : Option CheckFault) (left more : Bool)

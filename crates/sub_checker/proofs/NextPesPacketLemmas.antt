@@ -1,5 +1,6 @@
--- The Teletext packets of the last PES packet are known after each PES packet, whether it repeats
--- the one before or not.
+-- If a PES packet repeats the last one, and that one was not skipped, both have the same Teletext
+-- packets. After a PES packet that is not skipped, the last Teletext packets are those of this PES
+-- packet.
 use Rattle.std.proofs.Common.{◌≡◌, ◌∙◌, ℕ, Bool, true, false, List, Ok, Option, Result, Some, sym}
 use Rattle.std.proofs.Common.{ap, refl}
 use Rattle.std.proofs.lemmas.Bool.{true≢false}

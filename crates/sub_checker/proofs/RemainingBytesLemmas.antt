@@ -35,7 +35,8 @@ pub complete_units :
 complete_units [] h = tt
 complete_units (u ∷ units) h = (h.0.packet.size, complete_units units h.1)
 
--- The first PES packets of the file were read; the others are in the bytes left.
+-- The first `pes` PES packets of the file, `done`, were read; the other PES packets, `ahead`, are
+-- in the remaining bytes, `rest`.
 pub record ReadsRemainingBytes
     (options : OptionsValue) (bytes : List ℕ) (all : List PesPacket) (unread : Option UnreadReason)
     (remaining : Option (List ℕ)) (pes : ℕ) (done : List PesPacket)

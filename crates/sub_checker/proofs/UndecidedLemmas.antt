@@ -1,5 +1,5 @@
 -- Up to the next cue, the expected page is known in all frames or unknown in all of them. So the
--- checker can compute from which frame on it is known.
+-- checker can compute the first frame from which on the expected page is known.
 use Rattle.std.proofs.lemmas.Bool.Decides.{nat_tests}
 use Rattle.std.proofs.Common.{◌≡◌, ℕ, zero, suc, ◌+◌, ◌-◌, ◌<◌, ◌≤◌, ◌⊎◌, Bool, true, false, ◌&&◌}
 use Rattle.std.proofs.Common.{List, [], ◌∷◌, Option, Some, None, refl, sym, ap, ◌∙◌, arith}
@@ -114,7 +114,8 @@ module _ (undecided : ℕ → Bool) (first f : ℕ) where
           at (inr same) = absurd (omega (arith, l, same))
       by (inr l) rest = let nearer = rest l in grind (arith, nat_tests)
 
-  -- If `within` is 0, only the expected page of the frame itself has to be known.
+  -- If n is 0, the expected page was unknown in frame f or in one of the n frames before exactly if
+  -- the expected page of frame f is unknown.
   pub was-once : (n : ℕ) → n ≡ 0 → was_undecided undecided first f n ≡ undecided f
   unfolding was_undecided
   was-once n none = rw none refl

@@ -1,5 +1,6 @@
--- The packets that arrive of two joined lists are those that arrive of each list. The search for a
--- packet that must not be lost may begin after packets that may be lost.
+-- The packets of two joined lists that arrive are those of the first list that arrive, followed by
+-- those of the second. The search for a packet that must not be lost may begin after packets that
+-- may be lost.
 use Rattle.std.proofs.Common.{◌≡◌, ℕ, ◌+◌, ◌<◌, ◌&&◌, true, false, not, List, [], ◌∷◌, ◌++◌, length}
 use Rattle.std.proofs.Common.{get_or, drop, Option, Some, None, option_map, refl, sym, ap, ◌∙◌}
 use Rattle.std.proofs.Common.{arith}

@@ -1,5 +1,6 @@
--- The receiver that `listen` simulates follows `StepWithRepeats`; also `Step`, unless a header
--- restarts its page; and also `ShowsAt`, if the option `asks_complete` is set.
+-- The receiver that `listen` simulates takes each packet as `StepWithRepeats` requires. If the
+-- receiver does not restart the page at each header, it also follows `Step`. If the option
+-- `asks_complete` is set, its screen follows `ShowsAt`.
 use Rattle.std.proofs.lemmas.Bool.Decides.{nat_tests}
 use Rattle.std.proofs.Common.{◌≡◌, ◌∙◌, ℕ, Bool, true, false, List, [], ◌∷◌, ap, arith}
 use Rattle.ttx_packet.specs.PageId.{PageIdValue}

@@ -114,7 +114,7 @@ packets_and_rest_make_bytes (suc k) b all =
         ∙ ap (λ l. take s b ++ l) rest
         ∙ take-append-drop s b)
 
--- There are at most as many PES packets as bytes.
+-- A list of bytes begins with at most as many PES packets as it has bytes.
 pub pes_packet_count_is_bounded : (k : ℕ) (b : List ℕ) → count_pes_packets k b ≤ length b
 unfolding count_pes_packets
 pes_packet_count_is_bounded zero b = omega arith
@@ -274,7 +274,8 @@ source_failed_in_rest bytes left old mid new k gaps f so_far is part = record {
   rest = inr (f, is, part);
 }
 
--- If storing the file keeps the bytes written to it, a successful extraction stays one.
+-- If extraction succeeded, and storing the file keeps the bytes written to it, extraction is still
+-- successful after the file is stored.
 pub extracted-stored : (known old mid new : Option (List ℕ)) (e : Extracted)
     → Extracts known old mid (Ok e)
     → Keeps mid new
@@ -288,7 +289,8 @@ extracted-stored known old mid new e given kept = λ bytes is.
       written = Appends-kept _ _ _ _ g.written kept;
     }
 
--- If all bytes were written, but the file could not be stored, it received a prefix of the bytes.
+-- If all bytes were written, but the file could not be stored, the file received a prefix of the
+-- bytes.
 pub extracted-lost : (known old mid new : Option (List ℕ)) (e : Extracted)
     → Extracts known old mid (Ok e)
     → Keeps mid new

@@ -115,7 +115,8 @@ keeping_preserves_reading failed old mid (fails f) left kept reads =
 keeping_preserves_reading failed old mid (gives v more) left kept reads = grind
     (arith, nat_tests, keeping_preserves_valid_packet)
 
--- If the first PES packet was found, PES packets are counted from its number in the file.
+-- If the search found the first PES packet and consumed no byte, the listing counts PES packets
+-- from the number of that packet in the file.
 pub listing_counts_from_found_packet : (first : FirstNumber) (number : ℕ)
     (old mid left : Option (List ℕ))
     (old_count mid_count new_count : ℕ) (out : SinkCall) (status : Status)

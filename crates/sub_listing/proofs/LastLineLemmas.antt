@@ -1,5 +1,4 @@
--- If the source of a listing failed, the line about the failure is the only line that is not
--- flushed.
+-- If the source of a listing failed, all lines before the line about the failure were flushed.
 use Rattle.std.proofs.lemmas.Bool.Decides.{nat_tests}
 use Rattle.std.proofs.Common.{◌≡◌, ℕ, ◌+◌, ◌<◌, Bool, true, false, if◌then◌else◌, List, Option}
 use Rattle.std.proofs.Common.{arith, refl}

@@ -102,7 +102,8 @@ taken-to_most (Some b) (Some ys) xs p size bytes e =
     let all : bytes ≡ xs ++ ys = sym (same_Some b bytes e) ∙ p in
     sym (ap (take read_limit) all ∙ take_at xs ys read_limit size)
 
--- If the command `normal` has no memory for more input, it has read at least one byte.
+-- If the command `normal` has read at least one byte, it may report that memory for more input ran
+-- out.
 pub memory-expected : (x y z : Option (List ℕ)) (n : ℕ) (xs ps : List ℕ)
     → n ≤ length ps
     → n ≢ 0

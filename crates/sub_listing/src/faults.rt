@@ -61,7 +61,8 @@ pub fn fault_line_of_check(fault: CheckFault) -> FaultLine
     }
 }
 
-/// Returns the line for a source that failed before the first PES packet was found.
+/// Returns the line for a failed read of a PES file, which names the PES packet `at.pes`, counted
+/// from 0.
 pub fn fault_line_of_failed_read(at: FailedAt) -> FaultLine
     ensures { result ≡ counted_from at.pes (check_line (Pes 0 Read)) }
 {

@@ -1,5 +1,5 @@
--- A header of the page becomes its last header. If the header starts a new text, the rows received
--- before it no longer count.
+-- If a header of the page is received, it becomes the last header of the page, and no row has been
+-- received since it. If the header erases the page, the text of the page has no rows yet.
 use Rattle.std.proofs.Common.{◌≡◌, ℕ, Bool, true, false, not, ◌&&◌, ◌||◌, ◌==◌, cond, List, [], ◌∷◌}
 use Rattle.std.proofs.Common.{◌++◌, Some, None, find, option_map, unwrap_or, refl, ap}
 use Rattle.std.proofs.Common.{arith}

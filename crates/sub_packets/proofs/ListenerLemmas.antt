@@ -1,4 +1,5 @@
--- The listener's state still agrees with the packets received after one more packet of each kind.
+-- If the listener's state agrees with the packets received so far, it still agrees with them after
+-- one more packet of any kind.
 use Rattle.std.proofs.Common.{◌≡◌, ℕ, ◌-◌, ◌≤◌, Bool, true, false, not, ◌&&◌, ◌||◌, List, [], ◌∷◌}
 use Rattle.std.proofs.Common.{◌++◌, Option, Some, None, option_map, length, get_or, set}
 use Rattle.std.proofs.Common.{replicate, refl, sym, ap, arith, get_or-set_other}
@@ -57,8 +58,9 @@ module _ (heard : List (List ℕ)) (p : List ℕ) (s : Listener) (read : Option 
       rw (has_row-push s.watched.page heard p row, is)
       (get_or-replicate 24 (row - 1) false false (omega arith))
 
-  -- At a header that erases the page, a listener that opens and blanks the page, and empties its
-  -- sets of received rows, still agrees with the packets.
+  -- After a header that erases the page, the listener's state agrees with the packets received if
+  -- the listener stores the C11 of the first page header and the header's subcode, opens and blanks
+  -- the page, and empties its sets of received rows.
   pub erasing_header_keeps_knowledge : (h : Header) → kind s.watched.page p ≡ ThisPage h
       → (c4 h || not s.watched.keeps) ≡ true
       → Knows (heard ++ p ∷ []) (record s {
@@ -83,9 +85,10 @@ module _ (heard : List (List ℕ)) (p : List ℕ) (s : Listener) (read : Option 
     again_is = header_leaves_no_row_repeated h is;
   }
 
-  -- At a header with C4 (erase page) clear, if repeats may have it clear, a listener that opens the
-  -- page, keeps the received rows, and empties the set of rows received since the last header,
-  -- still agrees with the packets.
+  -- If repeats may have C4 (erase page) clear, the listener's state agrees with the packets
+  -- received after a header with C4 clear if the listener stores the C11 of the first page header
+  -- and the header's subcode, opens the page, keeps its rows, and empties the set of rows received
+  -- since the last header.
   pub repeating_header_keeps_knowledge : (h : Header) → kind s.watched.page p ≡ ThisPage h
       → (c4 h || not s.watched.keeps) ≡ false
       → Knows (heard ++ p ∷ []) (record s {
@@ -113,8 +116,9 @@ module _ (heard : List (List ℕ)) (p : List ℕ) (s : Listener) (read : Option 
         let more = last_header-push s.watched.page heard p in
         grind (arith, nat_tests)
 
-    -- At a packet that is neither a header of the page nor a row of the open page, a listener that
-    -- changes no row, and closes the page if the packet ends it, still agrees with the packets.
+    -- After a packet that is neither a header of the page nor a row of the open page, the
+    -- listener's state agrees with the packets received if the listener stores the C11 of the first
+    -- page header, changes no row, and closes the page exactly if the packet ends the page.
     pub other_packet_keeps_knowledge : (opened : Bool)
         → opened ≡ (s.is_open && not (ends_page (kind s.watched.page p)))
         → ((row : ℕ) → 1 ≤ row → row ≤ 24 → s.is_open ≡ true

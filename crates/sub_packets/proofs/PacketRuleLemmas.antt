@@ -1,4 +1,4 @@
--- A packet of each kind can break only some of the rules.
+-- Each kind of packet can break only some of the rules.
 use Rattle.std.proofs.lemmas.Bool.Decides.{nat_tests}
 use Rattle.std.proofs.lemmas.Bool.Decides.{same_from_decides}
 use Rattle.std.proofs.Common.{◌≡◌, ℕ, Bool, true, false, not, ◌&&◌, ◌==◌, cond}

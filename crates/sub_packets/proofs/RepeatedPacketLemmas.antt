@@ -1,4 +1,5 @@
--- Packets that are sent again break the same rules, and the listener's state stays the same.
+-- If packets that begin with a header that erases the page are sent again, they break the same
+-- rules, and the listener's state stays the same.
 use Rattle.std.proofs.lemmas.Bool.Decides.{nat_tests}
 use Rattle.std.proofs.Common.{◌≡◌, ℕ, zero, suc, ◌<◌, Bool, true, not, ◌&&◌, ◌||◌, cond, List, []}
 use Rattle.std.proofs.Common.{◌∷◌}
@@ -63,7 +64,8 @@ first_header_is_unchanged_by_repeat : (o : Option Header) (h : Header)
     → option_or o (Some h) ≡ option_or (option_or o (Some h)) (Some h)
 first_header_is_unchanged_by_repeat o h = grind arith
 
--- A repeated header breaks the rule for C11 if and only if it did before.
+-- A header that is sent again breaks the rule for C11 (magazine serial) exactly if it broke that
+-- rule the first time.
 mode_is_the_same : (o : Option Header) (h : Header)
     → has_different_mode (option_map (λ (x : Header). c11 x) (option_or o (Some h))) (Some (c11 h))
     ≡ has_different_mode (option_map (λ (x : Header). c11 x) o) (Some (c11 h))
@@ -89,8 +91,8 @@ module _
     last_header_after_page_header xs more h e =
         let both = last_header-append w.page xs (first ∷ more) in grind (arith, nat_tests)
 
-    -- After a header that erases the page, earlier packets no longer matter, except for the first
-    -- page header.
+    -- If the packet `first`, a header that erases the page, is sent again, the packets from that
+    -- header on have the same effect as if `first` and `others` had not been sent before.
     alike :
         (others more : List (List ℕ))
         → HaveSameEffect w (heard ++ first ∷ more) ((heard ++ first ∷ others) ++ first ∷ more)
@@ -210,9 +212,9 @@ received_again heard last ps headers s known is same =
           (grind (arith, nat_tests))),
     )
 
--- The listener's state agrees with the packets received last if it stores their number of headers
--- of the page when they begin with a header that starts a new text and break no rule, and `None`
--- otherwise.
+-- Let a listener whose state agrees with all packets store how many headers of the page the packets
+-- `ps` contain if these begin with a header that erases the page and break no rule, and `None`
+-- otherwise. Then the state also agrees with `ps` as the packets received last.
 pub kept_last :
     (w : Watched) (heard ps : List (List ℕ)) (headers from : ℕ) (before begun begins clean : Bool)
     (s : Listener)

@@ -1,4 +1,5 @@
--- An empty set of rules has no events; otherwise the events begin with the first rule of the set.
+-- An empty set of rules has no events; otherwise the events begin with the event of the first rule
+-- in the set.
 use Rattle.std.proofs.Common.{◌≡◌, ℕ, suc, ◌+◌, ◌*◌, ◌/◌, ◌%◌, ◌<◌, Bool, true, false, ◌==◌}
 use Rattle.std.proofs.Common.{List, [], ◌∷◌, ◌++◌, length, get_or, drop, map, refl, ◌∙◌, ap}
 use Rattle.std.proofs.Common.{arith, cond, drop-cons}
@@ -15,8 +16,8 @@ empty_rule_set_filters_nothing test [] e = refl
 empty_rule_set_filters_nothing test (r ∷ rules) e = grind
     (arith, nat_tests, empty_rule_set_filters_nothing test rules)
 
--- The lowest bit of a rule set belongs to its first rule; half of the set is the set of the other
--- rules.
+-- A rule set is a number whose lowest bit is 1 exactly if the first rule is in the set. Half of
+-- that number, rounded down, is the set of the other rules.
 lowest_bit_and_quotient : (b : Bool) (n : ℕ)
     → (((cond b 1 0 + 2 * n) % 2 == 1) ≡ b) × ((cond b 1 0 + 2 * n) / 2 ≡ n)
 lowest_bit_and_quotient true n = let bit : (1 + 2 * n) % 2 ≡ 1 = omega arith

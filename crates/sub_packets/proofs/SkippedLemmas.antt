@@ -102,8 +102,8 @@ module _
                 (λ row low high opened. grind (arith, nat_tests));
           }
 
-    -- The header has the C11 of the first page header, is no header of the page, and does not end
-    -- the page if that is open.
+    -- The following lemmas are about a correctly coded page header that has the C11 of the first
+    -- page header, is no header of the page, and does not end the page if the page is open.
     module _ (none : a.packet_number ≡ 0) (coded : HasExactHeader p) (h : Header)
         (says : decoded_header p ≡ Some h)
         (passes : can_skip_header a.magazine h s ≡ true) where

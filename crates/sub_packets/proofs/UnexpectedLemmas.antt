@@ -1,5 +1,5 @@
--- The expected page stays the same between two of its changes. So all codes that were expected
--- within the last frames can be removed from the page, and the first code left is the first
+-- The expected page stays the same between two cues. So each code that was expected within the last
+-- frames can be replaced by a space, and the first code left other than a space is the first
 -- unexpected one.
 use Rattle.std.proofs.lemmas.Bool.Decides.{nat_tests}
 use Rattle.std.proofs.lemmas.List.{get_or-replicate}
@@ -50,8 +50,8 @@ module _ (page : ℕ → Rows) (first f : ℕ) where
   was_due-same n (suc m) row column code low same =
       grind (arith, nat_tests, was_due-one, (was_due-same n m row column code))
 
-  -- If each code expected at frame f is replaced by a space, no code but a space is left that was
-  -- expected at f.
+  -- If `left` is the page `shown` in which each code expected at frame f is replaced by a space,
+  -- `left` lacks exactly the codes that were expected at frame f.
   pub removing_first_page_leaves_others : (shown left : Rows)
       → ((row column : ℕ) → IsCell row column
       → cell left row column ≡ space_if_due (cell (page f) row column) (cell shown row column))
@@ -60,9 +60,10 @@ module _ (page : ℕ → Rows) (first f : ℕ) where
   removing_first_page_leaves_others shown left cells row column is =
       let none : f - f ≡ 0 = omega arith in rw none (cells row column is)
 
-  -- If the codes expected at an earlier frame are replaced by spaces as well, no code but a space
-  -- is left that was expected from that frame to frame f, because the expected page is the same at
-  -- all frames after that frame up to frame `at`.
+  -- Let `left` lack exactly the codes that were expected from frame `at` to frame f, and let the
+  -- expected page be the same in all frames after `before` up to `at`. If the codes expected at
+  -- frame `before` are replaced by spaces as well, the page lacks exactly the codes that were
+  -- expected from frame `before` to frame f.
   pub removing_earlier_page_leaves_others : (at before : ℕ) (shown left new : Rows)
       → before < at
       → at ≤ f

@@ -1,4 +1,4 @@
--- The stored page is the one that the packets show, so its first wrong cell is the first wrong cell
+-- The stored page agrees with the packets received, so its first wrong cell is the first wrong cell
 -- by the rules.
 use Rattle.std.proofs.lemmas.Bool.Decides.{nat_tests}
 use Rattle.std.proofs.Common.{◌≡◌, ℕ, ◌+◌, ◌-◌, ◌<◌, ◌≤◌, ◌⊎◌, ◌||◌, ◌==◌, Bool, true, false, not}
@@ -195,8 +195,8 @@ differing_found :
     → IsFirstFoundCell test o
 differing_found test a b o is same = grind (arith, nat_tests)
 
--- If a test passes exactly the cells in which two pages differ, the first difference is the first
--- cell that passes.
+-- If exactly the cells in which two pages differ pass a test, the first of these cells is the first
+-- cell that passes the test. If the pages do not differ, no cell passes the test.
 pub first_difference :
     (test : ℕ → ℕ → Bool) (a b : Rows) (o : Option (ℕ × ℕ))
     → ((row column : ℕ)
@@ -231,7 +231,8 @@ earlier_cell_is_first_of_either : (ta tb : ℕ → ℕ → Bool) (a b : Option (
 earlier_cell_is_first_of_either ta tb a b na nb = grind (arith, nat_tests, first_alone, first_of)
 
 module _ (s : Listener) where
-  -- The stored cell differs from the expected page.
+  -- The code in the cell of the stored page differs from the code in that cell of the expected
+  -- page.
   abbrev other : ℕ → ℕ → Bool
   other row column =
       not (cell s.comparison.page row column == cell s.comparison.due row column)

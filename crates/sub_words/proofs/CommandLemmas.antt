@@ -177,8 +177,8 @@ error_kind_is_listed kinds e has other none = elim has [
   | inr among ↦ subst (IsAmong (kind_of e)) none among
 ]
 
--- If clap refuses the arguments for a reason other than lack of memory, the condition of the fault
--- `Words` in `IsFaultOfCommand` is true.
+-- If clap refuses the arguments of the program for a reason other than lack of memory,
+-- `clap_refusals` lists a reason to refuse the arguments, and clap is not required to accept them.
 pub IsFaultOfCommand-refused : (app : App) (arguments : List Text) (e : Error)
     → app ≡ subttx_app
     → (is_simple_and_free app ≡ true → FailsBy {T = ArgMatches} (fault_of app arguments) (Err e))

@@ -1,5 +1,6 @@
--- If their bytes are known, `check_files` accepts two files exactly if they are accepted with the
--- options, unless a source fails or memory cannot be allocated.
+-- If the bytes of both files are known, `check_files` accepts the files exactly if the subtitle
+-- file gives a programme and the PES file has a good transmission of that programme, unless a
+-- source fails or memory cannot be allocated.
 use Rattle.std.proofs.lemmas.Bool.Decides.{nat_tests}
 use Rattle.std.proofs.Common.{arith}
 use Rattle.stl_rows.specs.Layout.{drawing_within}

@@ -1,5 +1,5 @@
--- The events reported so far, followed by those of the remaining rules, are all changes at the end
--- of the frame.
+-- The events reported so far, followed by those of the remaining rules, are the events of all rules
+-- that are checked at the end of a frame.
 use Rattle.std.proofs.Common.{List, drop, flat_map}
 use Rattle.sub_io.specs.Reporting.{Reports}
 use Rattle.sub_rules.specs.Events.{place_of_broken_rule, end_rules, rule_events}

@@ -1,5 +1,5 @@
--- Storing the file does not change the bytes written to it. If it could not be stored, it received
--- a prefix of the bytes.
+-- Storing the file does not change the bytes written to it. If the file could not be stored, it
+-- received a prefix of the bytes.
 use Rattle.sub_listing.proofs.ExtractingLemmas.{extracted-stored, extracted-lost}
 use Rattle.sub_listing.proofs.extract.write_pes_packets.Goals as goal
 

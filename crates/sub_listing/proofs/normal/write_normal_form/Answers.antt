@@ -1,5 +1,5 @@
--- The first bytes of a file determine its normal form, and storing a file does not change the bytes
--- written to it.
+-- The first 12,800,897 bytes of a file determine its normal form, and storing a file does not
+-- change the bytes written to it.
 use Rattle.std.proofs.Common.{Ok, Err}
 use Rattle.std.proofs.KnownBytes.{Appends-kept}
 use Rattle.sub_io.proofs.DeviceLemmas.{AppendsPrefix-whole}

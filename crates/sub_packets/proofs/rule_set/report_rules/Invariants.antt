@@ -1,4 +1,5 @@
--- The events reported so far, followed by those of the remaining rules, are all events of the set.
+-- The events reported so far, followed by those of the remaining rules, are the events of all rules
+-- in the set.
 use Rattle.std.proofs.Common.{◌≡◌, Bool, drop, map}
 use Rattle.std.specs.List.{filter}
 use Rattle.sub_io.specs.Reporting.{Reports}

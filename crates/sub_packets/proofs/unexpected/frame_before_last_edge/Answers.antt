@@ -1,4 +1,4 @@
--- The expected page stays the same between two of its changes.
+-- The expected page stays the same between two cues.
 use Rattle.std.proofs.Common.{arith}
 use Rattle.sub_packets.proofs.UnexpectedLemmas.{due_page_is_constant_between_cues}
 use Rattle.sub_packets.proofs.unexpected.frame_before_last_edge.Goals as goal

@@ -1,4 +1,5 @@
--- The loop goes back to each earlier expected page.
+-- Each iteration of `page_without_due_codes` goes back to an earlier expected page and replaces the
+-- codes of that page by spaces in `left`.
 use Rattle.std.proofs.Common.{arith}
 use Rattle.sub_plan.specs.Schedule.{due_page_in}
 use Rattle.sub_packets.proofs.UnexpectedLemmas.{constant_page_leaves_same_codes}

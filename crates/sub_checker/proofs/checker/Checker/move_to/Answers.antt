@@ -1,4 +1,4 @@
--- The expected page stays the same until its next change, so it need not be drawn again.
+-- The expected page stays the same until the next cue, so the checker need not draw the page again.
 use Rattle.std.proofs.Common.{ap, ◌∙◌, sym}
 use Rattle.sub_checker.specs.Checker.{CheckerValue, at_frame}
 use Rattle.sub_checker.proofs.EdgeLemmas.{IsAtFrame-later, IsJudged-later, at_frame-stays}

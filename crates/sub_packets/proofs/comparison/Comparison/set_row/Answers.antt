@@ -1,4 +1,5 @@
--- The number of wrong cells changes by the difference of the changed row.
+-- If a row of the page is replaced, the number of wrong cells of the page changes by as much as the
+-- number of wrong cells of that row.
 use Rattle.std.proofs.Common.{arith}
 use Rattle.ttx_page.proofs.DifferingLemmas.{page_difference_bounds_row, differing_cells_are_bounded}
 use Rattle.ttx_page.proofs.DifferingLemmas.{rows-set}

@@ -1,4 +1,5 @@
--- The address, or the page header, shows that the packet can be skipped.
+-- If `can_be_skipped` returns true, the address of the packet, or its page header, proves that the
+-- packet can be skipped.
 use Rattle.std.proofs.lemmas.Bool.{not-true}
 use Rattle.sub_packets.proofs.SkippedLemmas.{skipped_header_is_of_another_page}
 use Rattle.sub_packets.proofs.SkippedLemmas.{other_packet_is_no_header}

@@ -1,5 +1,5 @@
--- In the rows examined so far, `missing` has spaces in the rows that were sent; the other rows have
--- the expected codes.
+-- In the rows examined so far, `missing` has spaces in each row that was received since the last
+-- header of the page; all other rows have the expected codes.
 use Rattle.std.proofs.Common.{◌≡◌, ℕ, ◌-◌, ◌<◌, ◌≤◌, cond, false, get_or}
 use Rattle.ttx_page.specs.Page.{IsCell, cell, space}
 use Rattle.sub_packets.proofs.listener.Listener.missing.Given as goal
