@@ -1,5 +1,6 @@
 -- Each test computes the states of one receiver. If this receiver fails, the transmission is not
--- robust. If only one fault affects receivers, the rule for it is necessary.
+-- robust. If only one fault of the transmission affects receivers, the rule for this fault is
+-- necessary.
 use Rattle.std.proofs.lemmas.Bool.Decides.{nat_tests, Decides-and, Decides-like, Decides-ltb}
 use Rattle.std.proofs.lemmas.List.Elements.{recursion_from_All}
 use Rattle.std.proofs.lemmas.List.Kept.{AllPairs-cons}
@@ -63,9 +64,9 @@ listening frames a b g j f e = grind (arith, nat_tests, and_parts, nat_le, leb-t
 abbrev is_wrong : ℕ → ℕ → Bool
 is_wrong code due = not (code == due) && not (code == space)
 
--- The receiver fails: no header was sent within the repeat bound; or it has received a header
--- although none was sent, or none although one was sent; or a header was sent, and the cell in row
--- 1 and column 0 has neither the expected code nor a space.
+-- The receiver fails: it listened for the repeat bound and no header was sent; or it has received a
+-- header although none was sent, or none although one was sent; or a header was sent, and the cell
+-- in row 1 and column 0 has neither the expected code nor a space.
 abbrev is_not_served : ProgrammeValue → OptionsValue → ℕ → ℕ → List (List ℕ) → State → Bool
 is_not_served programme o g f sent new =
     (nat_le (g + o.every) f && not (has_page_header (kind o.page) sent))

@@ -13,9 +13,9 @@ use Rattle.sub_files.specs.declared.opening.OpenedFiles.TheVariants.{Nothing, Re
 use Rattle.sub_files.specs.declared.opening.OpenedFiles.TheVariants.{ReadStl}
 use Rattle.sub_files.specs.declared.opening.OpenedFiles.TheVariants.{Extract, Write}
 
--- The calls for an output file after the input was opened. If the output is another file, it is
--- created; otherwise no further call is made, and no file is returned. `opened` combines both
--- files.
+-- The calls for an output file after the input was opened. If the output may be created, one call
+-- tries to create it, and `opened` combines both files; otherwise no further call is made, and no
+-- file is returned.
 abbrev pub CreatesDistinctFile :
     {I O : Type 0}
     → (O → OpenedFiles I O) → Bool → (output : List ℕ) → List (FileCall I O) → Option
@@ -26,8 +26,9 @@ CreatesDistinctFile opened true output (Create name file ∷ []) result =
 CreatesDistinctFile opened false output [] result = result ≡ None
 CreatesDistinctFile opened may_be_created output calls result = ⊥
 
--- The calls that open an input and create an output. After the input was opened, both names and
--- standard output are looked up, and the output is created only if it is another file.
+-- The calls that open an input and create an output. If the input can't be opened, no further call
+-- is made. Otherwise both names and standard output are looked up, and the output is created only
+-- if `may_create` permits it.
 abbrev pub OpensAndCreates :
     {I O : Type 0}
     → (I → O → OpenedFiles I O) → (input output : List ℕ) → List (FileCall I O) → Option
@@ -62,7 +63,8 @@ Opens (names.Extract recording output) calls result =
     OpensAndCreates Extract recording output calls result
 Opens _ _ _ = ⊥
 
--- The device made calls that open the files of a request, with this result.
+-- The device made exactly the calls that `Opens` allows for the files of a request, with this
+-- result: the opened files, or `None` if not all of them were opened or created.
 pub record OpensWithCalls
     {I O : Type 0} (AreMade : List (FileCall I O) → Type 0) (names : FileNames)
     (result : Option (OpenedFiles I O))
@@ -83,9 +85,10 @@ total_buffer_size (names.Write stl output) = 2 * buffer_size
 total_buffer_size (names.Extract recording output) = 2 * buffer_size
 total_buffer_size _ = buffer_size
 
--- The reason why no files are opened. `Memory`: memory ran out before any call. `Open`: the call
--- for one of the files failed, or creating the output might empty the input or is known to empty
--- the file that receives standard output.
+-- The reason why a request gets no files. `Memory`: the device made no call, since memory ran out
+-- before. `Open`: the device made the calls of `Opens`, but a file could not be opened or created,
+-- or creating the output might empty the input or is known to empty the file that receives standard
+-- output. No other fault is a reason.
 abbrev pub IsOpeningFault :
     {I O : Type 0} → (List (FileCall I O) → Type 0) → FileNames → UsageFault → Type 0
 IsOpeningFault AreMade names usage.Memory = AreMade []

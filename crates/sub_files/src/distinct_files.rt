@@ -6,7 +6,7 @@ ghost use Rattle.sub_files.specs.DistinctFiles.{differs_from_standard_output, di
 /// The result of looking up a file by its name.
 #[derive(Clone, Copy, Debug, PartialEq, Eq)]
 pub enum LookupResult {
-    /// No file has this name; or standard output keeps nothing, or is unknown.
+    /// No file has this name; or standard output keeps nothing, or can't be looked up.
     NothingFound,
     /// A file with this device and inode.
     At(u64, u64),

@@ -27,7 +27,7 @@ pub trait FileSystem {
         ensures { is_call self.old (FileCall.LookUp name.now result) self.new };
 
     /// Looks up the file, pipe, terminal or socket that receives standard output. Returns
-    /// `NothingFound` if standard output is a device that keeps nothing, or unknown.
+    /// `NothingFound` if standard output is a device that keeps nothing, or can't be looked up.
     fn look_up_standard_output(&mut self) -> LookupResult
         ensures { is_call self.old (FileCall.LookUpStandardOutput result) self.new };
 

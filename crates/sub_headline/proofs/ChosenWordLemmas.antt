@@ -1,5 +1,5 @@
--- The arguments `check STL PES`, followed by options, give the request with the values of these
--- options.
+-- If the arguments `check STL PES`, followed by options, are a request, it is a check of these two
+-- files with the values of the options.
 use Rattle.std.proofs.Common.{◌≡◌, ◌∙◌, Bool, true, false, List, [], ◌∷◌, ◌++◌, Option, Some}
 use Rattle.std.proofs.Common.{ℕ, None, Ok, Err, refl, sym, ap, arith, codes, drop, ◌^◌, ◌-◌}
 use Rattle.std.proofs.Common.{inl, inr, subst, append_assoc, append-nil}
@@ -153,11 +153,13 @@ abbrev parsed_option_text : {A : Type 0} → (Text → Option A) → Option Text
 parsed_option_text parse text =
     option_map_or (λ text. option_map Some (parse text)) text (Some None)
 
--- The number of frames in the text of `--pace`: at least 1, and at most the frames of a day.
+-- The number of frames in the text of `--pace`; `None` if the text is not a number from 1 to the
+-- number of frames of a day.
 abbrev pace_of_text : Text → Option ℕ
 pace_of_text text = between 1 day (number_of_text text)
 
--- The values of the arguments give the settings `l` for reading and drawing.
+-- The values of the arguments give the settings `l` for reading and drawing, in which `within` is
+-- 0, and each header of the page has to erase the page.
 record OptionsHaveValues (held : Text → List (List Text)) (l : CheckRecordingSettings) : Type 0
   where
     pub page_is :
@@ -526,7 +528,7 @@ scope_eq rows from to also scope from_eq to_eq open_eq from_says to_says open_sa
       open_says,
     ) refl
 
--- The arguments contain `--all`.
+-- The value of the argument `all`, by default `false`, is `true`, as after `--all`.
 abbrev lists_all : (Text → List (List Text)) → Bool
 lists_all held = bytes_eq
     (text_or_default (codes "false") (held (codes "all"))) (codes "true")
@@ -615,7 +617,7 @@ options_allow_no_delay_or_keeping parts =
     let m = options_keep_meaning nothing (settings_of_options []) parts no_options_give_defaults in
     (m.within_option_is_zero, m.keeps_is_false)
 
--- After the name of a command, all words are arguments of this command.
+-- After the name of a command, all further words are added to the arguments of this command.
 finished_walk_collects_words : (c : List Rule) (names : Names) (name : Text)
     (arguments more : List Text) (w : Walk)
     → w.stopped ≡ Some (name, arguments)

@@ -1,5 +1,6 @@
--- Files contain subtitles and a transmission exactly if they match the formats. A transmission is
--- good exactly if it is good by the rules for English.
+-- Files contain subtitles and a transmission exactly if they match the formats. If the subtitles
+-- are drawn as their English pages, a transmission is good, with complete pages if they are
+-- required, exactly if it is good by the rules for English.
 use Rattle.std.proofs.Common.{◌≡◌, ◌∙◌, ℕ, Bool, false, List, Result, ap, subst, sym}
 use Rattle.std.specs.Prelude.{All, IsFalse, IsOk, IsTrue}
 use Rattle.ttx_packet.specs.declared.header.Header.{Header}

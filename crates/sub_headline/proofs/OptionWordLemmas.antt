@@ -1,4 +1,5 @@
--- The options after `check STL PES` add their values to the values of the arguments.
+-- Each option after `check STL PES` replaces the values of its own argument, and does not change
+-- the values of the other arguments.
 use Rattle.std.proofs.Common.{◌≡◌, ◌∙◌, ℕ, Bool, true, false, List, [], ◌∷◌, Option, Some}
 use Rattle.std.proofs.Common.{None, refl, sym, ap, arith, codes, drop, subst}
 use Rattle.std.proofs.lemmas.Bool.Decides.{nat_tests}
@@ -122,7 +123,8 @@ range_is_name (x ∷ xs) range is = λ e.
     let at : x ≡ 0x2D = cc in
     hyphen_begins_no_range xs range (subst (λ (c : ℕ). range_of_text (c ∷ xs) ≡ Some range) at is)
 
--- The state of the argument parser `clap` after the name of an option, before its value.
+-- The state of the argument parser `clap` after the names of both files and the name of an option,
+-- before the option's value.
 abbrev walk_at_option : Text → Held → Walk
 walk_at_option id h = record {
   held = h;

@@ -1,5 +1,5 @@
--- A word that is not an option is a value. So two such words are the names of the two files, and
--- request a check with the default options.
+-- A word that does not begin with a hyphen is a value. So two such words after the name of the
+-- command are the names of the two files, and request a check with the default options.
 use Rattle.std.proofs.Common.{◌≡◌, ◌∙◌, ℕ, Bool, false, List, [], ◌∷◌, Option, Some, None}
 use Rattle.std.proofs.Common.{Ok, Result, refl, sym, ap, arith, codes, inl, inr}
 use Rattle.std.proofs.lemmas.Bool.Decides.{nat_tests}

@@ -1,5 +1,5 @@
--- An argument, found by its id, has the values with which it was used last, or its default values
--- if it was not used.
+-- For an argument with at most one row, `set_row` replaces the earlier values, and it never changes
+-- the values of other arguments. An argument without a row gets its default values, if it has any.
 use Rattle.std.proofs.Common.{◌≡◌, ◌∙◌, Bool, true, false, List, [], ◌∷◌, ◌++◌, Option, Some}
 use Rattle.std.proofs.Common.{None, refl, sym, ap, drop}
 use Rattle.std.proofs.lemmas.Slice.Eq.{bytes_eq-Decides}
@@ -16,7 +16,8 @@ abbrev pub values_at : Text → List Row → List (List Text)
 values_at id [] = []
 values_at id (r ∷ rs) = if bytes_eq r.id id then r.values ∷ values_at id rs else values_at id rs
 
--- The first text in the first of these lists of values, if any.
+-- The first text in the first of these lists of values; `None` if there are no lists, or the first
+-- list is empty.
 abbrev pub first_text : List (List Text) → Option Text
 first_text [] = None
 first_text (v ∷ vs) = slice_get v 0
@@ -25,7 +26,8 @@ abbrev is_present : List (List Text) → Bool
 is_present [] = false
 is_present (v ∷ vs) = true
 
--- The rows after an argument was used again: the new values replace its earlier ones.
+-- The rows after an argument was used again: its first row is removed, and the new values are
+-- added. So the new values replace the earlier ones if the argument had at most one row.
 abbrev pub set_row : Text → Reading → List Text → List Row → List Row
 set_row id how option_values rows = with_values id how CommandLine option_values (without id rows)
 
@@ -63,7 +65,8 @@ module _ (id other : Text) (apart : bytes_eq id other ≡ false) where
   row_has_no_other_id r is = ap (λ (x : Text). bytes_eq x other) (equal_bytes_mean_equal_ids r.id id
       is) ∙ apart
 
-  -- Changing the rows with one id does not change the values for another id.
+  -- Suppose that neither the rows that replace a row with the id `id` nor the rows that are added
+  -- if there is none change the values for the id `other`. Then `at_row` does not change them.
   module _ (change : Row → List Row) (missing : List Row)
       (changed : (r : Row) → bytes_eq r.id other ≡ false
       → (rs : List Row) → values_at other (change r ++ rs) ≡ values_at other rs)
@@ -171,7 +174,7 @@ module _ (id : Text) (same : bytes_eq id id ≡ true) where
       new_value_is_only_value how CommandLine option_values (without id rows)
       (removal_drops_first_value rows ∙ short)
 
--- The given values, or the default values if there are none.
+-- The given values; if there are none, the default values, if there are any.
 abbrev pub or_default : List (List Text) → List Text → List (List Text)
 or_default [] [] = []
 or_default [] (v ∷ vs) = (v ∷ vs) ∷ []

@@ -1,5 +1,5 @@
--- The cells of an English page show the characters of its text. If the headline is true, it is also
--- true for the screens of every receiver.
+-- The cells of an English page show the characters of its text. If a cell of a receiver has the
+-- expected code, or a space because of an error, it shows the expected character, or a space.
 use Rattle.std.proofs.lemmas.Bool.Decides.{nat_tests}
 use Rattle.std.proofs.Common.{arith}
 use Rattle.std.proofs.Common.{◌≡◌, ◌⊎◌, ◌∙◌, ℕ, Bool, List, Some, None, ap, inl, inr}

@@ -31,8 +31,9 @@ chunks_are_blocks (b ∷ bs) each =
 abbrev IsNoComment : List ℕ → Type 0
 IsNoComment b = cf b ≡ 0
 
--- If a block with CF 0 (no comment) is part of a subtitle by the format of the file, it is part of
--- one by the test of the fixed positions of EBN and CF.
+-- Let e be the EBN and c the CF of a block. If c is 0 (no comment) and the block is part of a
+-- subtitle by the format of the file, it also passes the simpler test that e is not FE and c is not
+-- 01.
 kept_block_is_of_subtitle : (e c : ℕ)
     → c ≡ 0
     → not ((e == 0xFE) || ((nat_lt e 0xF0 || (e == 0xFF)) && (c == 0x01))) ≡ true
@@ -141,8 +142,8 @@ blocks_give_subtitle t g of =
       text_eq,
     ) refl
 
--- The blocks are those of one subtitle: all have the same SGN and SN, and only the last has the EBN
--- FF.
+-- The blocks, at least one, are those of one subtitle: all have CF 0 (no comment) and the same SGN
+-- and SN, the last has the EBN FF, and the others have an EBN from 00 to EF.
 abbrev AreBlocksOfOneSubtitle : List (List ℕ) → Type 0
 AreBlocksOfOneSubtitle g = (sgn_is : ℕ) × (sn_is : ℕ) × AreLinked sgn_is sn_is g
 

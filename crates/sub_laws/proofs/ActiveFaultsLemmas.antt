@@ -151,7 +151,8 @@ module _ (g : Criteria) (frames : Transmission) (n f : ℕ) where
       not (is_right_cell g.watched.keeps g.watched.page (packets_before frames n) (g.due f) row
       column)
 
-  -- The first cell that is wrong at the end of frame f, even if the page expected there is unknown.
+  -- The first cell that differs from the page `g.due f` at the end of frame f, even if the expected
+  -- page of this frame is unknown; `None` if no cell differs.
   abbrev first_wrong_cell_of_page : Option (ℕ × ℕ)
   first_wrong_cell_of_page = first_wrong_cell_after g.watched.keeps g.watched.page
       (packets_before frames n) (g.due f)

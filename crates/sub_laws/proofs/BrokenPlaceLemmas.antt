@@ -1,5 +1,6 @@
--- A transmission without faults keeps rules 1 to 6. A fully read transmission that keeps them has
--- no faults if none is active at any frame end and no unfinished page may still become correct.
+-- If the repeat bound is not 0 and all packets have 42 bytes, a transmission without faults keeps
+-- rules 1 to 6. A fully read transmission that keeps them has no faults if none is active at any
+-- frame end and no unfinished page may still become correct.
 use Rattle.std.proofs.lemmas.Bool.Decides.{nat_tests}
 use Rattle.std.proofs.Common.{◌≡◌, ℕ, ◌+◌, ◌-◌, ◌<◌, ◌≤◌, inl, inr, true, false, List, [], ◌∷◌}
 use Rattle.std.proofs.Common.{◌++◌, Option, Some, None, length, take, get_or, refl, sym, ap, ◌∙◌}

@@ -1,6 +1,6 @@
--- If a wrong cell is the first fault, receivers that start with a blank page, receive each bit
--- correctly, and keep the page at headers with C4 (erase page) clear have a wrong code in this
--- cell, or its row was not sent again.
+-- If a wrong cell is the first fault, receivers that start with a blank page that is not open,
+-- receive each bit correctly, and keep the page at headers with C4 (erase page) clear have a wrong
+-- code in this cell, or its row was not sent again.
 use Rattle.std.proofs.lemmas.Bool.Decides.{nat_tests}
 use Rattle.std.proofs.Common.{List, [], subst, ◌≡◌, ℕ, ◌-◌, ◌<◌, ◌≤◌, inl, inr, Bool, true}
 use Rattle.std.proofs.Common.{false, Option, Some, None, length, take, drop, refl, sym, ap}

@@ -1,5 +1,5 @@
--- If a PES file carries a transmission with some `within`, it carries the same transmission with
--- any greater `within`.
+-- If the origin is less than 2^33, and a PES file carries a transmission with some `within`, the
+-- file carries the same transmission with any greater `within`.
 use Rattle.std.proofs.lemmas.Bool.Decides.{nat_tests}
 use Rattle.std.proofs.Common.{◌≡◌, ℕ, zero, suc, ◌^◌, ◌<◌, ◌≤◌, ◌==◌, false, List, [], ◌∷◌, Some}
 use Rattle.std.proofs.Common.{refl, sym, ap, ◌∙◌, subst, arith}
@@ -15,8 +15,8 @@ use Rattle.sub_laws.specs.DelayOfFiles.{LawOfLongerDelayOfFiles}
 use Rattle.sub_laws.proofs.JoinedRisingLemmas.{joined-rising}
 use Rattle.sub_laws.proofs.RepeatLemmas.{law_of_longer_delay_with_repeats}
 
--- If a PTS belongs to a frame with some `within`, it belongs to the same frame with any greater
--- `within`.
+-- If the origin is less than 2^33, and a PTS belongs to a frame with some `within`, the PTS belongs
+-- to the same frame with any greater `within`.
 clock_longer :
     (within more origin pts frame : ℕ)
     → origin < 2 ^ 33
@@ -50,7 +50,7 @@ read_longer within more origin low longer (v ∷ values) (s ∷ frames) each = (
   read_longer within more origin low longer values frames each.1,
 )
 
--- A `within` of n + 1 frames is not 0, so it merges consecutive PES packets of one frame.
+-- A `within` of n + 1 frames is not 0.
 positive_delay_is_not_zero : (n : ℕ) → (suc n == 0) ≡ false
 positive_delay_is_not_zero n = grind (arith, nat_tests)
 
@@ -71,8 +71,8 @@ positive_delays_join_the_same within more sent (s ∷ frames) =
     ∙ ap (λ (x : Transmission). joined_after (suc more) x frames) (positive_delays_send_the_same
     within more sent s)
 
--- If the frames that PES packets give with some `within` increase, the PES packets give the same
--- frames with any greater `within`.
+-- If PES packets give frames with increasing numbers with some `within`, they give the same frames
+-- with any greater `within`.
 joined_longer :
     (within more : ℕ) (sendings frames : Transmission)
     → within ≤ more

@@ -73,13 +73,14 @@ module _ (keeps : Bool) (page : PageIdValue) (packets : List (List ℕ)) (due : 
   abbrev code_at : ℕ → ℕ → ℕ
   code_at row column = kept keeps page packets row column
 
-  -- The cell has a space, or a code that was expected in it at frame f or before, as in `WasDue`.
+  -- The cell has a space, or a code that was expected in it at frame f or at one of the n frames
+  -- before f. Of the frames before f, those before `first` do not count.
   abbrev pub MayShow : ℕ → ℕ → Type 0
   MayShow row column =
       (code_at row column ≡ space) ⊎ WasDue due first f row column (code_at row column) n
 
-  -- The cell has a code other than a space that was not expected in it at frame f or in the n
-  -- frames before f, from frame `first` on.
+  -- The cell has a code other than a space that was expected in it neither at frame f nor at any of
+  -- the n frames before f. Of the frames before f, those before `first` do not count.
   abbrev is_unexpected : ℕ → ℕ → Bool
   is_unexpected row column =
       not (code_at row column == space)

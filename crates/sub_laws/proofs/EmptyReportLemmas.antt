@@ -1,5 +1,6 @@
--- If the subtitles are valid and none was rejected, a PES file has no event if and only if no PES
--- packet is skipped, its frames are good, and the entire file was read.
+-- If the subtitles are valid, none was rejected, the repeat bound is not 0 and all packets have 42
+-- bytes, a PES file has no event if and only if no PES packet is skipped, its frames are good, and
+-- the entire file was read.
 use Rattle.std.proofs.Common.{◌≡◌, List, [], ◌∷◌, map, refl, sym, ap, ◌∙◌, subst}
 use Rattle.ttx_packet.specs.PacketAddress.{IsPacket}
 use Rattle.sub_rules.specs.FrameRules.{Criteria, criteria_of}

@@ -1,5 +1,5 @@
--- A transmission has no events if and only if it has no faults; otherwise its first event is a
--- fault.
+-- If all packets of a transmission have 42 bytes, it has no events if and only if it has no faults;
+-- otherwise its first event is a fault.
 use Rattle.std.proofs.Common.{◌≡◌, ℕ, zero, suc, ◌+◌, ◌-◌, ◌<◌, ◌≤◌, ◌⊎◌, inl, inr, Bool, true}
 use Rattle.std.proofs.Common.{false, not, List, [], ◌∷◌, length, Option, Some, None, refl, ◌↔◌, sym}
 use Rattle.std.proofs.Common.{ap, subst, arith, append_assoc, if◌then◌else◌, ◌∙◌, ◌||◌}
@@ -404,8 +404,8 @@ module _ (g : Criteria) (frames : Transmission) (NamesRuleBroken : CheckFault �
         (IsFrameGood g frames) n refl
         (λ i. refl) (λ i below past. faulty_frame_is_reported i past (omega arith))
 
-  -- No subtitle ends after the last frame, and no page that is unfinished at its end still has time
-  -- to become correct.
+  -- No subtitle ends after the last frame of the transmission, and no page that is unfinished at
+  -- the end of this frame still has time to become correct.
   abbrev HasNoLaterSubtitle : Type 0
   HasNoLaterSubtitle =
       ((last : ℕ) → g.last_tco ≡ Some last → last ≤ end_frame frames)

@@ -28,7 +28,7 @@ use Rattle.sub_laws.proofs.EmittedLemmas.{emitted_events-append}
 use Rattle.sub_rules.specs.Trusted.{CheckStep, with_pes_number, current_pes}
 use Rattle.sub_rules.proofs.FrameEvents.{events}
 
--- The PES packets before the first skipped one.
+-- The PES packets before the first skipped PES packet; all PES packets if none is skipped.
 prefix : List PesPacket → List PesPacket
 prefix [] = []
 prefix (Sent s ∷ pes_packets) = Sent s ∷ prefix pes_packets

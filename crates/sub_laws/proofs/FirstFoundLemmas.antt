@@ -42,8 +42,10 @@ module _ {X : Type 0} {lookup : Event → Option X} {At : X → Type 0} where
   pub MatchDecides-none : {A B : Type 0} → B → MatchDecides lookup At A B []
   MatchDecides-none b = record { at = λ x e. cc; fault_free = λ e. b; calm = λ h. refl }
 
-  -- If two lists show by their first match whether their requirements hold, so does the joined
-  -- list. For the second list, B may be assumed: it is true if the first list has no match.
+  -- Suppose that the first list has no match if A is true, and only if B is true; that the second
+  -- list, if B is true, has no match if C is true, and only if D is true; and that C implies A.
+  -- Then the joined list has no match if C is true, and only if D is true. Each first match has the
+  -- property `At`.
   pub MatchDecides-append : {A B C D : Type 0} {xs ys : List Event} → MatchDecides lookup At A B xs
       → (B → MatchDecides lookup At C D ys) → (C → A) → MatchDecides lookup At C D (xs ++ ys)
   MatchDecides-append {xs = xs} {ys = ys} one next back =

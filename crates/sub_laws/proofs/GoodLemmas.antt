@@ -100,8 +100,8 @@ header_in_frame_has_an_index w (s ∷ ss) n e =
       | inr there ↦ let r = later there in (suc r.0, omega (arith, r.1), r.2, r.3)
     ]
 
--- If the headers of the page keep the repeat bound, the PES packets keep any pace that is not less
--- than the repeat bound.
+-- If a transmission is not empty and the headers of the page keep the repeat bound, the PES packets
+-- keep any pace that is not less than the repeat bound.
 pub repeated_header_keeps_pace : (w : Watched) (every frames : ℕ) (t : Transmission) → 0 < length t
     → every ≤ frames
     → Repeats w.page every t

@@ -101,8 +101,8 @@ module _ (programme : ProgrammeValue) (transmission : Transmission) (options : O
   module _ (is : IsProgramme programme.drawing programme.records)
       (good : Good programme transmission options)
       (complete : IsTrue options.asks_complete → Complete transmission options) where
-    -- Each frame of a good transmission is finished, with a complete page if complete pages are
-    -- required.
+    -- Each frame of a good transmission is finished if the pages of the transmission are complete,
+    -- or complete pages are not required.
     finished :
         (f : ℕ)
         → first_frame transmission ≤ f

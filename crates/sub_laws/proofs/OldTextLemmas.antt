@@ -37,8 +37,8 @@ module _ (keeps : Bool) (w : PageIdValue) where
   abbrev packets_of_page_text : List (List ℕ) → List (List ℕ)
   packets_of_page_text packets = text_span keeps (kind w) packets
 
-  -- A packet that does not erase the page leaves the packets since the page was erased unchanged,
-  -- or is added to them.
+  -- A packet that does not erase the page removes none of the packets since the page was erased:
+  -- the new list begins with the old list.
   span-one : (xs : List (List ℕ)) (p : List ℕ)
       → begins_text keeps (kind w p) ≡ false
       → (more : List (List ℕ)) × (packets_of_page_text (xs ++ p ∷ []) ≡ packets_of_page_text xs ++

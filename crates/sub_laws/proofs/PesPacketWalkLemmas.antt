@@ -51,9 +51,10 @@ module _ (X : Type 0) (steps_with_packet_number : ℕ → X → X) (g : Criteria
     abbrev pub skipped_steps : ℕ → UnreadReason → List CheckStep
     skipped_steps pes u = map Emits (Reported (unread_fault pes (Some u)) ∷ [])
 
-    -- T relates the states before and after a list of steps. In a state C, all frames so far have
-    -- ended; in a state O, the last frame may get more packets. Skipped PES packets come after
-    -- frames with the property Q.
+    -- The conditions on T, where `T P t steps` stands for: from the state t, the steps lead to a
+    -- state with the property P. In a state with `C n`, the first n frames have ended. In a state
+    -- with `O n packets`, frame n has these packets and may get more. The frames before a skipped
+    -- PES packet have the property Q.
     pub record Steps : Type 0 where
       pub at_ended : (n pes : ℕ) (t : X) → C n t → C n (steps_with_packet_number pes t)
       pub at_open :

@@ -1,5 +1,6 @@
--- If the subtitles are valid, a transmission has no events if and only if it is good under the
--- options and the entire file was read.
+-- If the subtitles are valid, the repeat bound is not 0 and all packets have 42 bytes, a
+-- transmission has no events if and only if it is good under the options and the entire file was
+-- read.
 use Rattle.std.proofs.lemmas.Bool.Decides.{nat_tests}
 use Rattle.std.proofs.Common.{◌≡◌, ℕ, ◌+◌, ◌-◌, ◌<◌, ◌≤◌, ◌⊎◌, inl, inr, Bool, true, false, ◌&&◌}
 use Rattle.std.proofs.Common.{◌||◌, ◌==◌, nat_le, nat_lt, Option, Some, None, is_some, length}

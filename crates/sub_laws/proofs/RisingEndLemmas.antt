@@ -1,4 +1,5 @@
--- If frame numbers increase, the greatest of the first n frame numbers is the last one.
+-- If n is not 0 and the numbers of the first n frames increase, the greatest of these numbers is
+-- the last one.
 use Rattle.std.proofs.lemmas.Bool.Decides.{nat_tests}
 use Rattle.std.proofs.Common.{◌≡◌, ℕ, zero, suc, ◌-◌, ◌<◌, arith}
 use Rattle.sub_rules.specs.Events.{latest_frame}

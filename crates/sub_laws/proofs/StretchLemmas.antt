@@ -1,5 +1,5 @@
--- If a range of frames meets the sufficient conditions, its guarantees hold. If they hold for all
--- frames, they hold for the transmission.
+-- If a range of frames meets the sufficient conditions, the guarantees hold for it. If the
+-- guarantees hold for the range of all frames, they hold for the transmission.
 use Rattle.std.proofs.Common.{ℕ, ◌≤◌, inr, Bool, false, List, sym, subst, arith, le_refl}
 use Rattle.std.proofs.Common.{le_trans}
 use Rattle.std.specs.Prelude.{All, IsTrue}

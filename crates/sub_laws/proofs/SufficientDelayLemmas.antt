@@ -1,5 +1,5 @@
 -- If no fault is active at any frame end of a range, each cell has a space or a code that was
--- expected, and the frames of the range are finished in time.
+-- expected and, if the subtitles are valid, the frames of the range are finished in time.
 use Rattle.std.proofs.lemmas.Bool.Decides.{nat_tests}
 use Rattle.std.proofs.Common.{◌≡◌, ℕ, ◌+◌, ◌-◌, ◌<◌, ◌≤◌, inr, Bool, true, false, ◌&&◌}
 use Rattle.std.proofs.Common.{◌||◌, ◌==◌, nat_le, nat_lt, None, Option, Some, get_or, length, refl}
@@ -38,8 +38,9 @@ use Rattle.sub_laws.proofs.ActiveFaultsLemmas.{unexpected_cell_of_decided_page}
 use Rattle.sub_laws.proofs.UnfinishedLemmas.{later_run_start_leaves_finished_frame}
 use Rattle.sub_laws.proofs.UnfinishedLemmas.{run_start_is_first_unfinished, unfinished_at}
 
--- At each frame end from a to b, no cell has a fault, and the expected page is known there and in
--- the `within` frames of the transmission before. Frame numbers increase.
+-- The frames from a to b lie within the transmission, whose frame numbers increase. At the end of
+-- each of them, no cell has a fault, and the expected page is known for this frame and the `within`
+-- frames of the transmission before it.
 pub record IsFaultFreeBetween (g : Criteria) (t : Transmission) (a b : ℕ) : Type 0 where
   pub up : RiseTo t (length t)
   pub some : 0 < length t

@@ -99,8 +99,8 @@ empty_steps_report_nothing t (Closes are_left more ∷ ms) reported still none =
 empty_steps_report_nothing t (m ∷ ms) reported still none = empty_steps_report_nothing (m ∷ t) ms
     reported still none
 
--- If no step up to the end of a list emits an event, and the file does not end within the list, the
--- list reports nothing.
+-- If the file does not end in the steps `ms`, and neither they nor the steps `t` before them emit
+-- an event, no event is reported for `ms`.
 pub silent : (t ms : List CheckStep) → list_any is_closing_step ms ≡ false
     → list_any is_emitted (history_after t ms) ≡ false
     → (list_any is_emitted t ≡ false) × (events_reported_after t ms ≡ [])

@@ -1,5 +1,6 @@
--- If `within` is 0, each header must have C4 (erase page) set and the entire file was read, a
--- transmission is good, with complete pages if required, if and only if it has no faults.
+-- If `within` is 0, the repeat bound is not 0, each header must have C4 (erase page) set, all
+-- packets have 42 bytes and the entire file was read, a transmission is good, with complete pages
+-- if required, if and only if it has no faults.
 use Rattle.std.proofs.lemmas.Bool.Decides.{nat_tests}
 use Rattle.std.proofs.Common.{◌≡◌, ℕ, ◌<◌, ◌≤◌, false, Option, None, length, refl, sym, ap}
 use Rattle.std.proofs.Common.{◌∙◌, subst, arith, IsTrue, IsFalse, ◌&&◌}

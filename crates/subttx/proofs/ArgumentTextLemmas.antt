@@ -1,4 +1,5 @@
--- Collecting the arguments from the system's iterator returns all of them.
+-- If the arguments from the system's iterator can be collected, the collected list has all of them,
+-- in order.
 use Rattle.std.proofs.Common.{◌≡◌, List, Ok, refl, sym}
 use Rattle.std.proofs.lemmas.Iterator.{items_from_collect}
 use Rattle.std.proofs.lemmas.Iterator.Adapters.{YieldsList-from_vec}
