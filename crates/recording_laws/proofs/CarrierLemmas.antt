@@ -22,7 +22,8 @@ use Rattle.recording_laws.specs.Multiplex.{carries, pid_announces_jump, items_of
 use Rattle.recording_laws.specs.Multiplex.{AreNextCarriers}
 use Rattle.recording_laws.proofs.RecordingLemmas.{notes_of_packet}
 
--- The history of a PID after a TS packet without payload, which may announce a jump.
+-- The history of a PID after a TS packet without payload; the second argument says whether this
+-- packet announces a jump.
 abbrev pub history_after_irrelevant : PacketHistory → Bool → PacketHistory
 history_after_irrelevant history jump = record history { has_jump = history.has_jump || jump }
 

@@ -1,5 +1,5 @@
--- After the last TS packet of a PES packet, the reader outputs the PES packet, or a gap if it is
--- incomplete. A part is the list of joined payloads of one PES packet.
+-- After the last TS packet of a PES packet, the reader outputs the PES packet or, if it is
+-- incomplete, notes a gap. A part is the list of joined payloads of one PES packet.
 use Rattle.std.proofs.Common.{◌≡◌, ℕ, ◌<◌, ◌≤◌, inl, inr, Bool, true, false, not, ◌&&◌, ◌||◌, List}
 use Rattle.std.proofs.Common.{[], ◌∷◌, ◌++◌, length, length-append, take, Ok, refl, sym, ap, ◌∙◌}
 use Rattle.std.proofs.Common.{arith, append_assoc, nat_le}
@@ -27,9 +27,9 @@ pub record MayEndInGapMarker (given : Bool) (prefix bytes : List ℕ) : Type 0 w
   pub marker_follows_packet : has_gap_marker ≡ true → given ≡ true
   pub bytes_are_equal : bytes ≡ prefix ++ gap_marker_where has_gap_marker
 
--- The output for the part is `prefix`, whatever parts follow; at the end of the recording, one gap
--- marker may follow. After the part, `given'` means that a PES packet was output, and `gap'` that
--- data was lost after it.
+-- The output for the part is `prefix` if another part or an unusable TS packet follows; if the part
+-- is the last, one gap marker may follow `prefix`. After the part, `given'` means that a PES packet
+-- was output, and `gap'` that data was lost after it.
 pub record ClosesPart (part : Part) (given gap : Bool) (prefix : List ℕ) (given' gap' : Bool)
     : Type 0 where
   pub next :

@@ -1,5 +1,5 @@
--- If the frames of a transmission are at most `pace` apart, so are the frames of the PES packets
--- that were merged into them.
+-- If each frame of a transmission is at most `pace` after the frame before it, the same is true of
+-- the frames of the PES packets that were merged into this transmission.
 use Rattle.std.proofs.lemmas.Bool.Decides.{nat_tests}
 use Rattle.std.proofs.Common.{◌≡◌, ℕ, suc, ◌+◌, ◌-◌, ◌≤◌, ◌==◌, ◌&&◌, not, Bool, true, false, List}
 use Rattle.std.proofs.Common.{[], ◌∷◌, ◌++◌, length, refl, sym, ap, ◌∙◌, subst, arith, cond}

@@ -1,5 +1,5 @@
 -- If fewer than 15 TS packets with payload are missing between two accepted packets, the reader
--- finds a loss between them exactly if one is missing or was damaged.
+-- finds a loss between them exactly if a packet between them is missing or was damaged.
 use Rattle.std.proofs.Common.{◌≡◌, ℕ, ◌+◌, ◌%◌, ◌<◌, Bool, true, false, not, ◌||◌, ◌==◌, List, []}
 use Rattle.std.proofs.Common.{◌∷◌, Option, Some, None, arith, if◌then◌else◌, length, length-drop}
 use Rattle.std.proofs.Common.{length-take, drop, nat_lt}
@@ -99,8 +99,9 @@ pub fresh-later : (good : Option (List ℕ)) (again wrong : Bool) (h : List ℕ)
     → is_repeat (history_after_loss good again wrong) h ≡ false
 fresh-later good again wrong h i n h1 h2 h3 = grind (arith, nat_tests, counter-far, counter-same)
 
--- The link of a TS packet to the accepted packet before it, given whether a packet between them was
--- damaged.
+-- The link of a TS packet to the accepted packet before it: `First` if there is no such packet,
+-- `Follows` if the packet has the next continuity counter and no packet between them was damaged,
+-- otherwise `Break`.
 abbrev pub link_after_loss : Option (List ℕ) → Bool → List ℕ → PacketLink
 link_after_loss None wrong h = First
 link_after_loss (Some g) wrong h = if wrong then Break else if counter_is_next g h then Follows
@@ -140,7 +141,9 @@ pub few-gone : (n : ℕ) (c : Carrier SentUnit) (cs : List (Carrier SentUnit))
 few-gone n c cs gone few = (grind (arith, nat_tests), grind (arith, nat_tests))
 
 module _ (distance number : ℕ) where
-  -- A repeat has the continuity counter and the payload of the TS packet that it repeats.
+  -- If TS packet `p` announces no jump, its repeat has the continuity counter and the payload of
+  -- `p`, starts a PES packet exactly if `p` does, and announces no jump. If `p` has no repeat, all
+  -- this holds for `p` itself.
   pub copy-again : (p : List ℕ) (again : Option SentUnit)
       → announces_jump p ≡ false
       → AllByRecursion (IsLossyUnit distance number) (option_to_list again)

@@ -1,4 +1,5 @@
--- If a TS packet with payload or its repeat is recorded, the reader accepts one of the two.
+-- If a TS packet with payload or its repeat is recorded intact, and neither is a repeat of the last
+-- accepted packet, the reader accepts one of the two.
 use Rattle.std.proofs.Common.{◌≡◌, ℕ, Bool, true, false, ◌||◌, List, [], ◌∷◌, ◌++◌, Option, Some}
 use Rattle.std.proofs.Common.{None, sym, ap, ◌∙◌, arith, append_assoc}
 use Rattle.std.specs.List.{AllByRecursion, flat_map}
@@ -21,8 +22,9 @@ use Rattle.recording_laws.proofs.CarrierLemmas.{is_repeat-again}
 use Rattle.recording_laws.proofs.CarrierLemmas.{history_after_irrelevant}
 use Rattle.recording_laws.proofs.RecordingLemmas.{notes_of_packet}
 
--- The history of a PID since the last accepted packet, if any, without announced jumps and skipped
--- bytes.
+-- The history of a PID after the last accepted packet `good`, if any: `again` says whether its
+-- repeat was read, and `wrong` whether an unusable packet was read. No jump was announced, and no
+-- bytes were skipped.
 abbrev pub history_after_loss : Option (List ℕ) → Bool → Bool → PacketHistory
 history_after_loss good again wrong = record {
   good = good;
@@ -158,7 +160,8 @@ module _ (distance number : ℕ) where
       any_unit_damaged c)
   wrong-of_three a b c = grind (arith, nat_tests, list_any-append, or-assoc)
 
-  -- If a TS packet with payload is recorded intact and is no repeat, the reader accepts it.
+  -- If a TS packet with payload is recorded intact and is no repeat of the last accepted packet,
+  -- the reader accepts it, and none of the items up to the next TS packet with payload.
   pub good-first : (good : Option (List ℕ)) (again wrong first : Bool) (c : Carrier SentUnit)
       (ns : List PidEvent)
       → IsLossyCarrier first c

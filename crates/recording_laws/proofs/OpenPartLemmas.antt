@@ -54,8 +54,8 @@ abbrev pub previous_with_marker : Bool → PreviousResult
 previous_with_marker true = PreviousMarker
 previous_with_marker false = Nothing
 
--- The bytes are PES packets and gap markers in an order that is possible (`ReadsSent`) if the PES
--- packets `sent` follow the result `previous`.
+-- The bytes are a list of PES packets and gap markers that a reader may output for the PES packets
+-- `sent` if the result before them is `previous` (`ReadsSent`).
 pub record YieldsResults (few : Bool) (previous : PreviousResult) (sent : List (SentPes SentUnit))
     (bytes : List ℕ)
     : Type 0 where
@@ -64,8 +64,9 @@ pub record YieldsResults (few : Bool) (previous : PreviousResult) (sent : List (
   pub joined : bytes ≡ concat pes_packets
   pub reads : ReadsSent few previous sent pes_packets
 
--- The bytes start with a PES packet that has the same start as `s`, after a gap marker if `marked`.
--- The results for the PES packets `sent` follow (`ReadsSent`). If `few`, `s` arrives unchanged.
+-- The bytes start with a PES packet that has the same start as `s`, after a gap marker if `marked`
+-- is true. The results for the PES packets `sent` follow (`ReadsSent`). If `few` is true, `s`
+-- arrives, and the PES packet has exactly the bytes of `s`.
 pub record YieldsOneResult (few marked : Bool) (s : SentPes SentUnit) (between : ℕ) (skipped : Bool)
     (sent : List (SentPes SentUnit)) (bytes : List ℕ) : Type 0 where
   pub pes_packet : List ℕ
@@ -78,7 +79,7 @@ pub record YieldsOneResult (few marked : Bool) (s : SentPes SentUnit) (between :
   pub reads : ReadsSent few (PreviousPes pes_packet s between skipped) sent rest
 
 -- Either the bytes start with a result for the PES packet `s`, or they are only the results for the
--- PES packets `sent` after it; if `few`, `s` then does not arrive.
+-- PES packets `sent` after `s`. In the second case, `s` does not arrive if `few` is true.
 abbrev pub YieldsAtMostOneResult : Bool → Bool → Bool → SentPes SentUnit → ℕ → Bool → List
     (SentPes SentUnit) → List ℕ
     → Type 0
@@ -266,8 +267,9 @@ module _ (distance number : ℕ) (wrong_after few : Bool) where
       (IsBrokenPart part × (arrives s ≡ false))
       ⊎ (IsCompletePart part s.bytes × (arrives s ≡ true) × (skipped ≡ true))
 
-  -- The state of a PES packet that is read in part: all its TS packets so far were read; or some of
-  -- them are missing; or at least 16 are missing, so that the continuity counter may match again.
+  -- The PES packet `s` is read in part. Either no TS packet is missing so far; or the last n TS
+  -- packets, at least one, are missing; or, only if `few` is false, at least 16 were missing
+  -- before, so that the continuity counter may have matched again.
   abbrev pub PartContinues : Part → SentPes SentUnit → ℕ → Bool → ℕ → Bool → List (Carrier SentUnit)
       →
       Type 0

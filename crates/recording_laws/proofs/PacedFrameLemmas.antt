@@ -1,5 +1,6 @@
--- If each frame of a transmission is less than `pace` frames after a PES packet, consecutive PES
--- packets are at most `pace` frames apart.
+-- If frame numbers increase, `pace` is positive, and each frame from the first to the last has a
+-- PES packet or is less than `pace` frames after a frame that has one, consecutive PES packets are
+-- at most `pace` frames apart.
 use Rattle.std.proofs.Common.{ℕ, zero, suc, ◌+◌, ◌<◌, ◌≤◌, inl, inr, List, [], ◌∷◌, length}
 use Rattle.std.proofs.Common.{map, arith}
 use Rattle.std.specs.Prelude.{⊤}
@@ -23,7 +24,7 @@ abbrev pub numbers : Transmission → List ℕ
 numbers frames = map (λ (s : SentFrame). s.frame) frames
 
 -- Each frame from the first to the last has a PES packet, or is less than `pace` frames after a
--- frame that has one.
+-- frame that has one. If `pace` is 0, no frame meets this condition.
 abbrev pub AreFramesCovered : ℕ → Transmission → Type 0
 AreFramesCovered pace frames =
     (f : ℕ)

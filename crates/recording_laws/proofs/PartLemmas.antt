@@ -47,7 +47,7 @@ unfolding outcomes
 outcomes-whole wrong_after part more bytes h =
     rw (outcome-whole (may_be_cut_off wrong_after more) part bytes h)
 
--- If no data was lost before it, a complete PES packet is output without a gap marker.
+-- A complete PES packet is output without a gap marker if no data was lost before it.
 pub with_gap_markers-whole : (given wrong_after : Bool) (part : Part) (more : List Part)
     (bytes : List ℕ)
     → IsCompletePart part bytes

@@ -1,5 +1,5 @@
--- If PES packets are read as frames that are at most `pace` apart, the frames that their bytes up
--- to the PTS give are at most `pace` apart.
+-- If each PES packet is read as a frame at most `pace` after the frame of the PES packet before it,
+-- the frames computed from the bytes up to the PTS have the same property.
 use Rattle.std.proofs.lemmas.Bool.Decides.{nat_tests}
 use Rattle.std.proofs.Common.{◌≡◌, ℕ, ◌+◌, ◌^◌, ◌<◌, ◌≤◌, List, [], ◌∷◌, take, drop, sym, ap, ◌∙◌}
 use Rattle.std.proofs.Common.{subst, arith, Option}

@@ -17,9 +17,11 @@ use Rattle.recording_laws.proofs.PesPacketLemmas.{gap_markers_where}
 use Rattle.recording_laws.proofs.PesPacketLemmas.{not-empty}
 use Rattle.recording_laws.proofs.PesPacketLemmas.{sent_bytes, equal_lists_have_equal_tails}
 
--- What was read before a result: nothing; or a gap; or `x` for the PES packet `s`, with the same
--- start. `between` is the number of TS packets with payload between the starts of `s` and of the
--- next PES packet, and `skipped` says whether PES packets between them have no result.
+-- The state of reading before the next result. `Nothing`: there was no result yet.
+-- `PreviousMarker`: data was lost, so a gap marker comes before the next result.
+-- `PreviousPes x s between skipped`: the last result `x` was read for the PES packet `s` and has
+-- the same start. Between the starts of `s` and of the next PES packet sent are `between` TS
+-- packets with payload, and `skipped` is true if a PES packet between them has no result.
 pub data PreviousResult : Type 0 where
   Nothing : PreviousResult
   PreviousMarker : PreviousResult
@@ -55,10 +57,10 @@ IsMarkerExpected few previous s marked =
     few ≡ true → marked ≡
     (has_previous previous && (is_gap previous || any_unit_damaged (units_before_copy s.first)))
 
--- The results of reading PES packets, in order, with at most one gap marker before each of them and
--- after the last. Each result that is no gap marker has the same start as its PES packet. If fewer
--- than 15 consecutive TS packets with payload are missing or damaged (`few`), these results are
--- exactly the PES packets that arrive.
+-- The reader may output `pes_packets` for the PES packets sent after the result `previous`. Each
+-- PES packet has at most one result, with the same start. The results are in order, with at most
+-- one gap marker before each of them and after the last. If fewer than 15 consecutive TS packets
+-- with payload are missing or damaged (`few`), the results are exactly the PES packets that arrive.
 abbrev pub ReadsSent : Bool → PreviousResult → List (SentPes SentUnit) → List (List ℕ) → Type 0
 ReadsSent few previous [] pes_packets =
     (marked : Bool) × (pes_packets ≡ gap_markers_where marked) × (marked ≡ true → has_previous
@@ -122,8 +124,8 @@ module _ (few : Bool) (IsFar : List (SentPes SentUnit) → Type 0)
     IsFar
     more)
   where
-    -- A result `x` other than a gap marker has the same start as one of the PES packets sent. It is
-    -- equal to it if fewer than 15 consecutive TS packets with payload are missing or damaged.
+    -- The result `x` has the same start as one of the PES packets sent, and is equal to that PES
+    -- packet if fewer than 15 consecutive TS packets with payload are missing or damaged.
     pub record IsLocated
         (x : List ℕ) (tail : List (List ℕ)) (sent : List (SentPes SentUnit))
         : Type 0 where

@@ -1,5 +1,5 @@
--- If the first TS packet of a PES packet arrives, the joined payloads give a PES packet with the
--- same start, or a gap.
+-- If the joined payloads start with the bytes of a PES packet up to its PTS, the reader outputs a
+-- PES packet with the same start, or notes a gap.
 use Rattle.std.proofs.Common.{◌≡◌, ℕ, ◌≤◌, ◌⊎◌, inl, inr, Bool, true, false, not, ◌&&◌, ◌||◌, List}
 use Rattle.std.proofs.Common.{[], ◌∷◌, ◌++◌, length, take, drop, Ok, sym, ap, ◌∙◌, arith, nat_le}
 use Rattle.std.proofs.Common.{nat_lt, length-take}

@@ -1,5 +1,5 @@
--- Each accepted packet is a copy of one that was sent. If the next accepted packet continues it,
--- the number of TS packets with payload missing between them is a multiple of 16.
+-- Each accepted packet is a copy of a TS packet that was sent. If the next accepted packet
+-- continues it, the number of TS packets with payload missing between them is a multiple of 16.
 use Rattle.std.proofs.Common.{◌<◌, nat_lt, ◌≡◌, ℕ, ◌+◌, ◌%◌, ◌⊎◌, inl, inr, Bool, true, false, ◌||◌}
 use Rattle.std.proofs.Common.{List, [], ◌∷◌, ◌++◌, Option, Some, None, refl, sym, ap, arith, ◌∙◌}
 use Rattle.std.proofs.Common.{subst}
@@ -249,8 +249,8 @@ module _ (distance number : ℕ) (few : Bool) where
       copy = copy-again distance number p c.again none h.again h.is_carrier.again
 
   -- If the reader finds no break before the accepted packet, the number n of TS packets missing
-  -- before it is a multiple of 16. If fewer than 15 consecutive ones are missing or damaged, it
-  -- finds no break exactly if n is 0 and none was damaged.
+  -- before it is a multiple of 16. If fewer than 15 consecutive TS packets are missing or damaged,
+  -- the reader finds no break exactly if n is 0 and no packet was damaged.
   pub record IsLinkExact (n : ℕ) (wrong : Bool) (c : Carrier SentUnit) (g : GoodPacket) : Type 0
     where
       pub cut : is_unlinked g.link ≡ is_break g.link
@@ -271,7 +271,8 @@ module _ (distance number : ℕ) (few : Bool) where
     pub linked_packet : following ≡ true → IsLinkExact n wrong c g
 
   -- The accepted packets `goods` are copies of TS packets that were sent, in order. Since the last
-  -- accepted packet, n are missing, and `wrong` says whether one was damaged.
+  -- accepted packet, n TS packets with payload are missing, and `wrong` says whether a packet was
+  -- damaged.
   abbrev pub AreTraced : Bool → ℕ → Bool → List (Carrier SentUnit) → List GoodPacket → Type 0
   AreTraced following n wrong [] goods = goods ≡ []
   AreTraced following n wrong (c ∷ cs) goods =

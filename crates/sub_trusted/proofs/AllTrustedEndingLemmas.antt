@@ -1,5 +1,6 @@
 -- After the steps at the end of a frame, each range of frames that could be trusted was reported as
--- trusted, or can still be reported. The end of the file reports it, if it reports anything.
+-- trusted from a header that erases the page on, or can still be reported. If trusted frames are
+-- reported at the end of the file, a range that can still be reported is among them.
 use Rattle.std.proofs.lemmas.Bool.Decides.{nat_tests}
 use Rattle.std.proofs.Common.{◌≡◌, ℕ, suc, ◌+◌, ◌-◌, ◌<◌, ◌≤◌, inl, inr, Bool, true, false}
 use Rattle.std.proofs.Common.{◌||◌, List, [], ◌∷◌, ◌++◌, length, map, Option, Some, None, is_some}
@@ -119,8 +120,8 @@ module _ (g : Criteria) (frames : Transmission) (a b i : ℕ)
   abbrev HasReceivedAllPackets : ℕ → List CheckStep → Type 0
   HasReceivedAllPackets n t = FollowsInOpenFrame g frames a b i fits n (packets_of_frame frames n) t
 
-  -- After the events at the end of frame n, the range of frames can still be reported as trusted:
-  -- none of its frames so far was invalidated.
+  -- After the events at the end of frame n of the transmission, the range of frames can still be
+  -- reported as trusted: no event so far invalidated a frame of the range from frame i on.
   record IsAfterEndEvents (n : ℕ) (t : List CheckStep) : Type 0 where
     follows : FollowsStretch n (frame_at frames n + 1) t
     clean : i ≤ n → stays_fault_free t ≡ true

@@ -66,9 +66,10 @@ module _ (g : Criteria) (frames : Transmission) (a b i : ℕ)
   abbrev pub top : ℕ
   top = frame_at frames i
 
-  -- After n frames of the transmission and the ends of all frames before p, the current run
-  -- contains the frames so far from the range's header in frame i on. After the end of frame b, the
-  -- page was finished in a frame up to b, and unfinished frames begin after b.
+  -- After n frames of the transmission and the ends of all frames before p, the range can still be
+  -- reported: if frame i, which has the range's header, was sent, the current run begins with frame
+  -- i or earlier. If frame b has ended too, the page was finished at the end of a frame up to b,
+  -- and the current run of unfinished frames, if any, begins after b.
   pub record FollowsRange (n p : ℕ) (t : List CheckStep) : Type 0 where
     pub rises : n ≤ i → has_risen t ≡ true
     pub run : i < n → (from : ℕ) × (from ≤ top) × (run_of t ≡ Some from)
@@ -190,9 +191,9 @@ module _ (g : Criteria) (frames : Transmission) (a b i : ℕ)
             | inr (none, here) ↦ omega arith
           ]
 
-  -- If the events at the end of a frame from a on invalidate a frame, and no frame up to there is
-  -- out of order, this end is not before b, and the first frame that is no longer trusted is after
-  -- b.
+  -- If the events at the end of frame f invalidate a frame, f is not before a, and no frame number
+  -- up to f is out of order, then f is not before b, and the first frame that is no longer trusted
+  -- is after b.
   pub invalidated_frame_is_after_stretch : (n m f x : ℕ) (t u : List CheckStep) → ChecksFrameEnd g
       frames m f t u
       → IsWrongSince g frames n f u

@@ -1,5 +1,6 @@
--- If anything is reported for a PES file, each range of frames that could be trusted is reported as
--- trusted, from its first header that erases the page on.
+-- If any event is reported for a PES file, or the subtitle file has unreliable subtitles, each
+-- range of frames that could be trusted is reported as trusted, from its first header that erases
+-- the page on.
 use Rattle.std.proofs.lemmas.Bool.Decides.{nat_tests}
 use Rattle.std.proofs.Common.{◌≡◌, ◌≢◌, ℕ, ◌<◌, ◌≤◌, ◌⊎◌, inl, inr, Bool, true}
 use Rattle.std.proofs.Common.{false, ◌||◌, not, List, [], ◌∷◌, ◌++◌, Contains}
@@ -114,8 +115,8 @@ module _ (g : Criteria) (pes_packets : List PesPacket) (a b i : ℕ)
   goes = packet_steps_lead_to_report g frames a b i fit pes_packets refl
       all_skipped_packets_are_outside
 
-  -- The end of the file reports trusted frames: an event was reported before it, an event follows,
-  -- or the file has unreliable subtitles.
+  -- Trusted frames may be reported at the end of the file: an event was reported before, another
+  -- event is reported there, or the subtitle file has unreliable subtitles.
   abbrev reports : List CheckStep → Bool
   reports t =
       list_any is_emitted t

@@ -41,8 +41,8 @@ module _ (g : Criteria) (frames : Transmission) (a b i : ℕ)
   abbrev HasReceivedPackets : ℕ → List (List ℕ) → List CheckStep → Type 0
   HasReceivedPackets n packets t = FollowsInOpenFrame g frames a b i fits n packets t
 
-  -- If there are frames `sent` before a skipped PES packet, and all are before any frame out of
-  -- order, the last of them is before frame a or after frame b.
+  -- If some frames (`sent`) were sent before a skipped PES packet, and no number of these frames is
+  -- out of order, the last of them is before frame a or after frame b.
   abbrev pub IsOutsideStretch : Transmission → Type 0
   IsOutsideStretch sent =
       0 < length sent

@@ -1,5 +1,5 @@
--- After the steps of a frame, each range of frames that could be trusted was reported as trusted
--- from a header that erases the page on, or can still be reported.
+-- After the steps of a frame, each range of frames that could be reported as trusted and has a
+-- header that erases the page was reported from that header on, or can still be reported.
 use Rattle.std.proofs.lemmas.Bool.Decides.{nat_tests}
 use Rattle.std.proofs.Common.{◌≡◌, ℕ, zero, suc, ◌+◌, ◌-◌, ◌<◌, ◌≤◌, ◌⊎◌, inl, inr, Bool, true}
 use Rattle.std.proofs.Common.{false, List, [], ◌∷◌, ◌++◌, length, map, take, get_or, Option, Some}
@@ -91,8 +91,8 @@ pub skipped_event_is_no_order_fault : (pes : ℕ) (u : UnreadReason)
 unfolding is_order_fault reports_order_fault
 skipped_event_is_no_order_fault pes u = grind (arith, nat_tests)
 
--- If a frame's number is greater than the number before it, no event reports that frame numbers do
--- not increase.
+-- If frame n is the first of the transmission, or its number is greater than that of the frame
+-- before it, no event reports that its number does not increase.
 rising_frame_has_no_order_fault : (g : Criteria) (frames : Transmission) (n : ℕ)
     → (0 < n → frame_at frames (n - 1) < frame_at frames n)
     → list_any is_order_fault (order_events g frames n) ≡ false
@@ -105,7 +105,7 @@ rising_frame_has_no_order_event : (g : Criteria) (frames : Transmission) (n : �
 unfolding order_events
 rising_frame_has_no_order_event g frames n some up = grind (arith, nat_tests)
 
--- A frame that was fault-free so far stays fault-free if no frame is invalidated.
+-- If the current frame was fault-free so far, and no frame is invalidated, it stays fault-free.
 pub no_invalidation_keeps_clean : (clean : Bool) (d : Option ℕ) → clean ≡ true → d ≡ None
     → (clean && is_none d) ≡ true
 no_invalidation_keeps_clean clean d is none = rw (is, none) refl
@@ -138,8 +138,9 @@ module _ (g : Criteria) (frames : Transmission) (a b i : ℕ)
   abbrev LeadsToReport : (List CheckStep → Type 0) → List CheckStep → List CheckStep → Type 0
   LeadsToReport S t ms = LeadsToReportOfRun (top g frames a b i fits) b S t ms
 
-  -- If the current run contains the range's first header, frame numbers increase up to frame n of
-  -- the transmission.
+  -- If frame i, which has the range's header, was sent and the range can still be reported, frame
+  -- numbers increase up to frame n of the transmission. Assumption: they do so if no step so far
+  -- reports a frame number out of order.
   run_has_rising_frames : (n x p : ℕ) (t : List CheckStep) → Keeps g frames 0 n x t
       → (has_risen t ≡ true → RiseTo frames (suc n))
       → FollowsStretch n p t
@@ -206,8 +207,8 @@ module _ (g : Criteria) (frames : Transmission) (a b i : ℕ)
           arrives.keeps
           arrives.rises follows below
 
-  -- The first k frames without packets before frame n of the transmission have ended, and the range
-  -- of frames can still be reported as trusted.
+  -- Of the frames without packets directly before frame n of the transmission, the first k have
+  -- ended, and the range of frames can still be reported as trusted.
   abbrev GapFramesFollow : ℕ → ℕ → List CheckStep → Type 0
   GapFramesFollow n k u = HasEndedGapFrames g frames 0 n k u × FollowsStretch n
       (latest_frame frames n + suc k) u

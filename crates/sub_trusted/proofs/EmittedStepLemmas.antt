@@ -46,7 +46,8 @@ pub frame_going_back_stays_after : (t : List CheckStep) (x b : ℕ) → b < x
     → b < frame_after_going_back t x
 frame_going_back_stays_after t x b past h = grind (arith, nat_tests)
 
--- The first frame of the current run after some events; `None` if the events invalidate a frame d.
+-- The first frame of the current run after some events; `None` if there was no run before them, or
+-- if they invalidate a frame d.
 abbrev pub kept : Option ℕ → Option ℕ → Option ℕ
 kept run d = if is_none d then run else None
 
@@ -134,8 +135,9 @@ module _ (P : ℕ → ℕ → Type 0) where
       → HoldsForEachTrusted P (trusted run whole x)
   trusted_frames_have_property run whole x h1 = grind (arith, nat_tests, ltb-true)
 
-  -- If the trusted frames in the events, and those of the run before the first frame that is no
-  -- longer trusted, have the property P, so do the trusted frames that the steps report.
+  -- If the trusted frames in the events `es`, and those of the run before the first frame that is
+  -- no longer trusted, have the property P, so do all trusted frames that the steps for `es`
+  -- report.
   emitted_events_have_property : (t : List CheckStep) (es : List Event) → HoldsForEachTrusted P es
       → ((x from w : ℕ)
       → first_invalidated_frame t es ≡ Some x

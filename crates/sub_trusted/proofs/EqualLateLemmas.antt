@@ -1,5 +1,5 @@
--- If two sets of criteria agree on all expected pages that the first set knows, a frame without
--- faults for the first set has none for the second.
+-- If two sets of criteria agree on all expected pages that the first set knows, a frame that has no
+-- active fault at its end for the first set has none for the second.
 use Rattle.std.proofs.lemmas.Bool.Decides.{nat_tests}
 use Rattle.std.proofs.Common.{◌≡◌, ℕ, ◌+◌, ◌-◌, ◌≤◌, inl, inr, Bool, true, false}
 use Rattle.std.proofs.Common.{◌&&◌, ◌||◌, ◌==◌, nat_le, Option, Some, None, length, refl, sym, ap}
@@ -42,8 +42,8 @@ criteria_with_known_pages g due ending first_tci last_tco =
       undecided = λ frame. false;
     }
 
--- At each frame whose expected page is known, `due` has the expected page of the criteria, and
--- `ending` has their TCI of the subtitle whose TCO is the next frame.
+-- At each frame whose expected page is known, `due` gives the expected page of the criteria `g`,
+-- and `ending` gives, as `g` does, the TCI of the subtitle whose TCO is the next frame.
 pub record HasSameCriteria (g : Criteria) (due : ℕ → Rows) (ending : ℕ → Option ℕ) : Type 0 where
   pub due_eq : (f : ℕ) → g.undecided f ≡ false → due f ≡ g.due f
   pub ending_eq : (f : ℕ) → g.undecided f ≡ false → ending (f + 1) ≡ g.ending (f + 1)

@@ -1,5 +1,6 @@
--- Frames that are trusted although subtitles were rejected could be reported as trusted for all
--- criteria that agree on the known expected pages, up to each frame with a finished page.
+-- Frames that are trusted although subtitles were rejected are also trusted for all criteria that
+-- agree on the known expected pages, if a check by these criteria has any event. If `within` is not
+-- 0, this holds up to each frame with a finished page.
 use Rattle.std.proofs.lemmas.Bool.Decides.{nat_tests}
 use Rattle.std.proofs.Common.{◌≡◌, ◌≢◌, ℕ, ◌-◌, ◌<◌, ◌≤◌, inl, inr, true}
 use Rattle.std.proofs.Common.{List, [], Contains, Option, Some, length, refl, ap, ◌∙◌}

@@ -1,6 +1,6 @@
--- The steps at the end of a frame that come before its events only record since when the page has
--- been unfinished, whether it is overdue and, if a subtitle is unreliable, since when the page was
--- unfinished at the frame before. They do not end a run.
+-- The steps at the end of a frame that come before its events do not end a run. If `within` is 0,
+-- there are none. Otherwise they only record since when the page has been unfinished, whether it is
+-- overdue and, if a subtitle is unreliable, since when it was unfinished at the frame before.
 use Rattle.std.proofs.lemmas.Bool.Decides.{nat_tests}
 use Rattle.std.proofs.Common.{◌≡◌, ℕ, ◌≤◌, true, false, not}
 use Rattle.std.proofs.Common.{◌==◌, ◌&&◌, None, if◌then◌else◌, List, [], ◌∷◌}
@@ -52,8 +52,10 @@ module _ (g : Criteria) (frames : Transmission) where
   IsWrongSince i f u = (r : ℕ) → back_frame_of u ≡ Some r → first_unfinished_before g frames i f ≡
       Some r
 
-  -- A relation T holds for all steps at a frame end if it holds for their events, since the steps
-  -- before these events report nothing.
+  -- A relation T holds for all steps at the end of frame f if it holds for the events among them,
+  -- and if T stays true when a step that reports nothing is put before the others. Assumptions: if
+  -- `within` is 0, the steps `t` before them record no unfinished page; if the checker needs no
+  -- `GoesBack` steps, `t` has no frame of such a step.
   pub end_steps_are_followed : (T : List CheckStep → List CheckStep → Type 0) (i n f : ℕ)
       (t : List CheckStep)
       → ((g.within == 0) ≡ true → SeesNoLateness t)

@@ -1,5 +1,6 @@
 -- A fault of a packet that affects receivers invalidates the packet's frame. A rule that is broken
--- at the end of a frame invalidates it or, if the page is overdue, the first frame with that page.
+-- at the end of a frame invalidates this frame or, if the page is overdue, the first frame with the
+-- unfinished page.
 use Rattle.std.proofs.lemmas.Bool.Decides.{nat_tests}
 use Rattle.std.proofs.Common.{◌≡◌, ℕ, zero, suc, ◌+◌, ◌-◌, ◌<◌, ◌≤◌, Bool, true, false, cond, List}
 use Rattle.std.proofs.Common.{[], ◌∷◌, ◌++◌, map, take, get_or, length, max, Option, Some, None}
@@ -158,8 +159,8 @@ module _ (t : List CheckStep) (g : Criteria) (frames : Transmission) where
   unfolding first_header_events invalidated_by
   header_fault_invalidates_nothing i = grind (arith, nat_tests)
 
--- If no event reports that the number of a frame does not increase, the frame is after the one
--- before it.
+-- If frame i is not the first of the transmission, and no event reports that its number does not
+-- increase, its number is greater than that of frame i - 1.
 pub no_order_fault_means_rising : (g : Criteria) (frames : Transmission) (i : ℕ)
     → list_any is_order_fault (order_events g frames i) ≡ false
     → 0 < i
@@ -250,7 +251,8 @@ module _ (g : Criteria) (frames : Transmission) where
     (run_start_in_frames_is_bounded i),
   )
 
-  -- A run of unfinished frames at the end of frame f does not begin after f.
+  -- If frame f is not before any frame sent so far, the run of unfinished frames at the end of
+  -- frame f does not begin after f.
   run_start_is_at_most_frame : (n f r : ℕ) → unfinished_run_start g frames n f ≡ Some r →
       latest_frame frames n
       ≤ f
@@ -263,8 +265,8 @@ module _ (g : Criteria) (frames : Transmission) where
     run_start_in_frames_is_bounded,
   )
 
-  -- If the page is unfinished at the end of the frame before f, a frame was sent, and the run of
-  -- unfinished frames does not begin after f.
+  -- If the page is unfinished at the end of the frame before f, and f is after all frames sent so
+  -- far, then a frame was sent, and the run of unfinished frames does not begin after f.
   pub first_unfinished_before_at_most : (n f r : ℕ) → first_unfinished_before g frames n f ≡ Some r
       → (0 < n → latest_frame frames n < f)
       → (0 < n) × (r ≤ f)
@@ -278,7 +280,8 @@ module _ (g : Criteria) (frames : Transmission) where
   before_eq zero f some = absurd (omega arith)
   before_eq (suc n) f some = refl
 
-  -- The first frame of the current run of unfinished frames; `None` if `within` is 0.
+  -- The first frame of the current run of unfinished frames at the end of frame f; `None` if the
+  -- page is finished there, or if `within` is 0.
   abbrev pub seen_run_start : ℕ → ℕ → Option ℕ
   seen_run_start n f = if g.within == 0 then None else unfinished_run_start g frames n f
 

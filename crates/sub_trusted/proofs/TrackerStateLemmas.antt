@@ -48,8 +48,8 @@ pub correct_frame_continues_or_begins : (whole first_unfinished : Option ℕ) (f
     → (whole ≡ Some w) ⊎ ((first_unfinished ≡ None) × (f ≡ w))
 correct_frame_continues_or_begins whole first_unfinished f w e = grind (arith, nat_tests)
 
--- The steps record neither an unfinished nor an overdue page, as if `within` is 0, and the current
--- run, if any, has a frame with a correct page.
+-- The steps record neither an unfinished nor an overdue page, as when `within` is 0. The current
+-- run, if any, has a frame at whose end the page was finished.
 pub record SeesNoLateness (t : List CheckStep) : Type 0 where
   pub first_unfinished : first_unfinished_of t ≡ None
   pub late : late_run_start t ≡ None
@@ -82,16 +82,17 @@ module _ (g : Criteria) (frames : Transmission) where
   abbrev pub IsAfterFrames : ℕ → ℕ → Type 0
   IsAfterFrames base from = (i : ℕ) → i < base → frame_at frames i < from
 
-  -- The frames `from` to `to` are trusted correctly (`IsTrustedCorrect`). They are after the first
-  -- `base` frames of the transmission and, if all frame numbers increase, before frame `late`.
+  -- The frames `from` to `to` belong to a run of fault-free frames, with a finished page if
+  -- `within` is not 0 (`IsTrustedCorrect`). They are after the first `base` frames of the
+  -- transmission and, if all frame numbers increase, before frame `late`.
   pub record IsTrustedBetween (base late from to : ℕ) : Type 0 where
     pub stretch_is_trusted_correct : IsTrustedCorrect from to
     pub above : IsAfterFrames base from
     pub early : RiseTo frames (length frames) → to < late
 
-  -- The frames before y of a run among the first n frames may be trusted. Frame y is at most x and,
-  -- if frame n follows, at most the greater of the numbers of frames n - 1 and n; otherwise it is
-  -- at most `late`.
+  -- A run among the first n frames of the transmission may end before frame y: y is at most x and,
+  -- if frame n follows, at most the greater of the numbers of frames n - 1 and n; otherwise y is at
+  -- most `late`.
   pub record MayEndBefore (late n x y : ℕ) : Type 0 where
     pub within : n ≤ length frames
     pub low : y ≤ x
@@ -128,8 +129,8 @@ module _ (g : Criteria) (frames : Transmission) where
       is = (kept_run_was_valid (run_of t) (first_invalidated_frame t es) from
       (sym emitted.run_eq ∙ is)).1
 
-  -- If frame numbers increase, each frame end by which at most n frames were sent is before frame n
-  -- of the transmission.
+  -- If frame numbers increase up to frame n of the transmission, each frame that ends after at most
+  -- n frames of the transmission is before frame n.
   pub earlier_end_is_before_frame : (n : ℕ) → RiseTo frames (suc n) → (m f : ℕ) → IsEnd frames m f →
       m ≤ n
       → f < frame_at frames n
@@ -142,8 +143,8 @@ module _ (g : Criteria) (frames : Transmission) where
       let up = rising_frames_are_ordered frames (suc n) rises m n (omega arith) (omega arith)
       in omega arith
 
-  -- If frame numbers increase, a frame end by which fewer than n frames were sent is not after
-  -- frame n - 1 of the transmission.
+  -- If the numbers of the first n frames of the transmission increase, a frame that ends after
+  -- fewer than n of them is not after frame n - 1.
   pub end_in_prefix_is_bounded : (n : ℕ) → RiseTo frames n → (m f : ℕ) → IsEnd frames m f → m < n
       → f ≤ frame_at frames (n - 1)
   end_in_prefix_is_bounded n rises m f (some, within, inl is) l =
@@ -153,8 +154,8 @@ module _ (g : Criteria) (frames : Transmission) where
       let up = rising_frames_are_ordered frames n rises m (n - 1) (omega arith) (omega arith)
       in omega arith
 
-  -- Frame numbers increase up to frame n of the transmission, and frame n - 1 has the greatest
-  -- number before it. This is so if a run continues.
+  -- Frame n is not the first of the transmission, frame numbers increase up to it, and frame n - 1
+  -- has the greatest number before it. All this is true if a run continues.
   pub record RunFacts (n : ℕ) : Type 0 where
     pub some : 0 < n
     pub last : latest_frame frames n ≡ frame_at frames (n - 1)
@@ -250,8 +251,8 @@ module _ (g : Criteria) (frames : Transmission) where
   }
 
 module _ (g : Criteria) (frames : Transmission) (base : ℕ) where
-  -- The current run, if any, has frames among the first n, after the first `base` frames, and no
-  -- fault is active at any of its ends before frame x.
+  -- The current run, if any, begins after the first `base` frames of the transmission and lasts to
+  -- frame n - 1. No fault is active at the end of any of its frames before frame x.
   pub record Keeps (n x : ℕ) (t : List CheckStep) : Type 0 where
     pub run : (from : ℕ) → run_of t ≡ Some from → IsRun g frames n from
     pub ends : (from : ℕ) → run_of t ≡ Some from → EndsFaultFree g frames n from x
@@ -349,7 +350,9 @@ module _ (g : Criteria) (frames : Transmission) (base : ℕ) where
           let orders = valid_events_have_no_order_fault t es in
           grind (arith, nat_tests)
 
-  -- The first k frames without packets before frame n of the transmission have ended.
+  -- Of the frames without packets directly before frame n of the transmission, the first k have
+  -- ended. The current run, if any, had no active fault at their ends. Frame numbers increase up to
+  -- frame n, unless a step reports a number out of order.
   pub record HasEndedGapFrames (n k : ℕ) (t : List CheckStep) : Type 0 where
     pub keeps : Keeps n (latest_frame frames n + suc k) t
     pub base_at_most : base ≤ n
@@ -373,7 +376,8 @@ module _ (g : Criteria) (frames : Transmission) (base : ℕ) where
       let long = gap_length-is frames n some in
       record { some = some; last = last; rises = rises; up = up; long = omega arith }
 
-  -- If a run goes on, no fault was active at the last frame end before frame f.
+  -- If a run continues, and frame f is after frame n - 1 of the transmission and not after frame n,
+  -- no fault was active at the end of the frame before f.
   pub no_faults_before : (n f from : ℕ) (t : List CheckStep) → n < length frames → Keeps n f t
       → run_of t ≡ Some from
       → RunFacts g frames n
@@ -405,7 +409,9 @@ module _ (g : Criteria) (frames : Transmission) (base : ℕ) where
           (subst (IsEnd frames n) at (gap_end g frames n k there (omega arith) h)) (le_refl n)
           (omega arith) (omega arith)
 
-  -- The first n frames of the transmission have ended, and no later frame.
+  -- The first n frames of the transmission have ended, and no later frame. The current run, if any,
+  -- had no active fault up to the end of frame n - 1. The numbers of these n frames increase,
+  -- unless a step reports a number out of order.
   pub record HasEndedFrames (n : ℕ) (t : List CheckStep) : Type 0 where
     pub keeps : Keeps n (frame_at frames (n - 1) + 1) t
     pub base_at_most : base ≤ n
@@ -420,7 +426,8 @@ module _ (g : Criteria) (frames : Transmission) (base : ℕ) where
         → back_frame_of t ≡ Some r
         → (0 < n) × (r ≤ frame_at frames (n - 1))
 
-  -- The first n frames of the transmission have ended, and frame n has begun with these packets.
+  -- The first n frames of the transmission have ended, and frame n has begun with these packets. If
+  -- frame n stays fault-free, the packets break no rule that affects receivers.
   pub record HasBegunNextFrame (n : ℕ) (packets : List (List ℕ)) (t : List CheckStep) : Type 0 where
     pub keeps : Keeps n (frame_at frames n) t
     pub base_at_most : base ≤ suc n

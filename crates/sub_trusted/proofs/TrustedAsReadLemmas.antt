@@ -1,5 +1,6 @@
 -- If the packets that were read are on air in a range of frames that begins with a header that
--- erases the page, the sufficient conditions hold for the packets on air, too.
+-- erases the page, the sufficient conditions for trusted frames hold for the packets on air if they
+-- hold for the packets that were read.
 use Rattle.std.proofs.lemmas.Bool.Decides.{nat_tests}
 use Rattle.std.proofs.Common.{◌≡◌, ℕ, zero, suc, ◌+◌, ◌-◌, ◌≤◌, Bool, true, List, []}
 use Rattle.std.proofs.Common.{◌∷◌, ◌++◌, drop, find, option_map, unwrap_or, refl, sym, ap, ap₂, ◌∙◌}

@@ -49,7 +49,8 @@ use Rattle.sub_rules.specs.Trusted.{has_no_active_faults, stays_fault_free, repo
 use Rattle.sub_rules.specs.Trusted.{events_reported_at_step, frame_if_finished}
 use Rattle.sub_rules.specs.Trusted.{first_finished_of}
 
--- If the run has a first frame with a finished page, it is the current frame or was found before.
+-- The first frame of the run at whose end the page was finished, if any, is the current frame f, or
+-- was found before in the same run.
 correct_frame_is_new_or_kept : (run whole first_unfinished : Option ℕ) (f w : ℕ)
     → option_or (if is_none run then None else whole) (frame_if_finished f first_unfinished) ≡ Some
     w

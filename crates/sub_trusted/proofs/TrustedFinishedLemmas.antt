@@ -1,4 +1,5 @@
--- If `within` is not 0, at least one of the trusted frames is finished.
+-- If `within` is not 0, the page is finished at the end of at least one of the frames that an event
+-- reports as trusted.
 use Rattle.std.proofs.Common.{◌≡◌, ℕ, ◌-◌, ◌<◌, ◌≤◌, ◌==◌, inl, inr, false, None, length, drop}
 use Rattle.std.proofs.Common.{Bool, Option, sym, ap, ◌∙◌, arith}
 use Rattle.std.proofs.lemmas.Bool.{cases_lt}

@@ -1,5 +1,6 @@
 -- If each header must have C4 (erase page) set and no delay is allowed, the guarantees hold for
--- trusted frames, whatever is on air before and after them. There is a law for repeats too.
+-- trusted frames, whatever is on air before and after them. The law for repeats gives guarantees
+-- without these two conditions.
 use Rattle.std.proofs.lemmas.Bool.Decides.{nat_tests}
 use Rattle.std.proofs.Common.{◌≡◌, ◌==◌, ℕ, ◌+◌, ◌<◌, ◌≤◌, inl, inr, Bool, true, false, List}
 use Rattle.std.proofs.Common.{Contains, Option, refl, arith, le_refl}

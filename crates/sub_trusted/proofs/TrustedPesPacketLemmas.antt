@@ -51,8 +51,8 @@ use Rattle.sub_rules.specs.Trusted.{events_reported_after, events_reported_at_st
 use Rattle.sub_rules.specs.Trusted.{first_finished_of}
 use Rattle.std.specs.List.{list_any}
 
--- A bound for the first frame that is not trusted at the end of a file: the last frame, if unread
--- bytes follow, or the frame after it.
+-- The first frame that is not trusted at the end of a file is at most this frame: the last frame,
+-- if unread bytes follow, otherwise the frame after the last.
 abbrev pub trusted_bound : Criteria → Transmission → ℕ
 trusted_bound g frames =
     if is_some g.unread then end_frame frames else end_frame frames + 1
@@ -118,8 +118,10 @@ module _ (g : Criteria) (frames : Transmission) (base : ℕ) where
       (λ l. ⊤) (Goes-nil P) (Goes-pes P) (Goes-append P) steps sent pes t pes_packets all
       (skipped_packets_need_nothing sent pes_packets) sends
 
-  -- The frames are trusted correctly and, if all frame numbers increase, end with the last frame or
-  -- earlier, or before the last frame if unread bytes follow.
+  -- The frames belong to a run of fault-free frames, and the page was finished at the end of one of
+  -- them or `within` is 0. They are after the first `base` frames of the transmission. If all frame
+  -- numbers increase, they end with the last frame or earlier, or before the last frame if unread
+  -- bytes follow.
   abbrev pub IsTrustedAtClose : ℕ → ℕ → Type 0
   IsTrustedAtClose = IsTrustedBetween g frames base (trusted_bound g frames)
 

@@ -33,8 +33,9 @@ module _ (g : Criteria) (frames : Transmission) where
       → k < length (packets_of_frame frames i)
       → breaks r g.watched (before frames i k) (packet_at frames i k) ≡ false
 
-  -- A run of fault-free frames up to frame n - 1 of the transmission. Its first frame, `from`, has
-  -- a header that erases the page.
+  -- The frames from `from` to frame n - 1 of the transmission are a run of fault-free frames: the
+  -- first has a header that erases the page, frame numbers increase up to the last, no packet
+  -- breaks a rule that affects receivers, and no fault is active at the end of any of these frames.
   pub record IsRun (n from : ℕ) : Type 0 where
     pub j : ℕ
     pub below : j < n

@@ -72,7 +72,7 @@ module _ (g : Criteria) (earlier : List PesPacket) (u : UnreadReason) (later : L
     abbrev frames : Transmission
     frames = sent_by_pes_packets g all
 
-    -- The frame before the skipped PES packet is not one of the frames `from` to `to`.
+    -- The last frame before the skipped PES packet is not one of the frames `from` to `to`.
     abbrev IsOutsideStretch : ℕ → ℕ → Type 0
     IsOutsideStretch from to = (end_frame sent < from) ⊎ (to < end_frame sent)
 

@@ -73,13 +73,14 @@ use Rattle.sub_rules.specs.Trusted.{has_no_active_faults, stays_fault_free, repo
 use Rattle.sub_rules.specs.Trusted.{events_reported_at_step, first_finished_of}
 
 module _ (g : Criteria) (frames : Transmission) (base : ℕ) where
-  -- The frames are trusted correctly, are after the first `base` frames of the transmission and, if
-  -- all frame numbers increase, before the last frame.
+  -- The frames belong to a run of fault-free frames, and the page was finished at the end of one of
+  -- them or `within` is 0. They are after the first `base` frames of the transmission and, if all
+  -- frame numbers increase, before its last frame.
   abbrev pub IsTrustedBeforeEnd : ℕ → ℕ → Type 0
   IsTrustedBeforeEnd = IsTrustedBetween g frames base (end_frame frames)
 
-  -- The frames that the steps report as trusted are trusted correctly, as in `IsTrustedBeforeEnd`,
-  -- and the history after the steps has the property S.
+  -- The frames that the steps report as trusted meet the conditions of `IsTrustedBeforeEnd`, and
+  -- the history after the steps has the property S.
   abbrev pub ReportsGoodStretches : (List CheckStep → Type 0)
       → List CheckStep → List CheckStep → Type 0
   ReportsGoodStretches S t ms = Goes IsTrustedBeforeEnd S t ms
@@ -133,8 +134,10 @@ module _ (g : Criteria) (frames : Transmission) (base : ℕ) where
       was : (from : ℕ) → run_of u ≡ Some from → run_of t ≡ Some from
       was from is = sym looks.run_eq ∙ is
 
-  -- The frames that the steps at the end of frame f report as trusted are trusted correctly, since
-  -- these steps invalidate no frame after f.
+  -- The frames that the steps at the end of frame f report as trusted meet the conditions of
+  -- `IsTrustedBeforeEnd`. Assumptions about the current run, if there is one: it is fault-free
+  -- before frame f, frame numbers increase, and it may end before any frame up to f
+  -- (`MayEndBefore`). If S holds after the events of these steps, it holds after the steps.
   pub end_steps_report_good_stretches : (n m f : ℕ) (t : List CheckStep) (S : List CheckStep → Type
       0)
       → ((from : ℕ) → run_of t ≡ Some from → latest_frame frames m ≤ f)
