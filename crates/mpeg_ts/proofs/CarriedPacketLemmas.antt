@@ -20,7 +20,7 @@ use Rattle.mpeg_ts.specs.TransportPacket.{payload, pid}
 use Rattle.mpeg_ts.specs.declared.joining.Given.TheVariants as given
 use Rattle.mpeg_ts.proofs.JoinedPacketLemmas.{joined_output_is_correct, joined_output}
 use Rattle.mpeg_ts.proofs.JoinedPacketLemmas.{new_part_gives_outcome, disjunction_with_true}
-use Rattle.mpeg_ts.proofs.PidEventLemmas.{AreSound, FirstFollowsBreak, first_packet_follows_break}
+use Rattle.mpeg_ts.proofs.PidEventLemmas.{AreSound, FirstIsUnlinked, first_packet_is_unlinked}
 use Rattle.mpeg_ts.proofs.PidEventLemmas.{good_packets_have_payloads}
 use Rattle.mpeg_ts.proofs.PidEventLemmas.{joining_agrees_with_events}
 use Rattle.mpeg_ts.proofs.OutcomeLemmas.{HavePayloads, boolean_cases, output, outcomes-from, tail}
@@ -104,7 +104,7 @@ no_marker_before_first_packet wrong = grind (arith, nat_tests)
 -- packets is the bytes for the outcomes of their parts, with gap markers as `with_gap_markers`
 -- defines.
 joining_starts_with_outcomes : (wrong : Bool) (goods : List GoodPacket)
-    → FirstFollowsBreak goods
+    → FirstIsUnlinked goods
     → HavePayloads goods
     → joined_output initial_joining wrong goods ≡ with_gap_markers false false
     (outcomes wrong (parts goods))
@@ -142,7 +142,7 @@ stream_outputs_carried_bytes number distance recording =
       none = λ e. refl;
       last = refl;
     }) sound
-    ∙ joining_starts_with_outcomes good.wrong_after good.packets (first_packet_follows_break history
+    ∙ joining_starts_with_outcomes good.wrong_after good.packets (first_packet_is_unlinked history
     all refl)
     (good_packets_have_payloads history all sound)
 

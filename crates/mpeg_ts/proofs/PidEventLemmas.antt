@@ -513,33 +513,33 @@ joining_agrees_with_events v s (Valid p ∷ more) k sound =
       last = last_good_unchanged v jumped s.good refl refl refl k.last;
     }) sound.1))
 
-abbrev pub FirstFollowsBreak : List GoodPacket → Type 0
-FirstFollowsBreak [] = Unit {0}
-FirstFollowsBreak (g ∷ more) = is_unlinked g.link ≡ true
+abbrev pub FirstIsUnlinked : List GoodPacket → Type 0
+FirstIsUnlinked [] = Unit {0}
+FirstIsUnlinked (g ∷ more) = is_unlinked g.link ≡ true
 
-pub first_packet_follows_break : (s : PacketHistory) (all : List PidEvent)
+pub first_packet_is_unlinked : (s : PacketHistory) (all : List PidEvent)
     → s.good ≡ None
-    → FirstFollowsBreak (good_packets_after s all).packets
+    → FirstIsUnlinked (good_packets_after s all).packets
 unfolding good_packets_after
-first_packet_follows_break s [] none = grind (arith, nat_tests)
-first_packet_follows_break s (Wrong ∷ more) none =
+first_packet_is_unlinked s [] none = grind (arith, nat_tests)
+first_packet_is_unlinked s (Wrong ∷ more) none =
     grind (
       arith,
       nat_tests,
-      (first_packet_follows_break (record s { has_unusable_packet = true })
+      (first_packet_is_unlinked (record s { has_unusable_packet = true })
           more none),
     )
-first_packet_follows_break s (Loss ∷ more) none =
-    grind (arith, nat_tests, (first_packet_follows_break (record s { has_loss = true }) more none))
-first_packet_follows_break s (Valid p ∷ more) none =
+first_packet_is_unlinked s (Loss ∷ more) none =
+    grind (arith, nat_tests, (first_packet_is_unlinked (record s { has_loss = true }) more none))
+first_packet_is_unlinked s (Valid p ∷ more) none =
     grind (
       arith,
       nat_tests,
       good-repeat,
       good-good,
       good-no_payload,
-      (first_packet_follows_break (record s { has_repeat = true }) more none),
-      (first_packet_follows_break (record s { has_jump = s.has_jump || announces_jump p }) more
+      (first_packet_is_unlinked (record s { has_repeat = true }) more none),
+      (first_packet_is_unlinked (record s { has_jump = s.has_jump || announces_jump p }) more
           none),
     )
 

@@ -220,7 +220,7 @@ module _ (distance number : ℕ) where
   good-second good again wrong p o after ns h1 h2 h3 h4 h5 =
       grind (arith, nat_tests, append-nil, heard-kept, or-false, good-packet, good-quiets-left)
 
-  pub good-english_has_no_second_cell : (good : Option (List ℕ)) (again wrong : Bool)
+  pub good-no-intact-repeat : (good : Option (List ℕ)) (again wrong : Bool)
       (o : Option SentUnit)
       (after : List SentUnit) (ns : List PidEvent)
       → AllByRecursion IsLossyUnit (option_to_list o)
@@ -233,5 +233,5 @@ module _ (distance number : ℕ) where
       (history_after_loss good again ((wrong || any_unit_damaged (option_to_list o)) ||
       any_unit_damaged after))
       ns
-  good-english_has_no_second_cell good again wrong o after ns h1 h2 h3 h4 =
+  good-no-intact-repeat good again wrong o after ns h1 h2 h3 h4 =
       grind (arith, nat_tests, good-quiets-left, or-false, append-nil, good-lost)

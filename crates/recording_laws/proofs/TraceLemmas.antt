@@ -32,7 +32,7 @@ use Rattle.recording_laws.proofs.LossyNoteLemmas.{or-false, IsLossyUnit, IsLossy
 use Rattle.recording_laws.proofs.LossyNoteLemmas.{repeat_or_packet}
 use Rattle.recording_laws.proofs.LossyNoteLemmas.{good-first}
 use Rattle.recording_laws.proofs.LossyNoteLemmas.{good-empty_first_gives_nothing}
-use Rattle.recording_laws.proofs.LossyNoteLemmas.{good-english_has_no_second_cell, good-quiets-left}
+use Rattle.recording_laws.proofs.LossyNoteLemmas.{good-no-intact-repeat, good-quiets-left}
 use Rattle.recording_laws.proofs.LossyNoteLemmas.{good-second, heard-carrier, heard-kept}
 use Rattle.recording_laws.proofs.LossyNoteLemmas.{notes_of_unit}
 use Rattle.recording_laws.proofs.LossyNoteLemmas.{history_after_loss}
@@ -164,7 +164,7 @@ module _ (distance number : ℕ) (few : Bool) where
                   any_unit_damaged c.after;
               gone = λ e. rw ((gone e).0, lost);
               goods_eq =
-                  good-english_has_no_second_cell distance number good again wrong c.again c.after
+                  good-no-intact-repeat distance number good again wrong c.again c.after
                   ns h.again h.after
                   h.is_carrier.after lost;
             })

@@ -29,8 +29,8 @@ pub record RunAnswers
   pub ends : Ends AreMade known IsClose request IsAlone old new result
 
 -- The fault that prevents an answer: a file could not be opened or created, the output might empty
--- the input file or the file that receives standard output, memory ran out, or the arguments are
--- invalid. In the last two cases no file was opened.
+-- the input file or is known to empty the file that receives standard output, memory ran out, or
+-- the arguments are invalid. In the last two cases no file was opened.
 abbrev pub IsRefusalReason :
     {I O : Type 0} → (List (FileCall I O) → Type 0) → List Text → UsageFault → Type 0
 IsRefusalReason AreMade arguments usage.Memory = AreMade []
