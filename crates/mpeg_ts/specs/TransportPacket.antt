@@ -63,6 +63,7 @@ packet_header p = take 4 p
 abbrev pub payload_offset : List ℕ → ℕ
 payload_offset p = if has_adaptation_field p then 5 + slice_index p 4 else 4
 
--- The payload of a transport packet, up to the end of the packet.
+-- The bytes of a transport packet after its header and adaptation field: its payload, if it has
+-- one.
 abbrev pub payload : List ℕ → List ℕ
 payload p = drop (payload_offset p) p

@@ -1,5 +1,5 @@
 -- No layout that draws a text changes its printable characters or their order. Of the cells between
--- them, a layout removes only those that `strip` names.
+-- two of them in the same row, a layout removes only those that `strip` names.
 use Rattle.std.specs.Prelude.{◌≡◌, ℕ, Bool, List, [], ◌∷◌, Ok, if◌then◌else◌, map, nat_lt}
 use Rattle.std.specs.List.{filter, flat_map}
 use Rattle.ttx_page.specs.Page.{Rows, space}

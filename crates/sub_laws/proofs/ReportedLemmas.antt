@@ -1,6 +1,6 @@
--- If `within` is 0, each broken rule of a transmission is reported at its place; for a changed row,
--- if neither the earlier packets nor its own packet have other faults. If all packets have 42 bytes
--- and no fault is reported, the transmission has no events.
+-- If `within` is 0, each broken rule of a transmission is reported at its place. A changed row is
+-- reported if neither the earlier packets nor its own packet have other faults. If all packets have
+-- 42 bytes and no fault is reported, the transmission has no events.
 use Rattle.std.proofs.lemmas.Bool.Decides.{nat_tests}
 use Rattle.std.proofs.Common.{◌≡◌, ◌<◌, List, [], ◌∷◌, length, Option, None, refl, ◌↔◌, sym}
 use Rattle.std.proofs.Common.{subst, arith, false, IsFalse, IsTrue, map}

@@ -1,5 +1,7 @@
--- If two sets of criteria agree on all expected pages that the first set knows, a frame that has no
--- active fault at its end for the first set has none for the second.
+-- Suppose that two sets of criteria differ only in their subtitles, and that at each frame whose
+-- expected page the first set knows, both expect the same page and the same subtitle to end. If
+-- frame numbers increase, a frame that has no active fault at its end for the first set has none
+-- for the second.
 use Rattle.std.proofs.lemmas.Bool.Decides.{nat_tests}
 use Rattle.std.proofs.Common.{◌≡◌, ℕ, ◌+◌, ◌-◌, ◌≤◌, inl, inr, Bool, true, false}
 use Rattle.std.proofs.Common.{◌&&◌, ◌||◌, ◌==◌, nat_le, Option, Some, None, length, refl, sym, ap}

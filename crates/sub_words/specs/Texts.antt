@@ -110,7 +110,7 @@ frame_of_digits text = do
       else None
 
 -- The frame of the day that a text `HH:MM:SS:FF` describes, two digits each; `None` for any other
--- text.
+-- text, and for an invalid time code.
 unfoldable pub frame_of_text : List ℕ → Option ℕ
 frame_of_text text = if has_colons text then frame_of_digits text else None
 

@@ -1,4 +1,5 @@
--- The fault that the report sink stored determines the result of the check.
+-- The check returns the fault that the report sink stored, or the failure of the source. Without
+-- either, it accepts the PES packets.
 use Rattle.std.proofs.Common.{◌≡◌, Err, Option, Result, ap}
 use Rattle.ttx_pes.specs.declared.fault.PesFault.TheVariants.{Read}
 use Rattle.sub_check.proofs.FirstFaultLemmas.{failure_is_at_reported_packet, kept_fault_is_answer}
