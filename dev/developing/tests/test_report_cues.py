@@ -230,6 +230,7 @@ class TextMarkup(Case):
         for text, expected in (("give --origin or --start",
                                 "give <b>--origin</b> or <b>--start</b>"),
                                ("--every 25 <x>", "<b>--every 25</b> &lt;x&gt;"),
+                               ("give --allow-lost", "give <b>--allow-lost</b>"),
                                ("a - b", "a - b")):
             self.must(text, markup_text(keep_options_together(text)) == expected,
                       markup_text(keep_options_together(text)))

@@ -56,6 +56,8 @@ SHAPES |= {AS_SHOWN: SHAPES[ACCEPTED], SAME: SHAPES[ACCEPTED], NOT_READ: SHAPES[
 MAX_LINES = 5  # number of places to show; a longer list is folded
 LOST_TITLE = "TS packets are missing from the recording, which could not be checked there"
 NAMED_FAULTS_TITLE = "Faults without a number"
+# An option, with its value if this is a number or a time
+OPTION = re.compile(r"(--[a-z]+(?:-[a-z]+)*(?: \d[\d:]*)?)")
 PROOF_NOTE = markup("The verdict and the faults are the lines that <code>subttx check --all</code> "
               "printed. The times, texts and pictures are computed by Python that is not proved; "
               "they show one receiver, tuned in before the first packet.")
@@ -98,7 +100,7 @@ def make_verdict_box(verdict: Verdict) -> Markup:
 def keep_options_together(text: str) -> Markup:
     """Mark up the options in a text, so that no line breaks within an option."""
     return join_markup(markup("<b>{}</b>", item) if at % 2 else item
-                       for at, item in enumerate(re.split(r"(--[a-z]+(?: \d[\d:]*)?)", text)))
+                       for at, item in enumerate(OPTION.split(text)))
 
 
 def describe_clock(verdict: Verdict) -> Markup:
