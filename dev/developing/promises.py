@@ -16,10 +16,15 @@ def find_index(text: str) -> str:
     return text.rpartition(HEAD)[2].partition("\n## ")[0]
 
 
+def list_index_rows(text: str) -> list[tuple[str, list[str]]]:
+    """Return each promise in the index with its clauses: CRATE/FUNCTION.CLAUSE, or a law's name."""
+    return [(row[1], CLAUSE.findall(row[2])) for row in ROW.finditer(find_index(text))]
+
+
 def list_indexed_clauses(text: str) -> list[str]:
-    """Return the clauses in the index, each once: CRATE/FUNCTION.CLAUSE, or a law's name."""
-    return list(dict.fromkeys(
-        clause for row in ROW.finditer(find_index(text)) for clause in CLAUSE.findall(row[2])))
+    """Return the clauses in the index, each once."""
+    return list(dict.fromkeys(clause for _, clauses in list_index_rows(text)
+                              for clause in clauses))
 
 
 def find_unknown_clauses(text: str, library: Library) -> list[str]:

@@ -14,7 +14,8 @@ from typing import Iterable, Iterator
 from subtitles.air.decision import HOUR, MAX_WAIT
 from subtitles.air.judge import HOOK_SECONDS
 from subtitles.air.main import make_judge_parser, make_record_parser, make_status_parser
-from subtitles.air.recorder import MAX_DELETED_SEGMENTS, WRITE_PATIENCE
+from subtitles.air.recorder import (
+    MAX_DELETED_SEGMENTS, MAX_READ_BYTES, PIPE_SIZE, WRITE_PATIENCE)
 from subtitles.air.segments import MAX_SEGMENT_SECONDS
 from subtitles.air.state import PAGE_SILENCE, SILENCE, Monitor
 from subtitles.air.status import CRITICAL, OK
@@ -50,7 +51,7 @@ from subtitles.stream.proved import MAX_CALLS
 from .. import pages
 from ..definitions import Library
 from ..looks import find_browser
-from ..promises import list_indexed_clauses, find_unknown_clauses
+from ..promises import find_unknown_clauses, list_index_rows, list_indexed_clauses
 from ..sizes import KINDS, count_lines, add_sizes
 from .bench import Case, import_script
 
@@ -168,6 +169,34 @@ PACKAGES = [*(os.path.join("tools", "subtitles", name)
             os.path.join("dev", "developing"), os.path.join("dev", "developing", "every_place")]
 SCRIPT = re.compile(r"`([a-z][\w.-]*/?)`")
 LINE = re.compile(r"^([a-z_]+) +\S", re.M)  # line of the module list in __init__.py
+# Words of each promise in the index of clauses, and the clauses that state it
+PROMISE_WORDS = [
+    ("the main theorem](HEADLINE.md#in-one-law)", r"subttx/run_in_memory|sub_headline/.*"),
+    ("accepts exactly the transmissions", r"sub_check/check_files\..*"),
+    ("`IsSufficient`", r"sub_laws/law_of_(good|sufficient_parts)"),
+    ("alone can make receivers show", r"sub_examples/.*"),
+    ("the output of `schedule`", r"sub_laws/law_of_(complete_)?plan.*"),
+    ("reports all faults and no others",
+     r"sub_check/check(_all\.(reported|begins)|\..*)|sub_laws/law_of_first_reported"),
+    ("positions at which rules are broken", r"sub_laws/law_of_broken_places"),
+    ("all trusted frames", r"sub_check/check_all\.trusted|sub_trusted/.*"),
+    ("as `Answers` defines", r"sub_answer/answer\..*"),
+    ("as a multiplexer sent them", r"mpeg_ts/.*|recording_laws/law_of_multiplex"),
+    ("each PES packet that arrives", r"recording_laws/law_of_(losses|neighbours)"),
+    ("lacks no PES packet", r"recording_laws/law_of_(complete_file|pace.*)"),
+    ("the loop of `survey`", r"ts_survey/(take.*|law_of_.*)"),
+    ("no write failed", r"ts_survey/survey\.(ended|grows)|sub_answer/print_survey\..*"),
+    ("The last line, `over`", r"ts_survey/survey\.listed"),
+    ("two different lists", r"(stl_file|ttx_pes)/law_of_one_.*"),
+    ("faults in a subtitle file", r"stl_rows/.*|stl_file/next\..*"),
+    ("written and read again", r"ttx_pes/((next|put)\..*|law_of_re.*)"),
+    ("EN 300 706", r"ttx_packet/.*"),
+    ("A device receives the bytes", r"sub_io/put_all\..*"),
+    ("The call of `run`", r"subttx/run|sub_answer/flush_pending"),
+    ("`written` is printed", r"sub_listing/.*|sub_(io|files)/store\..*"),
+    ("no byte is left in a buffer", r"sub_answer/answer_and_flush\..*|sub_io/close\..*"),
+    ("An output is created only", r"sub_files/open\..*"),
+    ("opens only files", r"sub_files/open\..*|sub_answer/(open_and_answer\..*|law_of_files_.*)")]
 
 
 def list_folder_entries(folder: str) -> list[str]:
@@ -218,6 +247,12 @@ class ModuleLists(Case):
         self.must("docs/CLAUSES.md", not unknown, unknown)
         self.must("rows", "sub_check/check_files.accepted" in list_indexed_clauses(text)
                   and len(list_indexed_clauses(text)) > 60, len(list_indexed_clauses(text)))
+
+    def test_each_clause_is_in_the_row_of_its_promise(self) -> None:
+        for promise, clauses in list_index_rows(read_document("docs/CLAUSES.md")):
+            for clause in clauses:
+                words = [words for words, form in PROMISE_WORDS if re.fullmatch(form, clause)]
+                self.must(clause, any(item in promise for item in words), (words, promise))
 
     def test_a_reading_list_describes_each_crate(self) -> None:
         about = import_script("reading-list").read_first_paragraph
@@ -318,7 +353,12 @@ FINAL = {*STATUSES.values()} - {STATUSES[NOT_JUDGED]}
 JUSTIFIED = [" or ".join(str(code) for code in range(RIGHT + 1)
                          if find_column(b"Hi", code, PLAIN) == column)
              for column in (0, COLUMNS // 2 - 1, COLUMNS - 2)]
+WRONG_CALLS = sum(map(int, re.findall(r"^const \w+: \[&\[&str\]; (\d+)\]", read(os.path.join(
+    TOP, "crates", "word_tests", "src", "explanations.rt")) or "", re.M)))
 STATED: list[tuple[str, str, object]] = [
+    ("CLAUSES.md", "the line on standard error for {} wrong calls,", WRONG_CALLS),
+    ("manual/air.md", "loses at most {:.1f} MB that it has not yet written",
+     (PIPE_SIZE + MAX_READ_BYTES) / 1e6),
     ("MANUAL.md", "back once, by {} hours or more", MIN_STEP_BACK // (FRAMES_OF_A_DAY // 24)),
     ("../README.md", "| {} | wrong arguments", f"{USAGE_STATUS}, {BUG_STATUS}"),
     ("manual/refusals.md", "`STL30.01` | export the file at {} frames", FRAMES_A_SECOND),
