@@ -94,6 +94,14 @@ class Installation(Case):
         self.must("compiled", is_compiled(self.path("moved/lib/subttx/tools/subtitles")))
         check_installation(self, self.path("moved"))
 
+    def test_others_can_use_what_a_private_clone_installs(self) -> None:
+        self.call(["sh", "-c", """umask 077 && mkdir clone &&
+            cp -r "$1"/tools "$1"/docs "$1"/examples "$1"/*.md "$1"/VERSION clone &&
+            clone/tools/install -p "$2" prefix""", "sh", TOP, self.bench.program])
+        modes = {os.stat(path).st_mode & 0o777
+                 for path in glob.glob(self.path("prefix/**"), recursive=True)}
+        self.check("modes of files and folders", modes, {0o644, 0o755})
+
     def test_removes_only_what_was_installed(self) -> None:
         tool = ("install", "--remove")
         process = self.tool("install", "-p", self.bench.program, "own/prefix")

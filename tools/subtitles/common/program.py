@@ -138,6 +138,20 @@ def copy(source: str, target: str, mode: int = 0o644) -> None:
     os.replace(target + ".new", target)
 
 
+def copy_file(source: str, target: str) -> None:
+    """Copy a file with mode 644, or 755 if it can be executed. A clone may be private."""
+    copy(source, target, 0o755 if os.access(source, os.X_OK) else 0o644)
+
+
+def copy_folder(source: str, target: str) -> None:
+    """Copy the files of a folder, except compiled Python files."""
+    for place, folders, names in os.walk(source):
+        folders[:] = [name for name in folders if name != "__pycache__"]
+        for name in names:
+            copy_file(os.path.join(place, name),
+                      os.path.join(target, os.path.relpath(place, source), name))
+
+
 def write(path: str, text: str) -> None:
     """Write a text file under a temporary name, then rename it."""
     os.makedirs(os.path.dirname(path), exist_ok=True)
@@ -162,9 +176,7 @@ def copy_tools(prefix: str) -> None:
         copy(os.path.join(TOP, "tools", name), os.path.join(home, "tools", name), 0o755)
         link(os.path.join("..", "lib", "subttx", "tools", name),
              os.path.join(prefix, "bin", INSTALLED + name))
-    shutil.copytree(os.path.join(TOP, "tools", "subtitles"),
-                    os.path.join(home, "tools", "subtitles"),
-                    ignore=shutil.ignore_patterns("__pycache__"))
+    copy_folder(os.path.join(TOP, "tools", "subtitles"), os.path.join(home, "tools", "subtitles"))
     copy_documents(home)
     link(os.path.join("..", "..", "bin", "subttx"), os.path.join(home, "subttx"))
 
@@ -195,11 +207,10 @@ def copy_documents(home: str) -> None:
     """Copy documents and examples, and remove links to files that are not installed."""
     for folder in ("docs", "examples"):
         shutil.rmtree(os.path.join(home, folder), ignore_errors=True)
-    shutil.copytree(os.path.join(TOP, "examples"), os.path.join(home, "examples"))
+    copy_folder(os.path.join(TOP, "examples"), os.path.join(home, "examples"))
     names = list_documents()
     for name in names:
-        path = os.path.join(TOP, name)
-        copy(path, os.path.join(home, name), 0o755 if os.access(path, os.X_OK) else 0o644)
+        copy_file(os.path.join(TOP, name), os.path.join(home, name))
     for name in names:
         if name.endswith(".md"):
             path = os.path.join(home, name)
