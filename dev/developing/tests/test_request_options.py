@@ -4,9 +4,7 @@ from __future__ import annotations
 import argparse
 import hashlib
 import itertools
-import json
 import os
-import sys
 import threading
 from typing import Any
 
@@ -20,67 +18,12 @@ from subtitles.request.request import (
     ALONE, JUDGED, LINE, MEASURE, OPTIONS, Option, Request, add_options, keep_stl,
     list_arguments as options_of, make_file_request)
 from subtitles.results.schema import REQUEST
-from .. import DEV
 from .bench import Case, get_example_path
 from .judged import judge_files
 from .parts import make_example_request, list_call_arguments, make_default_options
 from .transmissions import write_subtitle_file
 
 
-# Program that adds two options to the table of options, and prints everything derived from them.
-ADDED_OPTION = """
-import dataclasses, json, sys, developing
-from subtitles.common.shapes import Flag, Maybe, Text
-from subtitles.request import request as options
-options.OPTIONS = (*options.OPTIONS, options.Option(
-    "--new-one", "K", "a new one", options.JUDGED, "none", "new_one",
-    check_default=None, changes_pages=True, shape=Maybe(Text()), note="What is new."),
-    options.Option(
-    "--newer", None, "it is newer", options.PAIRS, "", "newer", default=False, check_default=False,
-    shape=Flag()))
-options.Request = dataclasses.make_dataclass("Request", [
-    ("new_one", object, None), ("newer", bool, False)], bases=(options.Request,))
-from developing import pages
-from developing.tests.parts import make_default_options
-from developing.tests.parts import list_call_arguments
-from subtitles.cli.main import make_parser
-from subtitles.results.schema import REQUEST
-from subtitles.cli.main import find_mode, refuse_options
-from subtitles.results.schema import schema
-from subtitles.common.command_line import Stop
-from subtitles.request.lines import make_line_request
-from subtitles.request.request import make_request
-from subtitles.request.commands import CommandPaths, make_command
-
-def said(does):
-    try:
-        does()
-    except Stop as reason:
-        return str(reason)
-
-def taken(*line):
-    mode = find_mode(make_parser("").parse_args(line))
-    return said(lambda: refuse_options(make_parser(""), line, mode))
-
-program, folder = sys.argv[1:]
-pair, given = ["a.stl", "a.ts"], ["--new-one", "5", "--newer"]
-asked = make_request(make_parser("").parse_args([*pair, *given]))
-none = make_request(make_parser("").parse_args(pair))
-help = make_parser("").format_help()
-print(json.dumps({
-    "help": help, "man page": pages.make_tool_parts(help)["options"],
-    "completion": pages.make_completion_parts("  check STL PES  does\\n", "", [help])["values"],
-    "asked": REQUEST.to_json(asked), "left out": REQUEST.to_json(none),
-    "call": list_call_arguments(asked),
-    "again": make_command(asked, CommandPaths("tools/qc", program)),
-    "check": asked.list_check_arguments(),
-    "file": asked.list_check_arguments(True), "pages": asked.list_schedule_arguments(),
-    "schema": schema()["definitions"]["request"]["properties"],
-    "same": make_request(make_parser("").parse_args(list_call_arguments(asked))) == asked,
-    "not with": [taken("a.stl", "--file-only", *given), taken(*pair, *given),
-                 taken("--collect", "x", "--new-one", "5")],
-    "line": REQUEST.to_json(make_line_request([*pair, *given], make_default_options()))}))
-"""
 # Options, their arguments, and the matching values in a JSON result.
 ROWS: list[tuple[str, str, Any]] = [
     ("--page", "8A1", "8A1"), ("--every", "7", 7), ("--option", "german", "german"),
@@ -92,44 +35,8 @@ ROWS: list[tuple[str, str, Any]] = [
     ("--keeping", "", True), ("--relative", "", True),
     ("--late", "0:31,5:69/0:100", "0:31,5:69/0:100"),
     ("--require", "video_gap,clock", ["video_gap", "clock"])]
+FOR_A_FILE = ("--option", "--from", "--to", "--layout", "--open")  # taken without a recording
 BACK = {"--complete", "--no-allow-lost", "--no-keeping"}  # options that restore a default
-
-
-class NewOptions(Case):
-    def test_a_new_option_is_used_everywhere(self) -> None:
-        process = self.call([sys.executable, "-c", ADDED_OPTION, self.bench.program, self.folder],
-                            env={
-            **os.environ, "COLUMNS": "2000", "PYTHONPATH": os.pathsep.join(
-                [DEV, *os.environ.get("PYTHONPATH", "").split(":")])})
-        self.must("made", process.status == 0, process.told)
-        output = json.loads(process.out)
-        given = ["--new-one", "5", "--newer"]
-        for name, line in (
-                ("help", "  --new-one K           a new one (default: none)\n"),
-                ("help", "  --newer               it is newer\n"),
-                ("man page",
-                 ".TP\n\\fB\\-\\-new\\-one\\fP \\fIK\\fP\nA new one (default: none).\n"),
-                ("man page", ".TP\n\\fB\\-\\-newer\\fP\nIt is newer.\n"),
-                ("completion", " --new-one ")):
-            self.must(name, line in output[name], output[name])
-        self.must("a flag has no value", "--newer" not in output["completion"])
-        for name, members in (("asked", ("5", True)), ("left out", (None, False)),
-                              ("line", ("5", True))):
-            result = output[name]["new_one"], output[name]["newer"]
-            self.must(name, result == members, result)
-        self.must("call", output["call"] == [*given, "--", "a.stl", "a.ts"]
-                  and output["same"], output)
-        self.must("again", output["again"] == "tools/qc a.stl a.ts " + " ".join(given),
-                  output["again"])
-        self.must("check", output["check"] == ["--complete", *given]
-                  and output["file"] == given[:2] == output["pages"], output)
-        self.must("schema", output["schema"]["new_one"]["description"] ==
-                  "A new one. What is new." and output["schema"]["newer"] == {
-                      "description": "It is newer.", "type": "boolean"}, output["schema"])
-        alone, pair, collect = output["not with"]
-        self.must("modes", pair is None and
-                  alone == "--newer needs a recording: remove --newer or --file-only" and
-                  "--new-one may be given with" in collect, output["not with"])
 
 
 class OptionRows(Case):
@@ -155,6 +62,8 @@ class OptionRows(Case):
                 **without, **({"within": 5} if name == "--late" else {}), key: member}, known)
             self.must(f"{name}: pages", request.list_schedule_arguments() == (
                 words if name in ("--layout", "--open") else []), request.list_schedule_arguments())
+            self.check(f"{name}: check of a file", request.list_check_arguments(True),
+                       words if name in FOR_A_FILE else [])
             line = make_line_request(["one.stl", "one.pes", *words], plain_words)
             self.must(f"{name}: line", line == request, line)
         every = [word for name, value, _ in ROWS if name != "--start"
