@@ -1,13 +1,8 @@
-"""Test the output of --measure: delays of cues, and profiles for recordings with several parts.
-
-From dev/, `python3 -m developing.tests.test_cli_measure PROGRAM FIRST LAST` measures random
-programmes with other seeds, and counts the profiles that accept their own recordings.
-"""
+"""Test the output of --measure: delays of cues, and profiles for recordings with several parts."""
 from __future__ import annotations
 
 import itertools
 import random
-import sys
 from collections import Counter
 from typing import Any
 
@@ -24,7 +19,7 @@ from subtitles.request.commands import CommandPaths
 from subtitles.stream.repeats import measure_repeats
 from subtitles.stream.packets import Packets
 from subtitles.stream.receiver import BLANK_PAGE, Timeline
-from .bench import BENCH, Case
+from .bench import Case
 from .judged import judge_files
 from .parts import make_example_request
 from .inserters import INSERTERS, BLANK_FRAMES, Inserter, Programme
@@ -253,7 +248,7 @@ class Parts(Case):
                       len(recording.paces) == 2 and len(recording.sendings) == 24, recording)
 
 
-SEEDS = 20  # number of seeds in an automatic test run
+SEEDS, ALL_SEEDS = 20, 200  # number of random programmes, and their number with --speed
 ACCEPTED = "# With this profile, qc refuses none of these recordings."
 
 
@@ -270,11 +265,11 @@ class Profiles(Case):
         return process.out.decode().splitlines(), paths
 
     def test_accepts_its_own_recordings_or_lists_others(self) -> None:
-        for seed in range(SEEDS):
+        for seed in range(ALL_SEEDS if self.bench.is_timed else SEEDS):
             self.measure(seed)
 
-    def measure(self, seed: int) -> bool:
-        """Return whether the profile measured from one or two random programmes accepts them."""
+    def measure(self, seed: int) -> None:
+        """Check that the profile of one or two random programmes accepts them or lists them."""
         chance = random.Random(seed)
         inserter = chance.choice(INSERTERS)
         programmes = [Programme(self, 10 * seed + number, inserter)
@@ -288,7 +283,6 @@ class Profiles(Case):
                                  "--origin", "0")
             self.check(f"{name}: {result.verdict.sentence}", result.word == "accepted",
                        not any(path in line for line in refused))
-        return not refused
 
     def test_allows_off_frame_pts_of_two_packets_a_frame(self) -> None:
         made = [Programme(self, number, Inserter("two a frame", each=2)) for number in (0, 1)]
@@ -335,16 +329,3 @@ class Profiles(Case):
         self.check("profile", [line in lines for line in ("--option german", "--keeping")],
                    [True, True])
         self.check("accepted", lines[-1], ACCEPTED)
-
-
-def main(program: str, first: int, last: int) -> None:
-    """Print how many profiles for the seeds `first` to `last - 1` accept their recordings."""
-    BENCH.chosen = program
-    case = Profiles("test_accepts_its_own_recordings_or_lists_others")
-    case.setUp()
-    good = sum(case.measure(seed) for seed in range(first, last))
-    print(f"{good} of {last - first} profiles refuse none of what they were measured on")
-
-
-if __name__ == "__main__":
-    main(sys.argv[1], int(sys.argv[2]), int(sys.argv[3]))

@@ -2,20 +2,18 @@
 
 The recordings have eleven kinds of delays, fourteen kinds of intervals between PES packets, breaks,
 several programmes, or repeats. `LOST` limits how many recordings of each kind may be refused or not
-judged. The tests judge only some recordings of each kind. From dev/, `python3 -m
-developing.tests.test_correct_recordings PROGRAM` judges all recordings. It prints the counts, and
-each recording that was not accepted.
+judged. The tests judge only some recordings of each kind; `dev/check-tools --speed
+test_correct_recordings` judges all.
 """
 from __future__ import annotations
 
 import collections
 import random
-import sys
 from typing import Callable, Iterator, NamedTuple, Sequence
 
 from developing.pes import make_pes_packet
 from subtitles.common.times import TICKS, format_frame
-from .bench import BENCH, Case
+from .bench import Case
 from .judged import JudgedPair, judge_files
 from .streams import (
     PTS_AHEAD, MPEG_2, PMT_PID, PRIVATE, TELETEXT_PID, VIDEO_PID, StreamMaker,
@@ -343,9 +341,11 @@ class CorrectRecordings(Case):
 
     def test_accepts_correct_recordings_of_each_kind(self) -> None:
         for kind in LOST:
-            several = [item for item in recordings() if item.kind == kind][::GATE]
-            words = [item.judge(self).word for item in several]
-            self.must(kind, is_bounded(kind, words) and "accepted" in words, words)
+            several = [item for item in recordings() if item.kind == kind]
+            judged = {item.name: item.judge(self).word
+                      for item in several[::1 if self.bench.is_timed else GATE]}
+            words = [*judged.values()]
+            self.must(kind, is_bounded(kind, words) and "accepted" in words, judged)
 
 
 class IndistinguishableFaults(Case):
@@ -400,23 +400,3 @@ def is_bounded(kind: str, words: Sequence[str]) -> bool:
     refused = sum(word not in ("accepted", "not judged") for word in words)
     return refused <= bound.refused and \
         refused + words.count("not judged") <= bound.refused + bound.not_judged
-
-
-def main(program: str) -> None:
-    """Judge all recordings. Print the counts, and each recording that was not accepted."""
-    BENCH.chosen = program
-    case = CorrectRecordings("test_accepts_correct_recordings_of_each_kind")
-    kinds = dict[str, list[str]]()
-    case.setUp()
-    for recording in recordings():
-        judged = recording.judge(case)
-        kinds.setdefault(recording.kind, []).append(judged.word)
-        if judged.word != "accepted":
-            print(f"{recording.kind}, {recording.name}: {judged.verdict.sentence}", flush=True)
-    for kind, words in kinds.items():
-        print(f"{kind}: {dict(collections.Counter(words))}, "
-              f"{'no more' if is_bounded(kind, words) else 'MORE'} than {LOST[kind]}", flush=True)
-
-
-if __name__ == "__main__":
-    main(sys.argv[1])
