@@ -303,14 +303,6 @@ class OutputsAndSignals(CallCase):
             self.must(f"{count} of them", process.status == 2 and all(
                 name in self.object()["reason"] for name in several), process)
 
-    def test_requires_an_output_folder(self) -> None:
-        self.write("list", " ".join(HELLO).encode())
-        for words in ([*HELLO, "--keep"], ["--batch", "list", "--keep"],
-                      ["--batch", "list", "--resume"], ["--watch", self.folder]):
-            process = self.qc(*words)
-            self.must(f"{words}", process.status == 64 and not process.printed and
-                      " needs -o" in process.told[0], process)
-
     def test_prints_profile_options_first_and_each_hint_once(self) -> None:
         program, words = self.fake_program(ACCEPTED), ("-o", "out", "--json", "one.json")
         self.write("house", b"--every 99\n")

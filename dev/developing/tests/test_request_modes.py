@@ -155,14 +155,6 @@ class Modes(Case):
                 main.dispatch("", "tools/qc", ["a.stl", *options.split()])
             self.check(options, str(refused.exception), NO_RECORDING)
 
-    def test_ends_a_wrong_call_with_status_64(self) -> None:
-        self.write("list", b"one.stl\n")
-        for words in (["--file-only", "a.stl", "--jobs", "5"], ["--collect", ".", "-o", "out"],
-                      ["--batch", "list", "--settled", "5"]):
-            process = self.tool("qc", *words)
-            self.must(" ".join(words), process.status == 64 and len(process.told) == 1
-                      and f"{words[2]} may be given with " in process.told[0], process)
-
     def test_prints_the_names_of_tools_as_typed(self) -> None:
         self.write("subttx-qc", b"#!/bin/sh\n")
         os.chmod(self.path("subttx-qc"), 0o755)
@@ -245,7 +237,8 @@ WRONG_USAGE: dict[str, list[list[str]]] = {
            [STL, PES, "--late", "0:1,2:1/0:1", "--within", "1"], ["--watch", TOP],
            ["--watch", TOP, "-o", "out", "--start", "tcp", "--origin", "0"],
            [STL, PES, "--profile", "none", "--start", "tcp", "--origin", "0"],
-           ["--batch", "none", "--resume"], ["--measure", STL, PES, STL],
+           ["--batch", "none", "--resume"], ["--batch", "none", "--keep"],
+           ["--measure", STL, PES, STL],
            ["--measure", STL, PES, STL, PES, "--origin", "0"], [STL, PES, "--keep"]],
     "pes2ts": [[], [PES], [PES, "0x1fff"], [PES, "0x100"], [PES, "7"], [PES, "0x101", "english"],
                [PES, "0x101", "--page", "8FF"]],

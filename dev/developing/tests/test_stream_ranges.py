@@ -5,7 +5,7 @@ import itertools
 import os
 
 from developing.stl import make_gsi_block, make_subtitle_blocks, make_tti_block
-from subtitles.common.times import CLOCK, FRAMES_OF_A_DAY, FrameRange, TICKS, format_frame
+from subtitles.common.times import CLOCK, FrameRange, TICKS, format_frame
 from subtitles.formats.stl import Subtitle, SubtitleFile, decode_subtitles
 from subtitles.judging.pair import find_adjoining_end, find_nearest_pauses
 from subtitles.judging.subtitles import HOUR, advise_on_title
@@ -165,15 +165,6 @@ class SkippedSubtitles(Case):
         shown = read_subtitles(self.bench.program, path)
         self.must("long texts", len(shown) == 4 and decode_subtitles(self.read(path)) == shown,
                   shown)
-
-    def test_passes_from_and_to_to_check(self) -> None:
-        for between, words in ((FrameRange(), ""), (FrameRange(25), "--from 00:00:01:00"),
-                               (FrameRange(0, 50), "--to 00:00:02:00"), (FrameRange(
-                                   9, FRAMES_OF_A_DAY - 1), "--from 00:00:00:09 --to 23:59:59:24")):
-            self.must(f"{between}", " ".join(between.words()) == words)
-        item = FrameRange(5, 9)
-        self.must("has",
-                  [item.includes(frame) for frame in (4, 5, 8, 9)] == [False, True, True, False])
 
     def test_notes_a_title_an_hour_before_the_programme(self) -> None:
         rows: list[tuple[list[int], str | None]] = [
