@@ -250,12 +250,11 @@ OTHER_SET = make_packet(0, 29, [0], b"") + encode_triplet(0x400) + encode_triple
 
 
 class WholeCalls(Case):
-    def read(self, *args: str) -> CompletedCall:  # type: ignore[override]
+    def read_pages(self, *args: str) -> CompletedCall:
         return self.tool("read", *args, "-o", "out")
 
     def result(self, name: str = "888") -> dict[str, Any]:
-        with open(self.path(f"out/{name}.json"), encoding="utf-8") as file:
-            result: dict[str, Any] = json.load(file)
+        result: dict[str, Any] = json.loads(self.read(f"out/{name}.json"))
         self.check("the schema", find_misfit(result), None)
         return result
 
@@ -273,7 +272,7 @@ class WholeCalls(Case):
             stl = self.write("one.stl", data)
             layout = ["--layout", "before=0D0B0B,row=-1"] if seed % 2 else []
             sent = self.schedule(stl, "sent.pes", "--every", "25", *layout)
-            call = self.read(sent, "--origin", "0")
+            call = self.read_pages(sent, "--origin", "0")
             self.check(f"{seed}", (call.status, self.result()["verdict"]), (0, AS_SHOWN))
             again = self.schedule(self.path("out/888.stl"), "again.pes", "--every", "25")
             status, lines = self.program("check", stl, again, *layout)
@@ -290,13 +289,13 @@ class WholeCalls(Case):
         for args, clock, begin in ((("sent.pes",), "first_pes", "00:00:01:00"),
                                    (("sent.pes", "--origin", "0"), "given", "00:00:02:00"),
                                    (("sent.ts", "--start", "10:00:00:00"), "start", "10:00:01:00")):
-            call = self.read(*args)
+            call = self.read_pages(*args)
             result = self.result()
             source, cue = result["parts"][0]["clock"]["source"], result["subtitles"][0]
             is_listed = CLOCK_KIND in {item["kind"] for item in result["not_checked"]}
             self.check(" ".join(args), (call.status, source, cue["expected_in"], is_listed),
                        (0, clock, begin, clock == "first_pes"))
-        call = self.read("sent.pes", "--start", "10:00:00:00")
+        call = self.read_pages("sent.pes", "--start", "10:00:00:00")
         self.check("no picture", (call.status, self.result()["verdict"]), (2, NOT_READ))
 
     def test_marks_what_the_recording_cuts(self) -> None:
@@ -308,7 +307,7 @@ class WholeCalls(Case):
             "one subtitle all the time": ([(0, text), (25, text)], ["both"]),
             "no text": ([(0, blank), (25, blank)], [])}
         for name, (frames, cuts) in rows.items():
-            call = self.read(self.send(*frames))
+            call = self.read_pages(self.send(*frames))
             result = self.result()
             shown = result["subtitles"]
             self.check(name, (call.status, [row["cut"] for row in shown], self.list_verdicts()),
@@ -352,7 +351,7 @@ class WholeCalls(Case):
                 ("an unmade check", [(0, text), (25, blank)], ("--require", "clock"), 2,
                  "required but not checked: clock")):
             self.send(*frames)
-            call = self.read("sent.pes", *args)
+            call = self.read_pages("sent.pes", *args)
             result = self.result(args[1] if "--page" in args else "888")
             line = result["reason"] or result["line"].partition(": ")[2]
             has_begin = line == begin if "not checked" in begin else line.startswith(begin)
@@ -360,7 +359,7 @@ class WholeCalls(Case):
             self.check(f"{name}: the sentence", PHRASES[OPTION] in result["sentence"],
                        line.endswith("option"))
         self.send(*row_24)
-        self.read("sent.pes")
+        self.read_pages("sent.pes")
         result = self.result()
         self.check("counts", [result["subtitles"], result["subtitle_counts"],
                               result["reading"]["shown"]], [[], {"judged": 0, "refused": 1}, 1])
@@ -369,13 +368,13 @@ class WholeCalls(Case):
         self.send((0, [HEADER, ROW, NEXT_PAGE, ROW, CLOSING]),
                   (25, [KEEPING_HEADER, ROW, NEXT_PAGE, ROW, CLOSING]),
                   (50, [HEADER, NEXT_PAGE, CLOSING]))
-        status = self.read("sent.pes").status
+        status = self.read_pages("sent.pes").status
         self.check("statuses", (status, self.result("888")["status"], self.result("889")["status"]),
                    (1, 1, 0))
 
     def test_names_pes_packets_before_the_first_header(self) -> None:
         self.send((0, [CLOSING]), (25, [CLOSING]), (30, [HEADER, CLOSING]), (50, [HEADER, CLOSING]))
-        self.check("status", self.read("sent.pes").status, 0)
+        self.check("status", self.read_pages("sent.pes").status, 0)
         self.check("entry", [(item["from"], item["to"], item["text"])
                              for item in self.result()["not_checked"] if item["kind"] == OUTSIDE],
                    [("00:00:00:00", "00:00:01:00", "2 PES packets before the first header of the "
@@ -385,7 +384,7 @@ class WholeCalls(Case):
         text, blank = [HEADER, ROW, CLOSING], [HEADER, CLOSING]
         enhanced = [HEADER, ROW, make_packet(0, 26, [0], b"") + encode_triplet(0) * 13, CLOSING]
         self.send((0, blank), (25, text), (50, blank), (75, enhanced), (100, blank))
-        self.check("status", self.read("sent.pes").status, 1)
+        self.check("status", self.read_pages("sent.pes").status, 1)
         result = self.result()
         self.check("count", (result["reading"]["enhanced"], result["reading"]["certain"],
                              self.list_verdicts()), (1, 2, [CERTAIN, CERTAIN]))
@@ -412,7 +411,7 @@ class WholeCalls(Case):
             at = begins[lost // 5]
             self.write("lost.ts", b"".join(stream[:at] + stream[at + 1:]))
             for words in ((), ("--allow-lost",)):
-                call = self.read("lost.ts", *words)
+                call = self.read_pages("lost.ts", *words)
                 self.check(f"{name} {words}", (call.status, self.list_verdicts()), (1, expected))
 
     def test_names_a_reading_that_ends_early(self) -> None:
@@ -421,54 +420,53 @@ class WholeCalls(Case):
         broken = bytearray(data)
         broken[len(b"".join(pes[:10])) + 5] ^= 1
         for name, content in (("the length", bytes(broken)), ("the end", data[:-50])):
-            call = self.read(self.write("a.pes", content))
+            call = self.read_pages(self.write("a.pes", content))
             self.check(name, (call.status, self.result()["faults"][0]["name"]), (1, "ends early"))
 
     def read_bytes(self, every: int) -> bytes:
         stl = self.write("one.stl", make_random_stl(1)[0])
-        with open(self.schedule(stl, "sent.pes", "--every", str(every)), "rb") as file:
-            return file.read()
+        return self.read(self.schedule(stl, "sent.pes", "--every", str(every)))
 
     def test_reads_over_the_wrap_of_the_pts(self) -> None:
         data = self.read_bytes(25)
         first = decode_pts(data)
         moved = replace_pts(data, lambda _, pts: (pts - first - 90_000 * 5) % CLOCK)
-        self.check("status", self.read(self.write("a.pes", moved)).status, 0)
+        self.check("status", self.read_pages(self.write("a.pes", moved)).status, 0)
 
     def test_needs_a_pid_for_a_page_on_two(self) -> None:
         data = self.read_bytes(25)
         self.write("two.ts", make_stream_of_pids((0x101, data), (0x102, data)))
-        call = self.read("two.ts")
+        call = self.read_pages("two.ts")
         reason = self.result()["reason"]
         self.must("both", call.status == 2 and "page 888 is sent on 2 PIDs" in reason, call)
         command = f"{os.path.join(TOOLS, 'read')} two.ts --page 888 --pid"
         self.must("commands", all(f"{command} {pid}" in line for pid, line in zip(
             ("0x101", "0x102"), call.told[-2:])), call)
-        self.check("one", self.read("two.ts", "--pid", "0x102").status, 0)
+        self.check("one", self.read_pages("two.ts", "--pid", "0x102").status, 0)
 
     def test_reads_all_pages_by_one_survey(self) -> None:
         sent = []
         for seed, name in enumerate(["777", "888"]):
             stl = self.write("one.stl", make_random_stl(seed)[0])
-            data = super().read(self.schedule(stl, "a.pes", "--every", "25", "--page", name))
+            data = self.read(self.schedule(stl, "a.pes", "--every", "25", "--page", name))
             first = decode_pts(data)
             sent.append(replace_pts(data, lambda _, pts: pts - first + 90_000))
         recording = self.write("two.ts", make_stream_of_pids(*zip((0x101, 0x102), sent)))
         program = self.make_program_with_exception("survey*two.ts", "echo $* >>calls")
-        self.check("status", self.read(recording, "-p", program).status, 0)
+        self.check("status", self.read_pages(recording, "-p", program).status, 0)
         self.check("pages of each survey", [line.count(b"--page") for line in
-                                            super().read("calls").splitlines()], [1, 2])
+                                            self.read("calls").splitlines()], [1, 2])
         for name in ("777", "888"):
             self.tool("read", recording, "--page", name, "-o", "one")
-            self.check(name, super().read(f"out/{name}.stl"), super().read(f"one/{name}.stl"))
+            self.check(name, self.read(f"out/{name}.stl"), self.read(f"one/{name}.stl"))
 
     def test_replaces_only_its_own_files(self) -> None:
         sent = self.send((0, [HEADER, CLOSING]), (25, [HEADER, ROW, CLOSING]),
                          (50, [HEADER, CLOSING]))
-        self.check("first", self.read(sent).status, 0)
-        self.check("again", self.read(sent).status, 0)
+        self.check("first", self.read_pages(sent).status, 0)
+        self.check("again", self.read_pages(sent).status, 0)
         self.write("out/888.stl", make_random_stl(1)[0])
-        call = self.read(sent)
+        call = self.read_pages(sent)
         self.must("of the operator", call.status == 2 and "was not written by" in
                   "".join(call.told), call)
 
@@ -502,39 +500,30 @@ class WrittenFiles(Case):
     def test_writes_the_same_file_again(self) -> None:
         stl = self.write("one.stl", make_random_stl(1)[0])
         sent = self.schedule(stl, "sent.pes", "--every", "25")
-        files = []
         for out in ("a", "b"):
             self.check(out, self.tool("read", sent, "-o", out).status, 0)
-            with open(self.path(f"{out}/888.stl"), "rb") as file:
-                files.append(file.read())
-        self.check("bytes", files[0], files[1])
-        os.utime(sent, (981_173_106, 981_173_106))
+        self.check("bytes", self.read("a/888.stl"), self.read("b/888.stl"))
+        os.utime(sent, (981_173_106, 981_173_106))  # 3 February 2001
         self.tool("read", sent, "-o", "c")
-        with open(self.path("c/888.stl"), "rb") as file:
-            self.check("the dates", file.read()[224:236], b"010203010203")
+        self.check("the dates", self.read("c/888.stl")[224:236], b"010203010203")
 
     def test_writes_the_files_of_qc(self) -> None:
         stl = self.write("one.stl", make_random_stl(1)[0])
         sent = self.schedule(stl, "sent.pes", "--every", "25")
-        with open(sent, "rb") as file:
-            data = file.read()
+        data = self.read(sent)
         for name, args, piped in (("a file", [sent], None), ("a pipe", ["-"], data)):
             call = self.tool("read", *args, "--page", "888", "-o", "out", "--json", "1.json",
                              "--csv", "1.csv", "--junit", "1.xml", data=piped)
             self.check(name, (call.status, sorted(os.listdir(self.path("out")))),
                        (0, ["888.html", "888.json", "888.stl", "888.txt"]))
-        with open(self.path("1.json"), encoding="utf-8") as file:
-            result = json.load(file)
-        with open(self.path("1.csv"), encoding="utf-8") as file:
-            lines = file.read().splitlines()
+        result, lines = json.loads(self.read("1.json")), self.read("1.csv").splitlines()
         self.check("subtitles", len(lines) - 2, len(result["subtitles"]))
         self.check("sum", result["inputs"]["recording"]["sha256"],
                    hashlib.sha256(data).hexdigest())
         call = self.tool("qc", "--collect", "out", "--junit", "all.xml")
         self.must("collected", call.status == 0 and b"1 pair: 1 as shown" in call.out, call)
-        with open(self.path("out/888.html"), encoding="utf-8") as file:
-            page = file.read()
-        self.check("the report", page.count("<td>certain</td>"), len(result["subtitles"]) - 1)
+        self.check("the report", self.read("out/888.html").count(b"<td>certain</td>"),
+                   len(result["subtitles"]) - 1)
         self.check("no page", self.tool("read", sent, "--json", "1.json").status, 64)
 
 
@@ -551,8 +540,7 @@ class TwoRecordings(Case):
     def compare(self, *args: str) -> tuple[int, str]:
         call = self.tool("qc", "--reference", *args, "--every", "100", "-o", "out")
         lines = call.out.decode().splitlines()
-        with open(self.path("out/b.json"), encoding="utf-8") as file:
-            result = json.load(file)
+        result = json.loads(self.read("out/b.json"))
         self.check(f"{args}: the schema", find_misfit(result), None)
         self.must(f"{args}: wrong", call.status == 1 or not result["causes"] and not any(
             row["verdict"] == "wrong" for row in result["subtitles"]), result["subtitles"])
