@@ -15,7 +15,6 @@ from subtitles.recording.recording import Recording
 from subtitles.request.request import Unclear
 from subtitles.stream.gaps import SECOND
 from subtitles.stream.packets import Packets
-from subtitles.stream.survey import Survey
 from .bench import Case
 from .judged import JudgedPair, ProgrammeCase, judge_files
 from .streams import (
@@ -23,10 +22,14 @@ from .streams import (
 from .parts import make_example_request, read_survey
 from .transmissions import CLOSING, SentPes, join_pes_packets, packets, write_programme
 from .test_judging_pairs import damage_packet
-from .test_correct_recordings import make_service_stream as in_pcr
+from .test_correct_recordings import make_service_stream
 
 PAGE = (0, 0x88)
 FIRST_PID, SECOND_PID, THIRD_PID = 257, 258, 259
+# Lines of `survey` for the second PID: all of its 9 TS packets are scrambled, or it has a PES
+# packet of Teletext and then data other than Teletext (fault 31).
+SCRAMBLED_SECOND = f"end {SECOND_PID} 0 0 9 9 0 0 -"
+READ_SECOND = [f"pes {SECOND_PID} 0 1 {SECOND} 0 -/ 1 0", f"end {SECOND_PID} 0 0 9 9 31 0 -"]
 
 
 def list_announcements(*lines: str) -> list[Announcement]:
@@ -92,29 +95,27 @@ class Announcements(Case):
             self.must(f"{name}: over the wrap", (unsent is None) == (expected is None), unsent)
 
     def test_finds_programmes_that_never_send_the_page(self) -> None:
-        rows: list[tuple[list[str], set[int], set[int]]] = [
-                ([*make_pmt_lines(1, FIRST_PID)], {FIRST_PID}, set()),
-                ([*make_pmt_lines(1, FIRST_PID), *make_pmt_lines(2, SECOND_PID)], {FIRST_PID},
-                 {SECOND_PID}),
-                ([*make_pmt_lines(1, FIRST_PID), *make_pmt_lines(2, SECOND_PID),
-                  *make_pmt_lines(3, THIRD_PID)], {FIRST_PID, SECOND_PID},
-                 {THIRD_PID}),
-                ([*make_pmt_lines(1, FIRST_PID), *make_pmt_lines(2, SECOND_PID)],
-                 {FIRST_PID, SECOND_PID}, set()),
-                ([*make_pmt_lines(1, FIRST_PID), *make_pmt_lines(2, SECOND_PID)], set(), set()),
-                ([*make_pmt_lines(1, FIRST_PID), *make_pmt_lines(2, SECOND_PID)],
-                 {THIRD_PID}, set()),
-                ([*make_pmt_lines(1, FIRST_PID, SECOND_PID)], {FIRST_PID}, set()),
-                ([*make_pmt_lines(1, FIRST_PID), *make_pmt_lines(2, FIRST_PID)],
-                 {FIRST_PID}, set())]
-        for lines, carriers, expected in rows:
-            self.must(f"{lines} {carriers}",
-                      find_silent_pids(list_announcements(*lines), carriers) == expected)
+        # The lines of `survey`, the PIDs that carry the page, and the PIDs of programmes that
+        # announce the page and never send it.
+        first, second = make_pmt_lines(1, FIRST_PID), make_pmt_lines(2, SECOND_PID)
+        rows: dict[str, tuple[list[str], set[int], set[int]]] = {
+            "the only programme sends it": (first, {FIRST_PID}, set()),
+            "one of two": ([*first, *second], {FIRST_PID}, {SECOND_PID}),
+            "two of three": ([*first, *second, *make_pmt_lines(3, THIRD_PID)],
+                             {FIRST_PID, SECOND_PID}, {THIRD_PID}),
+            "both of two": ([*first, *second], {FIRST_PID, SECOND_PID}, set()),
+            "none of two": ([*first, *second], set(), set()),
+            "a PID that no programme has": ([*first, *second], {THIRD_PID}, set()),
+            "one of two PIDs of a programme": (make_pmt_lines(1, FIRST_PID, SECOND_PID),
+                                               {FIRST_PID}, set()),
+            "a PID of two programmes": ([*first, *make_pmt_lines(2, FIRST_PID)], {FIRST_PID},
+                                        set())}
+        for name, (lines, carriers, expected) in rows.items():
+            self.check(name, find_silent_pids(list_announcements(*lines), carriers), expected)
             for pes in (None, (0, 9)):  # --pes decides which programme is meant
-                result = self.describe_unclear(lines, carriers, pes)
                 pids = [f"--pid 0x{pid:X}" for pid in sorted(carriers | expected)]
-                self.must(f"{lines} {carriers} {pes}: refused", result == (
-                    pids if expected and pes is None else None), result)
+                self.check(f"{name}: commands with --pes {pes}", self.describe_unclear(
+                    lines, carriers, pes), pids if expected and pes is None else None)
 
     def describe_unclear(self, lines: list[str], carriers: set[int], pes: tuple[int, int] | None) \
             -> list[str] | None:
@@ -142,55 +143,71 @@ class Announcements(Case):
         self.must("no PCR", not is_page_expected(None, subtitles, 0))
         self.must("no subtitle", not is_page_expected((0, CLOCK // 2), [], 0))
 
+    def find_refusal(self, lines: Sequence[str], words: Sequence[str], is_sent: bool) -> str:
+        """Return why a recording of 60 s with these lines of `survey` is refused, or "". Subtitles
+        are expected in the frames 100 to 150. `is_sent` says whether some PID carries the page."""
+        survey = read_survey(*lines, "pcr 100 0", f"pcr 100 {60 * SECOND}")
+        request = make_example_request("a.stl", "a.ts", *words)
+        try:
+            if is_sent:
+                refuse_other_pid(request, survey, SECOND, 9 * SECOND)
+            else:
+                refuse_unsent_page(request, survey, [(100, 150)])
+        except NeverSent as reason:
+            return str(reason)
+        return ""
+
     def test_refuses_a_page_that_is_sent_nowhere(self) -> None:
-        clock = ["pcr 100 0", f"pcr 100 {60 * SECOND}"]
-        sent, scrambled = f"pes {FIRST_PID} 0 1 {SECOND} 0 h/ 1 0", f"end {SECOND_PID} 0 0 9 9 0 " \
-            "0 -"
-        # unreadable Teletext
-        known = f"pes {SECOND_PID} 0 1 {SECOND} 0 -/ 1 0; end {SECOND_PID} 0 0 9 9 31 0 -"
-        short = f"pcr 200 0; pcr 200 {SECOND}"
-        start = [f"stream {THIRD_PID} 2", f"video {THIRD_PID} 0",
-                 f"picture {THIRD_PID} {90 * SECOND}"]
-        rows: list[tuple[list[str], list[str], bool]] = [
-            (make_pmt_lines(1, FIRST_PID), [], True),
-            (make_pmt_lines(1, SECOND_PID), ["--pid", f"{SECOND_PID}"], True),
-            (make_pmt_lines(1, FIRST_PID), ["--pid", f"{SECOND_PID}"], False),
-            ([*make_pmt_lines(1, FIRST_PID, SECOND_PID), scrambled], [], False),
-            ([*make_pmt_lines(1, SECOND_PID), scrambled], [], False),
-            ([*make_pmt_lines(1, SECOND_PID), known], [], True),
-            ([*make_pmt_lines(1, FIRST_PID, SECOND_PID), known, short], [], True),
-            ([*make_pmt_lines(1, FIRST_PID, clock=100), *make_pmt_lines(2, SECOND_PID, clock=200),
-              short], [], True),
-            ([*make_pmt_lines(1, FIRST_PID, clock=200), *make_pmt_lines(2, SECOND_PID, clock=100),
-              short], [], True),
-            ([*make_pmt_lines(1, FIRST_PID, clock=200), short], [], False),
-            ([*make_pmt_lines(1, FIRST_PID), scrambled], [], True),
-            ([*make_pmt_lines(1, FIRST_PID), *start], [], True),
-            ([*make_pmt_lines(1, FIRST_PID), *start], ["--start", "00:00:00:00"], False),
-            ([*make_pmt_lines(1, FIRST_PID), *start], ["--start", "00:01:30:00"], True),
-            ([sent, *make_pmt_lines(1, SECOND_PID)], [], True),
-            ([sent, *make_pmt_lines(1, SECOND_PID), scrambled], [], False),
-            ([sent, f"pes {SECOND_PID} 0 1 {SECOND} 0 -/ 1 0", *make_pmt_lines(1, SECOND_PID)],
-             [], True),
-            ([sent, *make_pmt_lines(1, SECOND_PID, THIRD_PID), scrambled], [], False),
-            ([sent, *make_pmt_lines(1, SECOND_PID)], ["--pid", f"{FIRST_PID}"], False)]
-        for lines, words, is_refused in rows:
-            survey, result = Survey(), ""
-            for line in "; ".join([*lines, *clock]).split("; "):
-                survey.read_line(line)
-            request = make_example_request("a.stl", "a.ts", *words)
-            try:
-                if sent in lines:
-                    refuse_other_pid(request, survey, SECOND, 9 * SECOND)
-                else:
-                    refuse_unsent_page(request, survey, [(100, 150)])
-            except NeverSent as reason:
-                result = str(reason)
-            self.must(f"{lines} {words}", bool(result) == is_refused, result)
+        first, second = make_pmt_lines(1, FIRST_PID), make_pmt_lines(1, SECOND_PID)
+        both = make_pmt_lines(1, FIRST_PID, SECOND_PID)
+        # A programme whose PCRs, on PID 200, are only a second apart
+        short = ["pcr 200 0", f"pcr 200 {SECOND}"]
+        of_short = make_pmt_lines(1, FIRST_PID, clock=200)
+        # Its first picture has the PTS 90 s.
+        picture = [f"stream {THIRD_PID} 2", f"video {THIRD_PID} 0",
+                   f"picture {THIRD_PID} {90 * SECOND}"]
+        rows: dict[str, tuple[list[str], list[str], bool]] = {
+            "announced on a PID without packets": (first, [], True),
+            "announced on the given PID": (second, ["--pid", f"{SECOND_PID}"], True),
+            "announced on another PID than the given one": (first, ["--pid", f"{SECOND_PID}"],
+                                                            False),
+            "its PID is scrambled": ([*second, SCRAMBLED_SECOND], [], False),
+            "one of its PIDs is scrambled": ([*both, SCRAMBLED_SECOND], [], False),
+            "another PID is scrambled": ([*first, SCRAMBLED_SECOND], [], True),
+            "its PID has Teletext, then other data": ([*second, *READ_SECOND], [], True),
+            "one of its PIDs has Teletext, then other data": ([*both, *READ_SECOND, *short], [],
+                                                              True),
+            "the second of two programmes is short": (
+                [*first, *make_pmt_lines(2, SECOND_PID, clock=200), *short], [], True),
+            "the first of two programmes is short": (
+                [*of_short, *make_pmt_lines(2, SECOND_PID), *short], [], True),
+            "the only programme is too short for a subtitle": ([*of_short, *short], [], False),
+            "a picture without --start": ([*first, *picture], [], True),
+            "by --start, all subtitles are later": (
+                [*first, *picture], ["--start", "00:00:00:00"], False),
+            "by --start, the first picture is after a subtitle": (
+                [*first, *picture], ["--start", "00:01:30:00"], True)}
+        for name, (lines, words, is_refused) in rows.items():
+            reason = self.find_refusal(lines, words, is_sent=False)
+            self.check(f"{name}: {reason}", bool(reason), is_refused)
         stl = self.write("none.stl", b" " * 1024)
-        self.must("no TCP",
-                  find_origin(make_example_request(stl, "a.ts", "--start", "tcp"), read_survey(
-            *make_pmt_lines(1, FIRST_PID), *start, f"stream {FIRST_PID} 6"), FIRST_PID) is None)
+        survey = read_survey(*first, *picture, f"stream {FIRST_PID} 6")
+        self.check("no TCP", find_origin(make_example_request(
+            stl, "a.ts", "--start", "tcp"), survey, FIRST_PID), None)
+
+    def test_refuses_a_page_that_is_sent_on_another_pid(self) -> None:
+        sent = [f"pes {FIRST_PID} 0 1 {SECOND} 0 h/ 1 0"]
+        second = make_pmt_lines(1, SECOND_PID)
+        rows: dict[str, tuple[list[str], list[str], bool]] = {
+            "announced on a PID without packets": ([*sent, *second], [], True),
+            "announced on a PID with other Teletext": ([*sent, READ_SECOND[0], *second], [], True),
+            "announced on a scrambled PID": ([*sent, *second, SCRAMBLED_SECOND], [], False),
+            "one of the announced PIDs is scrambled": (
+                [*sent, *make_pmt_lines(1, SECOND_PID, THIRD_PID), SCRAMBLED_SECOND], [], False),
+            "the given PID sends it": ([*sent, *second], ["--pid", f"{FIRST_PID}"], False)}
+        for name, (lines, words, is_refused) in rows.items():
+            reason = self.find_refusal(lines, words, is_sent=True)
+            self.check(f"{name}: {reason}", bool(reason), is_refused)
 
 
 class JudgedStreams(ProgrammeCase):
@@ -206,15 +223,18 @@ class JudgedStreams(ProgrammeCase):
     def send_headers_only(self, at: int) -> Sequence[tuple[int, bytes]]:
         return [(NEW, make_pes_packet(decode_pts(self.pes[at]), []))]
 
-    def check_never_sent(self, name: str, told: JudgedPair, words: str) -> None:
-        fault, = told.result["faults"]
-        known = told.result
-        self.must(name, (told.word, known["status"], known["line"], known["worst_fault"]) == (
-            "refused", 1, "refused never sent", "refused never sent") and (
-                fault["number"], fault["name"], fault["meaning"]) == (None, "never sent", words)
-                  and told.verdict.sentence == f"Refused: {words}." and known["parts"] == []
-                  and known["subtitle_counts"] is None and known["inputs"]["recording"]["sha256"]
-                  and any("announces page 888" in line for line in told.said), told.said)
+    def check_never_sent(self, name: str, judged: JudgedPair, reason: str) -> None:
+        """Check that a pair is refused with the one fault `never sent`, and nothing is judged."""
+        result, line = judged.result, "refused never sent"
+        self.check(f"{name}: verdict", (judged.word, result["status"], result["line"],
+                                        result["worst_fault"]), ("refused", 1, line, line))
+        self.check(f"{name}: faults", [(fault["number"], fault["name"], fault["meaning"])
+                                       for fault in result["faults"]],
+                   [(None, "never sent", reason)])
+        self.check(f"{name}: sentence", judged.verdict.sentence, f"Refused: {reason}.")
+        self.check(f"{name}: parts", (result["parts"], result["subtitle_counts"]), ([], None))
+        self.must(f"{name}: a checksum", result["inputs"]["recording"]["sha256"])
+        self.must(f"{name}: told", any("announces page 888" in line for line in judged.said))
 
     def test_refuses_a_page_that_comes_on_another_pid(self) -> None:
         judged = self.judge_planned_stream([(0, OLD)], self.send_on_old_pid, "--every", "25")
@@ -233,20 +253,23 @@ class JudgedStreams(ProgrammeCase):
             judged = self.judge_planned_stream(plan, self.send_on_old_pid, "--every", "25", *more)
             self.must(name, judged.word == "accepted", judged.said)
 
-    def test_refuses_a_page_that_never_comes_while_it_is_expected(self) -> None:
-        words = "page 888 is announced on PID 0x111, but was never sent"
-        rows: list[tuple[str, int | None, list[str], bool]] = [
-                ("all", None, [], True), ("a third", len(self.pes) // 3, [], False),
-                ("a third, by the clock", len(self.pes) // 3, ["--origin", "0"], True),
-                ("at another time", None, ["--origin", f"{CLOCK // 2}"], False),
-                ("typed", None, ["--pid", f"0x{NEW:X}"], True)]
-        for name, count, more, is_due in rows:
-            judged = self.judge_planned_stream([(0, NEW)], self.send_headers_only, *more,
+    def test_refuses_headers_without_rows_on_the_announced_pid(self) -> None:
+        whole, third = len(self.pes), len(self.pes) // 3
+        # How many PES packets are recorded, the arguments, and whether a subtitle was expected
+        rows: dict[str, tuple[int, list[str], bool]] = {
+            "so long that a subtitle lies in it": (whole, [], True),
+            "so short that it may lie between subtitles": (third, [], False),
+            "short, but a subtitle lies in it by the clock": (third, ["--origin", "0"], True),
+            "long, but at another time by the clock": (whole, ["--origin", f"{CLOCK // 2}"], False),
+            "the PID is given": (whole, ["--pid", f"0x{NEW:X}"], True)}
+        for name, (count, words, is_expected) in rows.items():
+            judged = self.judge_planned_stream([(0, NEW)], self.send_headers_only, *words,
                                                count=count)
-            if is_due:
-                self.check_never_sent(name, judged, words)
+            if is_expected:
+                self.check_never_sent(name, judged, "page 888 is announced on PID 0x111, but was "
+                                      "never sent")
             else:
-                self.must(name, judged.word == "not judged", judged.said)
+                self.check(name, judged.word, "not judged")
 
     def test_reports_that_one_of_several_programmes_never_sends_it(self) -> None:
         first, frames = decode_pts(self.pes[0]), find_frame_of_day(decode_pts(self.pes[-1]), 0) or 0
@@ -335,7 +358,7 @@ class SourcesWithoutPage(ProgrammeCase):
                            ("refused", "refused never sent", []))
 
     def test_refuses_headers_without_rows_in_a_stream(self) -> None:
-        result = self.judge_stream(in_pcr(self.blank()))
+        result = self.judge_stream(make_service_stream(self.blank()))
         self.check("stream", (result.word, "headers, no row" in result.verdict.sentence),
                    ("refused", True))
 
