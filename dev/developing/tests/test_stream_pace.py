@@ -25,7 +25,13 @@ FOUR_HUNDRED_FRAMES = range(400)  # in these frames, up to three losses are igno
 
 
 class Row(NamedTuple):
-    """A test case: the frames of PES packets, and the kind and value of the expected pace."""
+    """A test case of `compute_pace`.
+
+    `rows` has the frames of the PES packets between two losses, `each` is the number of TS packets
+    of a PES packet, and `every` the longest time without a page header. Expected are the kind of
+    the pace, the value `frames` of --pace, and the number `hidden` of places at which a loss leaves
+    no longer interval.
+    """
 
     name: str
     rows: Sequence[Sequence[int]]
@@ -34,7 +40,7 @@ class Row(NamedTuple):
     each: int = 1
     every: int = 250
     pauses: Pauses = ()
-    closer: int = 0
+    hidden: int = 0
     is_stream: bool = True
 
 
@@ -68,53 +74,56 @@ def draw_steps(seed: int, weights: Sequence[float], count: int = 400) -> list[in
 
 
 def make_regular_pace_row(name: str, *rows: Sequence[int], frames: int = 2, each: int = 1,
-                          every: int = 250, pauses: Pauses = (), closer: int = 0) -> Row:
+                          every: int = 250, pauses: Pauses = (), hidden: int = 0) -> Row:
     """Return a test case for a stream. `frames` is the expected maximum interval."""
-    return Row(name, rows, REGULAR, frames, each, every, pauses, closer)
+    return Row(name, rows, REGULAR, frames, each, every, pauses, hidden)
 
 
 def make_pes_pace_row(name: str, *rows: Sequence[int], frames: int = 1, every: int = 250,
-                      pauses: Pauses = (), closer: int = 0) -> Row:
-    return Row(name, rows, REGULAR, frames, 1, every, pauses, closer, False)
+                      pauses: Pauses = (), hidden: int = 0) -> Row:
+    return Row(name, rows, REGULAR, frames, 1, every, pauses, hidden, False)
 
 
 TABLE = [
-    Row("none", [], TOO_FEW), Row("an empty one", [[]], TOO_FEW), Row("one", [[7]], TOO_FEW),
-    Row("one too few", [range(100)], TOO_FEW), make_regular_pace_row("just enough", range(101)),
-    make_regular_pace_row("a row for each mark",
+    Row("no PES packet is read", [], TOO_FEW), Row("a row without PES packets", [[]], TOO_FEW),
+    Row("one PES packet", [[7]], TOO_FEW), Row("99 intervals, one too few", [range(100)], TOO_FEW),
+    make_regular_pace_row("100 intervals", range(101)),
+    make_regular_pace_row("nine rows, between eight losses",
                           *[range(50 * at, 50 * at + 40) for at in range(9)]),
-    Row("rows of three", [range(50 * at, 50 * at + 3) for at in range(99)], TOO_FEW),
-    Row("few, up to the bound", [range(0, 990, 10)], TOO_FEW, every=30),
-    Row("few, over the bound", [range(0, 990, 10)], BY_EVERY, every=29),
-    Row("few, one far", [[0, 1, 2, 3, 999]], TOO_FEW),
-    Row("four", [[0, 100, 200, 300]], BY_EVERY),
+    Row("rows of three PES packets", [range(50 * at, 50 * at + 3) for at in range(99)], TOO_FEW),
+    Row("few: 30 frames across two lost ones, --every 30", [range(0, 990, 10)], TOO_FEW, every=30),
+    Row("few: 30 frames across two lost ones, --every 29", [range(0, 990, 10)], BY_EVERY, every=29),
+    Row("few: 3 frames across two lost ones", [[0, 1, 2, 3, 999]], TOO_FEW),
+    Row("four: 300 frames across two lost ones", [[0, 100, 200, 300]], BY_EVERY),
     # Streams with longer intervals, up to and over the limit.
-    make_regular_pace_row("up to the bound", repeat_steps([25], 200), frames=74, every=75),
-    Row("over the bound", [repeat_steps([25], 200)], BY_EVERY, every=74),
-    make_regular_pace_row("over the bound nearly everywhere",
-                          repeat_steps([*[25] * 300, 1, 1, 1], 1), frames=74, every=74, closer=3),
+    make_regular_pace_row("75 frames across two lost ones, --every 75", repeat_steps([25], 200),
+                          frames=74, every=75),
+    Row("75 frames across two lost ones, --every 74", [repeat_steps([25], 200)], BY_EVERY,
+        every=74),
+    make_regular_pace_row("the same, but three steps are short",
+                          repeat_steps([*[25] * 300, 1, 1, 1], 1), frames=74, every=74, hidden=3),
     # Streams with two or more PES packets in some frames.
-    make_regular_pace_row("all in one frame", [5] * 400, closer=397),
-    make_regular_pace_row("two in a frame, 24 frames without", list_frames_without(24), closer=746),
+    make_regular_pace_row("all in one frame", [5] * 400, hidden=397),
+    make_regular_pace_row("two in a frame, 24 frames without", list_frames_without(24), hidden=746),
     make_regular_pace_row("one frame of 200 without", repeat_steps([*[0, 1] * 198, 0, 2], 5),
-                          closer=1979),
+                          hidden=1979),
     Row("one frame of 40 without", [repeat_steps([*[0, 1] * 38, 0, 2], 25)], IRREGULAR),
     # Streams with jitter, with changes between repetitions, or with bursts.
-    make_regular_pace_row("jitter", repeat_steps([1, 1, 2, 0, 1], 100), frames=3, closer=398),
+    make_regular_pace_row("jitter", repeat_steps([1, 1, 2, 0, 1], 100), frames=3, hidden=398),
     make_regular_pace_row("a frame of three", repeat_steps([1, 1, 3, 1, 0], 100), frames=4, each=9,
-                          closer=298),
+                          hidden=298),
     Row("bursts", [repeat_steps([1] * 20 + [100], 50)], IRREGULAR),
     make_regular_pace_row("bursts of two TS packets", repeat_steps([1] * 10 + [60], 50),
-                          frames=61, each=2, closer=400),
+                          frames=61, each=2, hidden=400),
     # Streams with few bursts, which are ignored.
     make_regular_pace_row("few bursts", repeat_steps([*[25] * 300, 1, 1, 1], 1), frames=74, each=2,
-                          closer=3),
+                          hidden=3),
     make_regular_pace_row("one burst of two", repeat_steps([*[25] * 300, 1, 1, *[25] * 100], 1),
                           frames=26),
     make_regular_pace_row("one of five", repeat_steps([*[25] * 100, *[1] * 5, *[25] * 100], 1),
-                          frames=26, closer=3),
+                          frames=26, hidden=3),
     make_regular_pace_row("one of six", repeat_steps([*[25] * 100, *[1] * 6, *[25] * 100], 1),
-                          frames=26, closer=4),
+                          frames=26, hidden=4),
     # Streams with few losses at different places, up to the allowed number.
     *(make_regular_pace_row(f"a hole of {count} behind {first}",
                             remove_frames(LONG, (first, count)))
@@ -177,23 +186,24 @@ TABLE = [
                       remove_frames(FOUR_HUNDRED_FRAMES, (50, 1), (150, 1), (250, 1))),
     make_pes_pace_row("four missing",
                       remove_frames(FOUR_HUNDRED_FRAMES, (50, 1), (150, 1), (250, 1), (300, 1)),
-                      frames=2, closer=386),
-    make_pes_pace_row("a file, up to the bound", repeat_steps([25], 200), frames=25, every=26),
-    Row("a file, over the bound", [repeat_steps([25], 200)], BY_EVERY, every=25, is_stream=False),
+                      frames=2, hidden=386),
+    make_pes_pace_row("a file, 50 frames across a lost one, --every 26", repeat_steps([25], 200),
+                      frames=25, every=26),
+    Row("a file, --every 25", [repeat_steps([25], 200)], BY_EVERY, every=25, is_stream=False),
     make_pes_pace_row("a file, over the bound but for some", repeat_steps([10, 15, 25], 70),
-                      frames=25, every=25, closer=70),
+                      frames=25, every=25, hidden=70),
     Row("a file, all over the bound", [repeat_steps([10, 16, 25], 70)], BY_EVERY, every=25,
         is_stream=False),
-    make_pes_pace_row("a file, all in one frame", [5] * 400, frames=2, closer=398),
+    make_pes_pace_row("a file, all in one frame", [5] * 400, frames=2, hidden=398),
     make_pes_pace_row("a file, a timer, one missing",
                       remove_frames(repeat_steps([25, 25, 12, 25, 7], 60), (94 * 20, 30)),
                       frames=25),
     make_pes_pace_row("a file, two of three frames, three missing",
                       remove_frames(repeat_steps([1, 2], 200), (59, 3), (149, 3), (239, 3)),
-                      frames=2, closer=0),
+                      frames=2, hidden=0),
     make_pes_pace_row("a file, twelve missing, two together",
                       remove_frames(FOUR_HUNDRED_FRAMES, (9, 2), *((30 * at, 1)
-                                    for at in range(1, 11))), frames=2, closer=364),
+                                    for at in range(1, 11))), frames=2, hidden=364),
     Row("a file, thirteen missing, two together",
         [remove_frames(FOUR_HUNDRED_FRAMES, (9, 2), *((30 * at, 1) for at in range(1, 13)))],
         IRREGULAR, is_stream=False),
@@ -207,19 +217,22 @@ class PaceDecisions(Case):
     def test_measures_the_pace_of_each_row(self) -> None:
         for row in TABLE:
             pace = compute_pace(row.rows, row.each, row.every, row.pauses, row.is_stream)
-            self.must(row.name, (pace.kind, pace.frames, pace.hidden_places) == (
-                row.kind, row.frames, row.closer), pace)
-        self.must("words",
-                  compute_pace([remove_frames(LONG, (9, 20))], 2, 250)[:3] == (REGULAR, 1, 3)
-                  and compute_pace([remove_frames(LONG, (9, 300))], 1, 999,
-                                   [(0, 9)])[:3] == (PAUSED, 301, 3)
-                  and compute_pace([remove_frames(LONG, (9, 200), (999, 90), (2999, 94))], 1, 250,
-                                   [(999, 1090), (2999, 3094)])[:3] == (PAUSED, 95, 3))
-        closest: list[tuple[list[list[int]], int]] = [
-            ([], 0), ([[7]], 0), ([[0, 2, 9]], 7), ([[0, 1, 3], [9, 13, 18]], 1),
-            ([[0, 9, 17, 24, 30, 31]], 6)]
-        for rows, apart in closest:
-            self.must(f"{rows}", compute_pace(rows, 1, 250).interval == apart)
+            self.check(row.name, (pace.kind, pace.frames, pace.hidden_places),
+                       (row.kind, row.frames, row.hidden))
+
+    def test_returns_the_usual_interval_and_the_shortest_after_a_loss(self) -> None:
+        self.check_rows(lambda *arguments: compute_pace(*arguments)[:3], {
+            "regular, one loss": (([remove_frames(LONG, (9, 20))], 2, 250), (REGULAR, 1, 3)),
+            "a pause of 301 frames": (
+                ([remove_frames(LONG, (9, 300))], 1, 999, [(0, 9)]), (PAUSED, 301, 3)),
+            "two pauses, and a loss in a subtitle": (
+                ([remove_frames(LONG, (9, 200), (999, 90), (2999, 94))], 1, 250,
+                 [(999, 1090), (2999, 3094)]), (PAUSED, 95, 3))})
+
+    def test_ignores_the_three_longest_intervals(self) -> None:
+        self.check_rows(lambda rows: compute_pace(rows, 1, 250).interval, {
+            "no PES packet": (([],), 0), "one": (([[7]],), 0), "two intervals": (([[0, 2, 9]],), 7),
+            "four": (([[0, 1, 3], [9, 13, 18]],), 1), "five": (([[0, 9, 17, 24, 30, 31]],), 6)})
 
     def test_finds_no_loss_in_random_intervals(self) -> None:
         for name, weights in (("halving", [.5 ** at for at in range(20)]),
@@ -234,25 +247,30 @@ class PaceDecisions(Case):
                           pace.frames is None or longest <= pace.frames, (pace, longest))
 
     def test_finds_the_usual_interval(self) -> None:
-        rows: list[tuple[dict[int, int], int | None]] = [
-            ({1: 2000}, 1), ({0: 2000}, 1), ({0: 1900, 2: 100}, 2), ({0: 1901, 2: 99}, None),
-            ({0: 1800, 5: 99, 7: 101}, 7), ({1: 1980, 2: 20}, 1), ({1: 1979, 2: 21}, None),
-            ({1: 1977, 2: 20, 9: 3}, None), ({1: 1980, 2: 17, 9: 3}, 1), ({1: 1996, 9: 4}, None),
-            ({1: 1996, 2: 1, 9: 3}, 1), ({1: 1900, 3: 101, 4: 19}, 3)]
-        for near, expected in rows:
-            self.must(f"{near}", find_usual_distance(collections.Counter(near), sum(near.values()),
-                                                     MAX_EXCEPTIONS)
-                      == expected)
+        # Numbers of intervals by their length in frames. 1 in 20 must be as long as the usual one,
+        # at most 1 in 100 longer, and at most three by more than a frame.
+        self.check_rows(lambda counts: find_usual_distance(
+            collections.Counter(counts), sum(counts.values()), MAX_EXCEPTIONS), {
+                "one a frame": (({1: 2000},), 1), "all in one frame": (({0: 2000},), 1),
+                "1 in 20 is two frames": (({0: 1900, 2: 100},), 2),
+                "fewer than 1 in 20": (({0: 1901, 2: 99},), None),
+                "1 in 20 is seven frames": (({0: 1800, 5: 99, 7: 101},), 7),
+                "1 in 100 is longer": (({1: 1980, 2: 20},), 1),
+                "more than 1 in 100": (({1: 1979, 2: 21},), None),
+                "1 in 100, and three losses": (({1: 1977, 2: 20, 9: 3},), None),
+                "1 in 100, among them three losses": (({1: 1980, 2: 17, 9: 3},), 1),
+                "four losses": (({1: 1996, 9: 4},), None),
+                "three losses": (({1: 1996, 2: 1, 9: 3},), 1),
+                "three frames are usual": (({1: 1900, 3: 101, 4: 19},), 3)})
 
     def test_finds_the_shortest_loss_that_no_counter_shows(self) -> None:
         two = list_frames_without(0)
-        rows: list[tuple[list[list[int]], int, int | None]] = [
-            ([], 1, None), ([[7] * 17], 1, None), ([[*range(18)]], 1, 17), ([two], 1, 8),
-            ([two], 2, 4), ([two], 9, 1), ([[5] * 400], 1, 0),
-            ([[*range(0, 1000, 5)], [*range(9)]], 3, 6)]
-        for frames, each, expected in rows:
-            self.must(f"{frames} {each}", find_hidden_loss(frames, each) == expected,
-                      find_hidden_loss(frames, each))
+        self.check_rows(find_hidden_loss, {
+            "no PES packet": (([], 1), None), "17, all in one frame": (([[7] * 17], 1), None),
+            "18, one a frame": (([[*range(18)]], 1), 17), "two a frame": (([two], 1), 8),
+            "of two TS packets": (([two], 2), 4), "of nine TS packets": (([two], 9), 1),
+            "all in one frame": (([[5] * 400], 1), 0),
+            "rows of 200 and 9": (([[*range(0, 1000, 5)], [*range(9)]], 3), 6)})
 
     def test_splits_the_frames_at_losses(self) -> None:
         origin = CLOCK - 5 * TICKS
@@ -334,79 +352,88 @@ PACE_LINE = "PES packets are at most 1 frame apart, or at least 3 after a loss o
 
 
 class Losses(ProgrammeCase):
+    """Losses that only the intervals between PES packets show, on a PID whose PES packets have one
+    TS packet each: if 16 are lost, the continuity counter goes on as if none were."""
+
     due = TIMES
+    first = 660  # number of the first lost PES packet, whose frame is 10:00:26:10
+    lost, silent = "45 Lost pes 660", "79 Silent frame 10:00:26:11"
 
     def make_stream_packets(self, sent: SentPes) -> list[Packet]:
         return make_multiplex([make_pes_packet(pts, packets) for pts, packets in sent], Shape(100))
 
-    def check_faults(self, name: str, told: JudgedPair, word: str, *lines: str) -> None:
-        faults = [line for line in told.listed if line.startswith("refused")]
-        self.must(name, told.word == word and faults == [f"refused {line}" for line in lines],
-                  (told.word, told.listed, told.told))
+    def check_faults(self, name: str, judged: JudgedPair, word: str, *faults: str) -> None:
+        """Check the verdict, and the lines of all faults."""
+        listed = [line for line in judged.listed if line.startswith("refused")]
+        self.check(name, (judged.word, listed), (word, [f"refused {line}" for line in faults]))
 
-    def test_reports_fault_79_without_counter_evidence(self) -> None:
+    def test_measures_the_pace_of_a_regular_stream(self) -> None:
+        whole = self.judge_stream(self.make_stream_packets(fill_missing_frames(self.sent)))
+        self.check_faults("verdict", whole, "accepted")
+        self.check("line", whole.lines("pace: "), [PACE_LINE])
+        self.check("result", (whole.parts("pace"), whole.result["request"]["pace"]), ([(2,)], None))
+        self.must("command", " --complete --pace 2 --all" in whole.verdict.commands[-1])
+
+    def test_reports_a_silence_although_no_counter_shows_the_loss(self) -> None:
         multiplex = self.make_stream_packets(fill_missing_frames(self.sent))
-        whole = self.judge_stream(multiplex)
-        self.check_faults("whole", whole, "accepted")
-        self.must("said", whole.lines("pace: ") == [PACE_LINE] and whole.parts("pace") == [(2,)]
-                  and " --complete --pace 2 --all" in whole.verdict.commands[-1] and
-                  whole.result["request"]["pace"] is None, whole.said)
-        first, lost, silent = 660, "45 Lost pes 660", "79 Silent frame 10:00:26:11"
-        for count in (1, 2, 14, 15, 16, 17):
-            faults = [*([lost] if count % 16 else []), *([silent] if count > 1 else [])]
-            judged = self.judge_stream(remove_pid_packets(multiplex, first, count))
-            self.check_faults(f"{count}", judged, "refused", *faults)
-        for count in (1, 15, 16, 17):
-            faults = [*([lost] if count % 16 else []), *([silent] if count > 1 else [])]
-            judged = self.judge_stream(delete_between(multiplex, first, count))
-            self.check_faults(f"all of {count}", judged, "refused", *faults)
+        # `delete_between` cuts the whole stream, `remove_pid_packets` only this PID.
+        for cut, counts in ((remove_pid_packets, (1, 2, 14, 15, 16, 17)),
+                            (delete_between, (1, 15, 16, 17))):
+            for count in counts:
+                faults = [*[self.lost] * (count % 16 > 0), *[self.silent] * (count > 1)]
+                self.check_faults(f"{cut.__name__} {count}", self.judge_stream(
+                    cut(multiplex, self.first, count)), "refused", *faults)
         for cut, count in ((remove_pid_packets, 32), (remove_pid_packets, 160),
                            (delete_between, 160)):
-            judged = self.judge_stream(cut(multiplex, first, count))
+            judged = self.judge_stream(cut(multiplex, self.first, count))
             self.must(f"{cut.__name__} {count}", judged.word == "refused" and
-                      f"refused {silent}" in judged.listed and not any(
+                      f"refused {self.silent}" in judged.listed and not any(
                           line.startswith("refused 45") for line in judged.listed), judged.listed)
-        judged = self.judge_stream(remove_pid_packets(multiplex, first, 16))
-        self.must("how long", judged.sentence ==
-                  "Refused: there was no PES packet for 16 frames from 10:00:26:10 on.",
-                  judged.verdict.sentence)
+        judged = self.judge_stream(remove_pid_packets(multiplex, self.first, 16))
+        self.check("sentence", judged.sentence,
+                   "Refused: there was no PES packet for 16 frames from 10:00:26:10 on.")
 
     def test_judges_by_the_given_pace(self) -> None:
-        multiplex = self.make_stream_packets(fill_missing_frames(self.sent))
-        holed_then, silent = remove_pid_packets(multiplex, 660, 16), "79 Silent frame 10:00:26:11"
+        multiplex = remove_pid_packets(self.make_stream_packets(fill_missing_frames(self.sent)),
+                                       self.first, 16)
+        # The option, the verdict, the pace that is used, and the lines about it
         for words, word, pace, lines in (
                 ("--pace=none", "accepted", None, []), ("--pace=17", "accepted", 17, []),
                 ("--pace=16", "refused", 16, []), ("--allow-lost", "waived", 2, [PACE_LINE])):
-            judged = self.judge_stream(holed_then, words)
-            self.must(words, judged.word == word and judged.lines("pace: ") == lines and
-                      judged.parts("pace") == [(pace,)], judged.said)
-            self.must(f"{words}: asked", judged.result["request"]["pace"] == (
-                words[7:] if words.startswith("--pace") else None))
-        feed = write_pipe(self, join_packets(holed_then))
-        self.check_faults("a feed", judge_files(self, self.stl, feed, *self.words), "refused",
-                          silent)
+            judged = self.judge_stream(multiplex, words)
+            self.check(words, (judged.word, judged.lines("pace: "), judged.parts("pace")),
+                       (word, lines, [(pace,)]))
+            self.check(f"{words}: requested", judged.result["request"]["pace"],
+                       words[7:] if words.startswith("--pace") else None)
+
+    def test_reports_a_silence_of_a_pipe_and_of_a_file_of_pes_packets(self) -> None:
         sent = fill_missing_frames(self.sent)
-        self.check_faults("PES packets", self.judge(sent[:660] + sent[676:]), "refused",
-                          "79 Silent frame 10:00:26:10")
+        pipe = write_pipe(self, join_packets(remove_pid_packets(self.make_stream_packets(sent),
+                                                                self.first, 16)))
+        self.check_faults("a pipe", judge_files(self, self.stl, pipe, *self.words), "refused",
+                          self.silent)
+        self.check_faults("PES packets", self.judge(sent[:self.first] + sent[self.first + 16:]),
+                          "refused", "79 Silent frame 10:00:26:10")
 
     def test_notes_undetectable_losses_at_an_irregular_pace(self) -> None:
         multiplex = self.make_stream_packets(send_in_bursts(schedule_pages(
             self, write_programme(self, TIMES), every=1)))
-        first = 155
+        first = 155  # number of the first lost PES packet, within a burst
         for cut, count, word in (
                 (remove_pid_packets, 0, "accepted"), (remove_pid_packets, 1, "refused"),
                 (remove_pid_packets, 15, "refused"),
                 (remove_pid_packets, 16, "accepted"), (remove_pid_packets, 17, "refused"),
-                (delete_between, 16, "lost"),
-                (delete_between, 17, "refused")):
+                (delete_between, 16, "lost"), (delete_between, 17, "refused")):
+            name = f"{cut.__name__} {count}"
             judged = self.judge_stream(cut(multiplex, first, count))
-            self.check_faults(f"{cut.__name__} {count}", judged, word,
-                              *["45 Lost pes 155"] * (word == "refused"))
-            self.must(f"{cut.__name__} {count}: said", IRREGULAR_NOTE in judged.told and
-                      IRREGULAR_NOTE in judged.notes and
-                      not judged.lines("pace: ") and judged.parts("pace") == [(None,)], judged.said)
+            self.check_faults(name, judged, word, *["45 Lost pes 155"] * (word == "refused"))
+            self.check(f"{name}: the note", (IRREGULAR_NOTE in judged.told,
+                                             IRREGULAR_NOTE in judged.notes), (True, True))
+            self.check(f"{name}: no pace", (judged.lines("pace: "), judged.parts("pace")),
+                       ([], [(None,)]))
         for words in ("--pace=none", "--pace=180"):
             judged = self.judge_stream(remove_pid_packets(multiplex, first, 16), words)
-            self.must(words, judged.word == "accepted" and IRREGULAR_NOTE not in judged.told)
-        self.check_faults("given", self.judge_stream(multiplex, "--pace=100"), "refused", *(
+            self.check(words, (judged.word, IRREGULAR_NOTE in judged.told), ("accepted", False))
+        # The first burst of each subtitle ends 24 frames after its TCI; the fault is 100 later.
+        self.check_faults("--pace=100", self.judge_stream(multiplex, "--pace=100"), "refused", *(
             f"79 Silent frame 10:00:{10 * at + 4:02}:24" for at in range(6)))
