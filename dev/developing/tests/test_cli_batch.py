@@ -421,8 +421,12 @@ class ForkedPairs(Case):
 
         for one, taken in ((signal.SIGTERM, signal.SIG_DFL), (signal.SIGHUP, signal.SIG_IGN)):
             self.addCleanup(signal.signal, one, signal.signal(one, taken))
+        standard_input = os.dup(0)
+        os.dup2(kept.fileno(), 0)  # a file that the call must not read
         with hold_signals():
             call = ForkedProcess(look)
+        os.dup2(standard_input, 0)
+        os.close(standard_input)
         ended = call.wait()
         self.must("all", ended == (7, [str([True] * 5)]), ended)
 

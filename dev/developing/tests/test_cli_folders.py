@@ -8,8 +8,7 @@ import shutil
 import subprocess
 import xml.etree.ElementTree as tree
 
-from subtitles.cli.single import lock_folder, lock_pair
-from subtitles.common.command_line import Stop
+from subtitles.cli.single import lock_pair
 from .bench import Case, CompletedCall, get_example_path, get_tool_path, read_example_file
 from .streams import make_stream_with_video, make_teletext_descriptor
 from .transmissions import make_two_parts
@@ -171,27 +170,3 @@ class HostileNames(Case):
             process = qc(self, self.path("long.ts"), STORY)
             self.must(f"{stamp.hex()}, the wrong way round", process.status == 2 and
                       "is a recording" in process.told[0], process)
-
-
-class Claims(Case):
-    def test_a_folder_belongs_to_one_call_at_a_time(self) -> None:
-        folder = self.path("claimed/here")
-        for turn in range(2):
-            with lock_pair(folder, "one"), lock_pair(folder, "two"), lock_folder(folder):
-                for again, why in (
-                        (lock_pair(folder, "one"), "writing the files of pair one to"),
-                        (lock_folder(folder), "judging a batch into")):
-                    with self.assertRaises(Stop) as refused, again:
-                        self.must("never", False)
-                    self.must("why", str(refused.exception) ==
-                              f"another run of qc is {why} {folder}", refused.exception)
-            self.must(f"turn {turn}", os.listdir(folder) == [])
-        with lock_pair(None, "one"), lock_folder(None):
-            self.must("no folder", True)
-        with lock_pair(folder, "one"):  # another process replaced the lock file
-            os.unlink(f"{folder}/.one.lock")
-            self.write("claimed/here/.one.lock", b"another one's")
-        self.must("another one's file stays", os.listdir(folder) == [".one.lock"])
-        with self.assertRaises(OSError) as reported, lock_folder(self.write("file", b"")):
-            self.must("never", False)
-        self.must("its name", reported.exception.filename == self.path("file"))

@@ -14,7 +14,7 @@ from unittest import mock
 
 from subtitles.cli import batch, collection, single
 from subtitles.cli.single import (
-    FilesInUse, KEPT_SECONDS, Output, OutputFiles, PairOptions, judge_pair, lock_pair,
+    FilesInUse, KEPT_SECONDS, Output, OutputFiles, PairOptions, judge_pair, lock_folder, lock_pair,
     make_pair_title, now, print_verdict, refuse_outputs, remove_results, report_pair)
 from subtitles.clock.start import (
     Clock, ESTIMATED_LATER_NOTE, ESTIMATED_NOTE, GIVEN, RECORDING, TimedPart)
@@ -270,6 +270,12 @@ class OutputFilesOfPair(Case):
             for _ in range(2):
                 self.assertRaises(FilesInUse, lock_pair(self.path("out"), "one").__enter__)
             self.must("in use", os.listdir("/proc/self/fd") == before and os.path.exists(path))
+            os.unlink(path)  # another process replaces the lock
+            self.write("out/.one.lock", b"another one's")
+        self.check("another one's lock is left", os.listdir(self.path("out")), [".one.lock"])
+        with lock_folder(self.path("out")), self.assertRaisesRegex(
+                FilesInUse, f"^another run of qc is judging a batch into {self.path('out')}$"):
+            lock_folder(self.path("out")).__enter__()
 
     def test_hashes_the_inputs_only_if_an_output_needs_it(self) -> None:
         rows: list[tuple[dict[str, str], bool]] = [

@@ -200,18 +200,6 @@ class UnjudgedPairs(Case):
         [row] = calls.collect_rows(SECONDS)
         self.must("its line", (row.verdict, row.line) == ("not judged", "caf\ufffd: \x1b"), row)
 
-    def test_a_forked_call_inherits_no_files(self) -> None:
-        files = [os.open(self.path("one.ts"), os.O_RDONLY) for _ in range(3)]
-        before = os.dup(0)
-        os.dup2(files[0], 0)
-        call = batch.ForkedProcess(lambda: len(os.read(0, 9)) + 2 * any(os.path.exists(
-            f"/proc/self/fd/{item}") and os.path.samefile(f"/proc/self/fd/{item}", files[0])
-            for item in files))
-        os.dup2(before, 0)
-        self.must("nothing to read", call.wait() == (0, []))
-        for item in (before, *files):
-            os.close(item)
-
     def test_uses_the_national_option_of_the_judged_file(self) -> None:
         path = self.write("one.stl", read_example_file("story.stl"))
         request = make_example_request(path, get_example_path("story.pes"), "--option", "auto")
