@@ -8,7 +8,7 @@ import json
 import os
 import re
 import time
-from typing import Any, Callable
+from typing import Callable
 from unittest import mock
 
 from subtitles.air import judge, main as air_main

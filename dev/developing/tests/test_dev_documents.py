@@ -409,7 +409,6 @@ STATED: list[tuple[str, str, object]] = [
     ("../README.md", "are `--page 888`, `--option {}`", DEFAULTS["--option"]),
     ("../README.md", "and `--every {}` (frames)", DEFAULTS["--every"]),
     ("../README.md", "| {} | as 0, but you gave no clock", STATUSES[RELATIVE]),
-    ("../README.md", "| {}, 70 | wrong arguments (64)", USAGE_STATUS),
     ("../README.md", "wrong arguments (64), or a bug of a tool ({})", BUG_STATUS),
     ("HEADLINE.md", "theorem holds with R = {}, page 888", DEFAULTS["--every"]),
     ("manual/qc.md", "no clock (`--origin`, `--start`), so `qc` could not detect a delay that all "

@@ -9,7 +9,7 @@ import shutil
 import subprocess
 from typing import Iterator
 
-from subtitles.common.program import TOP
+from subtitles.common.program import TOP, read
 from .bench import Case, SECONDS
 
 # Packages of the tools. Each may import only packages before it.
@@ -117,15 +117,13 @@ class Imports(Case):
         self.must("modules", len(paths) > 50, len(paths))
         for path in paths:
             name = get_module_name(path)
-            with open(path, encoding="utf-8") as file:
-                names = list_imports(file.read(), name, path.endswith("__init__.py"))
+            names = list_imports(read(path) or "", name, path.endswith("__init__.py"))
             wrong = list_wrong_imports(name, names)
             self.must(name, not wrong, wrong)
 
     def test_modules_run_on_python_3_9(self) -> None:
         for path in modules(os.path.join(TOOLS, "subtitles")):
-            with open(path, encoding="utf-8") as file:
-                self.check(get_module_name(path), list_newer_lines(file.read()), [])
+            self.check(get_module_name(path), list_newer_lines(read(path) or ""), [])
         for line in ("at = bisect.bisect_left(a, b, key=c)", "dataclass(slots=True)",
                      "for a in zip(b, c, strict=True): pass", "Page = Rows | None"):
             self.check(line, list_newer_lines(line), [1])
@@ -161,8 +159,7 @@ class Imports(Case):
         texts = {}
         for path in modules(PACKAGES[0]):
             if not path.endswith("__init__.py"):
-                with open(path, encoding="utf-8") as file:
-                    texts[get_module_name(path)] = file.read()
+                texts[get_module_name(path)] = read(path) or ""
         result = find_cycle({
             name: {other for other in texts.keys() & {*list_imports(text, name, False)}
                    if name != MAIN}
@@ -173,15 +170,13 @@ class Imports(Case):
         self.must("what is found", list_long_lines("a" * 100 + "\n" + "ä" * 101 + "\n") == [2])
         for path in [*(path for folder in PACKAGES for path in modules(folder)), *scripts()]:
             if not path.endswith(TABLE_FILE):
-                with open(path, encoding="utf-8") as file:
-                    result = list_long_lines(file.read())
+                result = list_long_lines(read(path) or "")
                 self.must(path, not result, result)
 
     def test_only_one_module_wraps_pts(self) -> None:
         self.must("what is found", wraps("a = 1\nb = (a - 2) % CLOCK") == [2])
         for path in modules(PACKAGES[0]):
-            with open(path, encoding="utf-8") as file:
-                result = wraps(file.read())
+            result = wraps(read(path) or "")
             is_home = get_module_name(path) == "subtitles.common.times"
             self.must(get_module_name(path), bool(result) == is_home, result)
 

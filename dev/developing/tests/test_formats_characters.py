@@ -17,8 +17,8 @@ from subtitles.common.program import TOP
 from subtitles.common.times import TICKS
 from subtitles.formats.stl import UNUSED
 from subtitles.formats.teletext import (
-    OPTION_BY_WORD, CODE_WORDS, CZECH, ENGLISH, FRENCH, GERMAN, ITALIAN, NationalOption, OPTIONS,
-    NATIONAL_CODES, SPANISH, SWEDISH, decode_character, encode_line, has_bit,
+    OPTION_BY_WORD, CODE_WORDS, ENGLISH, FRENCH, GERMAN, NationalOption, OPTIONS,
+    NATIONAL_CODES, SPANISH, decode_character, encode_line, has_bit,
     has_characters, read_character_bytes, make_character_table, choose_language_option,
     choose_track_option, find_options, reverse_bits)
 from subtitles.judging.subtitles import advise_on_character

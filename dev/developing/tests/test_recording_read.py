@@ -2,14 +2,13 @@
 from __future__ import annotations
 
 import itertools
-import os
 import stat
 import subprocess
 from types import SimpleNamespace
 from typing import Any, Sequence
 from unittest import mock
 
-from subtitles.common.command_line import Stop
+from subtitles.common.command_line import ReportedError
 from subtitles.common.times import TICKS
 from subtitles.recording.notices import NeverSent
 from subtitles.recording.recording import Recording, refuse_stream
@@ -20,6 +19,7 @@ from subtitles.stream.packets import GapMarker, PES, PacketRun, Packets
 from subtitles.stream.survey import Survey
 from .bench import Case
 from .parts import make_example_request, read_survey
+from .test_formats_files import refusal
 
 FIRST_PID, SECOND_PID, THIRD_PID = 257, 258, 259
 
@@ -117,12 +117,9 @@ class ChosenPids(Case):
                 (b"\0\0\1", None, "is not a transport stream"),
                 (b"\0\0\1\xbd", None, "is not a transport"), (b"\0\0\1\xbd", 0, ""),
                 (b"G", None, "is not a transport stream"), (b"G", 192, "")):
-            survey, result = Survey(), ""
+            survey = Survey()
             survey.head, survey.size = head, size
-            try:
-                refuse_stream(survey, "one")
-            except (Stop, Unclear) as reason:
-                result = str(reason)
+            result = refusal(lambda: refuse_stream(survey, "one"), ReportedError)
             self.must(f"{head!r} {size}", words in result and bool(words) == bool(result), result)
 
 
@@ -157,9 +154,9 @@ class Messages(Case):
             self.check_lines(result, ends)
 
     def test_stores_the_extracted_pid(self) -> None:
-        path = self.write("program", b'#!/bin/sh\nfor file; do :; done\necho "$3" >"$file"\n'
-                                     b'[ "$3" != 0x103 ] || exit 2\n[ "$3" != 0x104 ]\n')
-        os.chmod(path, 0o755)
+        path = self.write_program(
+            "program", '#!/bin/sh\nfor file; do :; done\necho "$3" >"$file"\n'
+            '[ "$3" != 0x103 ] || exit 2\n[ "$3" != 0x104 ]\n')
         rows: list[tuple[int, bytes | None]] = [(FIRST_PID, b"0x101\n"), (THIRD_PID, None),
                                                 (0x104, b"0x104\n")]
         for pid, expected in rows:

@@ -327,8 +327,7 @@ class ValidArguments(Case):
     def test_scripts_read_only_arguments_that_they_define(self) -> None:
         shared_options = read(command_line.__file__) or ""
         for name in list_tool_names():
-            with open(get_tool_path(name), encoding="utf-8") as file:
-                text = file.read()
+            text = read(get_tool_path(name)) or ""
             if not is_python(get_tool_path(name)) or "add_argument(" not in text:
                 continue
             quoted_names = {word.replace("-", "_")
@@ -387,15 +386,13 @@ class WrongArguments(Case):
             self.must(f"{option}: something else", self.read(name) == b"something else")
 
     def test_prints_the_help_and_the_version(self) -> None:
-        with open(os.path.join(TOP, "VERSION"), encoding="utf-8") as file:
-            version = file.read().strip()
+        version = (read(os.path.join(TOP, "VERSION")) or "").strip()
         for name in list_tool_names():
             process = self.tool(name, "--version")
             self.must(f"{name} --version", (process.status, process.out.decode()) ==
                       (0, f"{name} {version}\n"), process)
             process = self.tool(name, "--help")
-            with open(get_tool_path(name), encoding="utf-8") as file:
-                first = file.read().splitlines()[1].lstrip('"# ')
+            first = (read(get_tool_path(name)) or "").splitlines()[1].lstrip('"# ')
             self.must(name, process.status == 0 and process.out.decode().startswith(first), process)
 
     def test_reports_a_full_device(self) -> None:

@@ -5,7 +5,6 @@ import argparse
 import hashlib
 import itertools
 import os
-import threading
 from typing import Any
 
 from subtitles.common.command_line import (
@@ -21,7 +20,7 @@ from subtitles.results.schema import REQUEST
 from .bench import Case, get_example_path
 from .judged import judge_files
 from .parts import make_example_request, list_call_arguments, make_default_options
-from .transmissions import write_subtitle_file
+from .transmissions import write_pipe, write_subtitle_file
 
 
 # Options, their arguments, and the matching values in a JSON result.
@@ -139,28 +138,22 @@ class ProfileFiles(Case):
                 self.path("house"), hashlib.sha256(text.encode()).hexdigest()))
 
     def test_stores_a_subtitle_file_from_a_pipe(self) -> None:
-        data = write_subtitle_file(self, [(0, 9, b"text")], "one.stl", language=b"08")
-        os.mkfifo(self.path("pipe"))
-        for name in (data, self.path("pipe")):
-            request = make_example_request(name, "a.ts", "--option", "auto")
-            self.must("not read yet", (request.stl_path, request.language) == (
-                name, "08" if name == data else None), request)
-            writer = threading.Thread(target=lambda: self.write("pipe", self.read("one.stl")))
-            if name != data:
-                writer.start()
+        path = write_subtitle_file(self, [(0, 9, b"text")], "one.stl", language=b"08")
+        data = self.read("one.stl")
+        for name, words, expected in (
+                ("a file", ["--option", "auto"], ("german", "08")),
+                ("a pipe", ["--option", "auto"], ("german", "08")),
+                ("a pipe, with the option given", ["--option", "swedish"], ("swedish", None))):
+            is_pipe = name != "a file"
+            stl = write_pipe(self, data) if is_pipe else path
+            request = make_example_request(stl, "a.ts", *words)
+            self.check(f"{name}: before it is read", (request.stl_path, request.language),
+                       (stl, None if is_pipe else "08"))
             keep_stl(request, self.folder)
-            kept = name if name == data else self.path("subtitles.stl")
-            self.must(name, (request.stl, request.stl_path, request.option, request.language) == (
-                name, kept, "german", "08"), request)
-            with open(kept, "rb") as file:
-                self.must(f"{name}: whole", file.read() == self.read("one.stl"))
-        writer.join()
-        typed = make_example_request(self.path("pipe"), "a.ts", "--option", "swedish")
-        writer = threading.Thread(target=lambda: self.write("pipe", self.read("one.stl")))
-        writer.start()
-        keep_stl(typed, self.folder)
-        writer.join()
-        self.must("typed", (typed.option, typed.language) == ("swedish", None), typed)
+            kept = self.path("subtitles.stl") if is_pipe else path
+            self.check(name, (request.stl, request.stl_path), (stl, kept))
+            self.check(f"{name}: option", (request.option, request.language), expected)
+            self.check(f"{name}: copy", self.read(kept), data)
 
     def test_refuses_wrong_lines_with_their_number(self) -> None:
         not_there = f"is not allowed in a profile: use {PROFILE_OPTIONS}"

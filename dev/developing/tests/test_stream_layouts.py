@@ -17,6 +17,7 @@ from .. import DEV
 from ..every_place.on_air import Packet, read_rows, find_page_span
 from ..every_place.reading import decode_header, split_packets, read_packet
 from .bench import Case
+from .test_stream_items import SentText, draw_sent_subtitles, read_intended_layout
 
 
 GERMAN = OPTION_BY_WORD["german"]
@@ -95,28 +96,23 @@ class Layouts(Case):
 class LayoutSearch(Case):
     def test_finds_each_layout(self) -> None:
         for has_codes, leaves_room, text in BROADCASTER_LAYOUTS:
-            layout = parse_layout(text) if text else PLAIN
-            assert layout is not None, text
+            layout = read_intended_layout(text)
             sent = programme(has_codes, leaves_room, layout)
             result = choose_layouts(sent, ENGLISH)[1]
             self.must(text, result.as_sent == result.total == len(sent) and result.is_clear
                       and compute_complexity(result.layout) <= compute_complexity(layout), result)
 
-    def test_finds_that_a_full_row_has_no_codes_after_its_text(self) -> None:
-        layout, sent = Layout(fit=True), list[SentSubtitle]()
-        for text in (b"%02d" % at + b"x" * size for at in range(12) for size in (9, 36)):
-            lines = draw_text(text, 20, 2, layout, ENGLISH)
-            assert isinstance(lines, list)
-            sent.append(SentSubtitle(text, 20, 2, make_page_rows(lines)))
-        self.check("layout", choose_layouts(sent, ENGLISH)[1][:3], (layout, 24, 24))
-
-    def test_finds_the_left_margin_of_lines_without_justification(self) -> None:
-        layout, sent = Layout(left=4), list[SentSubtitle]()
-        for text in (b"%02d" % at + b"x" * at for at in range(12)):
-            lines = draw_text(text, 20, 0, layout, ENGLISH)
-            assert isinstance(lines, list)
-            sent.append(SentSubtitle(text, 20, 0, make_page_rows(lines)))
-        self.check("layout", choose_layouts(sent, ENGLISH)[1][:3], (layout, 12, 12))
+    def test_finds_layouts_that_only_some_texts_show(self) -> None:
+        rows: dict[str, tuple[Layout, int, list[bytes]]] = {  # the layout, JC and the texts
+            "a full row has no codes after its text": (
+                Layout(fit=True), 2, [b"%02d" % at + b"x" * size for at in range(12)
+                                      for size in (9, 36)]),
+            "a left margin of lines without justification": (
+                Layout(left=4), 0, [b"%02d" % at + b"x" * at for at in range(12)])}
+        for name, (layout, justify, texts) in rows.items():
+            sent = draw_sent_subtitles([SentText(text, text, justify) for text in texts], layout)
+            self.check(name, choose_layouts(sent, ENGLISH)[1][:3],
+                       (layout, len(texts), len(texts)))
 
     def test_a_wrong_page_shows_no_layout(self) -> None:
         sent = programme(False, False, Layout(text=True))
@@ -129,8 +125,7 @@ class LayoutSearch(Case):
                   and result.total == sum(is_found(item, ENGLISH) for item in sent), result)
 
     def test_finds_columns_although_one_subtitle_differs(self) -> None:
-        house, other = parse_layout("left=3,text"), parse_layout("left=3,text,after=0A")
-        assert house is not None and other is not None
+        house, other = map(read_intended_layout, ("left=3,text", "left=3,text,after=0A"))
         sent, otherwise = (programme(False, False, item) for item in (house, other))
         for place in (0, len(sent) - 1):
             mixed = [*sent[:place], otherwise[place], *sent[place + 1:]]

@@ -200,12 +200,10 @@ class SurveyAnswers(Case):
                 self.must(f"{lines}{more}", known(received) == expected, known(received))
 
     def fake_survey(self, lines: Sequence[str], status: int = 0) -> str:
-        path = self.write("program", "\n".join([
+        return self.write_program("program", "\n".join([
             "#!/bin/sh", "echo survey 1", r"printf 'later \377\n'",
             "echo head $(printf %s \"$*\" | od -An -v -tx1 | tr -d ' \\n')",
-            *(f"echo '{line}'" for line in lines), "echo over 0 9", f"exit {status}"]).encode())
-        os.chmod(path, 0o755)
-        return path
+            *(f"echo '{line}'" for line in lines), "echo over 0 9", f"exit {status}"]))
 
     def test_calls_the_listener_after_each_line(self) -> None:
         looks = list[int]()
