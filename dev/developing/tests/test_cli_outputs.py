@@ -25,13 +25,13 @@ from subtitles.common.files import SummedFile
 from subtitles.judging.status import STATUSES
 from subtitles.judging.verdict import Gap
 from subtitles.results.files import (
-    Row, TestCase, format_cell, make_column_rows, make_junit_file as junit_of, format_change_time,
-    make_part_columns, make_row, escape_table_value, make_table_lines as csv_of, make_unjudged)
+    Row, TestCase, format_cell, make_column_rows, make_junit_file, format_change_time,
+    make_part_columns, make_row, escape_table_value, make_table_lines, make_unjudged)
 from subtitles.results.schema import JUDGED_PART, LOSS, PartResult
 from subtitles.stream.gaps import LossPlace
 from .bench import Case
 from .parts import make_part
-from .results import FAULT, REQUEST as PLAIN, make_result
+from .results import FAULT, REQUEST, make_result
 
 NO_CELL = {"code": "00", "character": ""}
 
@@ -51,13 +51,13 @@ OBJECTS: list[dict[str, Any]] = [
         fault(72, subtitle=subtitle(7, "1", "2"), cause=CAUSE,
               expected={"code": "41", "character": "A"}, decoded=NO_CELL), fault(38, pes=5)]),
     make_unjudged("two", "no file\nat all", "input"),
-    make_result("accepted", request={**PLAIN, "stl": "three.stl", "recording": None},
+    make_result("accepted", request={**REQUEST, "stl": "three.stl", "recording": None},
                 line="accepted")]
 
 
 class Tables(unittest.TestCase):
     def rows(self, objects: list[dict[str, Any]]) -> list[dict[str, str]]:
-        text = b"".join(csv_of(objects)).decode()
+        text = b"".join(make_table_lines(objects)).decode()
         return list(csv.DictReader(io.StringIO(text)))
 
     def test_has_a_row_for_each_pair_and_each_fault(self) -> None:
@@ -111,7 +111,7 @@ class Testcases(unittest.TestCase):
     def test_counts_failures_and_errors(self) -> None:
         pairs = [*self.CONTENTS, ("refused", 1), ("not judged", 2)]
         for count in range(len(pairs) + 1):
-            suites = ElementTree.fromstring(junit_of([
+            suites = ElementTree.fromstring(make_junit_file([
                 TestCase("pair", verdict, status, "line", ["more"], 0.5)
                 for verdict, status in pairs[:count]], "2026-11-26T10:00:00Z"))
             contents = [self.CONTENTS[pair] for pair in pairs[:count]]
@@ -124,7 +124,7 @@ class Testcases(unittest.TestCase):
 
     def test_a_test_case_has_name_time_and_first_lines(self) -> None:
         for (verdict, status), tag in self.CONTENTS.items():
-            suite = ElementTree.fromstring(junit_of([TestCase(
+            suite = ElementTree.fromstring(make_junit_file([TestCase(
                 "a\x1bb", verdict, status, "a\ufffe\nline", ["one", "two"], 1.25)],
                 "2026T10:00Z"))[0]
             words = {"message": "a\\ufffe\nline", "type": verdict} if status else {}
@@ -143,7 +143,7 @@ class Testcases(unittest.TestCase):
                                                      for kind in (ROW_0, LOSSES, UNREAD)]), "a")
         case = TestCase("a", "accepted", 0, "line", [], 0.5, sentence=accepted.sentence,
                         not_checked=accepted.not_checked)
-        suite = ElementTree.fromstring(junit_of([case], "2026T10:00Z"))[0]
+        suite = ElementTree.fromstring(make_junit_file([case], "2026T10:00Z"))[0]
         self.assertEqual([(item.tag, item.text) for item in suite[0]],
                          [("system-out", "Accepted. Not checked: x.\nline")])
         self.assertEqual([line.split() for line in collection.format_summary([accepted])][1],

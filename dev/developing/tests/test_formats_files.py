@@ -5,7 +5,7 @@ import itertools
 import shutil
 import subprocess
 import unittest
-from typing import Callable, Sequence
+from typing import Callable
 from unittest import mock
 
 from developing.stl import make_gsi_block, make_tti_block
@@ -33,41 +33,54 @@ class Blocks(unittest.TestCase):
                               group)
 
     def test_joins_blocks_into_subtitles(self) -> None:
-        last, user = 255, 254
-        of_rows: list[tuple[Sequence[tuple[int, int, int]], list[tuple[int, bytes]], str]] = [
-            ([], [], ""), ([(1, last, 0)], [(1, b"1")], ""),
-            ([(1, last, 0), (2, last, 0), (300, last, 0)],
-             [(1, b"1"), (2, b"2"), (300, b"300")], ""),
-            ([(1, 0, 0), (1, last, 0), (2, last, 0)], [(1, b"11"), (2, b"2")], ""),
-            ([(1, 0, 0), (1, 1, 0), (1, 0xEF, 0), (1, last, 0)], [(1, b"1111")], ""),
-            ([(9, user, 0), (1, 0, 0), (9, user, 0), (1, last, 0), (9, last, 1)],
-             [(1, b"11")], ""),
-            ([(9, 0, 1), (9, user, 1), (1, last, 0)], [(1, b"1")], ""),
-            ([(1, last, 2)], [(1, b"1")], ""),
-            ([(1, 0xF0, 0)], [], "block 1 has the reserved extension block number F0"),
-            ([(1, last, 0), (2, 0xFD, 0)], [(1, b"1")],
-             "block 2 has the reserved extension block number FD"),
-            ([(1, 0, 0), (2, last, 0)], [],
-             "block 2 begins a subtitle, but the one before is incomplete"),
-            ([(1, 0, 0), (257, last, 0)], [],
-             "block 2 begins a subtitle, but the one before is incomplete"),
-            ([(1, last, 0), (2, 0, 0)], [(1, b"1")], "the subtitle of block 2 has no last block"),
-            ([(1, 0, 0), (9, user, 0)], [], "the subtitle of block 2 has no last block")]
-        for row, expected, words in of_rows:
-            data = make_gsi_block(b"", 0, 0) + b"".join(self.block(*item) for item in row)
-            for rest in (b"", b"x" * 127):
+        last, user, incomplete = 255, 254, "begins a subtitle, but the one before is incomplete"
+        # TTI blocks with SN, EBN and CF, the numbers and texts of the subtitles, and the message
+        rows: dict[str, tuple[list[tuple[int, int, int]], list[tuple[int, bytes]], str]] = {
+            "no block": ([], [], ""), "one block": ([(1, last, 0)], [(1, b"1")], ""),
+            "a subtitle in each block": ([(1, last, 0), (2, last, 0), (300, last, 0)],
+                                         [(1, b"1"), (2, b"2"), (300, b"300")], ""),
+            "two blocks of one": ([(1, 0, 0), (1, last, 0), (2, last, 0)],
+                                  [(1, b"11"), (2, b"2")], ""),
+            "the greatest EBN": ([(1, 0, 0), (1, 1, 0), (1, 0xEF, 0), (1, last, 0)],
+                                 [(1, b"1111")], ""),
+            "user data and a comment around": (
+                [(9, user, 0), (1, 0, 0), (9, user, 0), (1, last, 0), (9, last, 1)],
+                [(1, b"11")], ""),
+            "an incomplete comment": ([(9, 0, 1), (9, user, 1), (1, last, 0)], [(1, b"1")], ""),
+            "CF 2 is no comment": ([(1, last, 2)], [(1, b"1")], ""),
+            "the least reserved EBN": (
+                [(1, 0xF0, 0)], [], "block 1 has the reserved extension block number F0"),
+            "the greatest reserved EBN": (
+                [(1, last, 0), (2, 0xFD, 0)], [(1, b"1")],
+                "block 2 has the reserved extension block number FD"),
+            "another SN before the last block": ([(1, 0, 0), (2, last, 0)], [],
+                                                 f"block 2 {incomplete}"),
+            "an SN with the same low byte": ([(1, 0, 0), (257, last, 0)], [],
+                                             f"block 2 {incomplete}"),
+            "the file ends before it": ([(1, last, 0), (2, 0, 0)], [(1, b"1")],
+                                        "the subtitle of block 2 has no last block"),
+            "user data is no last block": ([(1, 0, 0), (9, user, 0)], [],
+                                           "the subtitle of block 2 has no last block")}
+        for name, (blocks, expected, words) in rows.items():
+            data = make_gsi_block(b"", 0, 0) + b"".join(self.block(*item) for item in blocks)
+            cut = f"block {len(blocks) + 1} is incomplete"
+            for rest, reason in ((b"", words), (b"x" * 127, words if words and
+                                                "no last" not in words else cut)):
                 result: list[stl.StoredSubtitle] = []
                 message = refusal(lambda: result.extend(stl.read_stored_subtitles(data + rest)),
                                   DamagedFile)
-                self.assertEqual([(item.number, item.text) for item in result], expected, row)
-                self.assertEqual(message, words if words and "no last" not in words or not rest else
-                                 f"block {len(row) + 1} is incomplete", rest)
+                self.assertEqual(([(item.number, item.text) for item in result], message),
+                                 (expected, reason), (name, rest))
+
+    def test_a_subtitle_has_the_times_and_the_place_of_its_first_block(self) -> None:
         [item] = stl.read_stored_subtitles(make_gsi_block(b"", 0, 0) + b"".join(
             make_tti_block(1, at, at + 2, 20 + at, at, b"x", ebn)
-            for at, ebn in ((0, 0), (1, last))))
+            for at, ebn in ((0, 0), (1, 255))))
         self.assertEqual((stl.get_subtitle_times(item), item.row, item.justify), ((0, 2), 20, 0))
-        group = make_gsi_block(b"", 0, 0) + self.block(1, 0) + self.block(1, last, group=1)
-        self.assertTrue(refusal(lambda: list(stl.read_stored_subtitles(group)), DamagedFile))
+
+    def test_blocks_of_another_group_belong_to_another_subtitle(self) -> None:
+        data = make_gsi_block(b"", 0, 0) + self.block(1, 0) + self.block(1, 255, group=1)
+        self.assertTrue(refusal(lambda: list(stl.read_stored_subtitles(data)), DamagedFile))
 
     def test_decodes_only_subtitles_with_a_duration(self) -> None:
         data = make_gsi_block(b"", 0, 0) + b"".join(

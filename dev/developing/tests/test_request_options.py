@@ -15,7 +15,7 @@ from subtitles.request.commands import CommandPaths, format_profile, make_comman
 from subtitles.request.lines import read_pairs, read_profile, make_line_request
 from subtitles.request.request import (
     ALONE, JUDGED, LINE, MEASURE, OPTIONS, Option, Request, add_options, keep_stl,
-    list_arguments as options_of, make_file_request)
+    list_arguments, make_file_request)
 from subtitles.results.schema import REQUEST
 from .bench import Case, get_example_path
 from .judged import judge_files
@@ -71,8 +71,8 @@ class OptionRows(Case):
         typed = make_command(request, CommandPaths("tools/qc", self.bench.program))
         for name, _, _ in ROWS:
             self.must(f"{name}: typed", (f" {name}" in typed) == (name != "--start"), typed)
-        self.must("complete",
-                  options_of(make_example_request("a", "b", "--complete")) == [[]] * len(OPTIONS))
+        self.check("a default needs no argument", list_arguments(make_example_request(
+            "a", "b", "--complete")), [[]] * len(OPTIONS))
 
     def test_each_row_is_complete(self) -> None:
         for item in OPTIONS:
