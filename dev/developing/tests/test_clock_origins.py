@@ -9,8 +9,7 @@ from typing import Sequence
 from developing.pes import decode_pts, get_data_field, get_teletext_packets, make_pes_packet
 from developing.stl import make_box_line
 from subtitles.clock.alignment import (
-    ExpectedCue, ExpectedSubtitle as Due, TimeBase, count_delays, find_expected_cues,
-    find_time_bases)
+    ExpectedCue, ExpectedSubtitle, TimeBase, count_delays, find_expected_cues, find_time_bases)
 from subtitles.clock.origin import (
     OriginEstimate, OriginSearch, estimate_origin, read_subtitles_between)
 from subtitles.clock.stretches import Stretch, Track, find_best_stretches, find_stretches
@@ -156,7 +155,8 @@ class Origins(Case):
 
 
 class Tracks(Case):
-    cues = find_expected_cues([Due(100 * at, 100 * at + 50, at, b"%d" % at) for at in range(1, 7)])
+    cues = find_expected_cues([ExpectedSubtitle(100 * at, 100 * at + 50, at, b"%d" % at)
+                               for at in range(1, 7)])
 
     def base(self, changes: dict[int, bytes], within: int = 0) -> TimeBase:
         return TimeBase(self.cues, [PageChange(TICKS * frame, letters, frame, ((20, letters),))

@@ -10,20 +10,18 @@ import subprocess
 from unittest import mock
 
 from developing.pes import make_pes_packet
-from developing.stl import make_gsi_block
 from subtitles.common.command_line import Stop, ToolParser
 from subtitles.common.times import NO_FRAME, Span, TICKS
 from subtitles.formats.listing import parse_fault_line
 from subtitles.judging.check import CheckOutput, run_check
 from subtitles.judging.pair import PairJudge
-from subtitles.report.blocks import show_byte
 from subtitles.request.lines import make_line_request
 from subtitles.request.request import Unclear, add_options
 from subtitles.stream.receiver import decode_pages_around, find_pauses
 from .bench import Case, get_example_path, read_example_file
 from .judged import judge_files
 from .streams import TELETEXT_PID, make_stream_of_pids
-from .parts import make_example_request, markup_text, survey_packets, make_part, make_shell_script
+from .parts import make_example_request, survey_packets, make_part, make_shell_script
 from .transmissions import CLOSING, HEADER, PAGE, write_pipe
 from .test_judging_verdicts import make_part_verdict
 
@@ -168,18 +166,6 @@ class LineOptions(Case):
         for words in (["a.stl", "-"], ["a.stl", "a.ts", "--origin", "1", "--start", "tcp"]):
             self.assertRaises(Stop, make_line_request, words, parser.parse_args([]))
 
-    def test_auto_uses_the_option_of_the_language_code(self) -> None:
-        for code, word in ((b"08", "german"), (b"09", "english"), (b"  ", "english"),
-                           (b"0F", "french"), (b"ZZ", "english")):
-            stl = self.write("one.stl", make_gsi_block(b"", 0, 0, language=code))
-            self.assertEqual(make_example_request(stl, "a.ts", "--option", "auto").option,
-                             word, code)
-            self.assertEqual(make_example_request(stl, "a.ts", "--option", "czech").option, "czech",
-                             (code, word))
-        for path in ("none.stl", self.folder, self.write("two.stl", b"850STL25.01100")):
-            self.assertEqual(make_example_request(path, "a.ts", "--option", "auto").option,
-                             "english", path)
-
 
 STORY = get_example_path("story.stl")
 
@@ -253,8 +239,3 @@ class Decisions(Case):
                                 (1000, [0, 600, 1000]), (3000, [0, 600, 1000])):
             near = decode_pages_around(packets, PAGE, 0, 0, Span(1000, 1001), every)
             self.must(f"{every}", [*near.header_frames] == expected, [*near.header_frames])
-
-    def test_escapes_characters_of_a_page(self) -> None:
-        for byte, expected in ((ord("<"), "&lt;"), (ord("&"), "&amp;"), (ord(">"), "&gt;"),
-                               (ord("A"), "A"), (0x0B, "<i>0B</i>")):
-            self.must(f"{byte:02X}", markup_text(show_byte(byte)) == expected)

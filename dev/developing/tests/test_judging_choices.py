@@ -12,8 +12,7 @@ from typing import Any, Sequence
 from developing.pes import get_data_field, make_pes_packet, decode_pts, get_teletext_packets
 from subtitles.cli.main import make_parser
 from subtitles.cli.measure import (
-    Delays, MeasuredRecording as ExpectedSubtitle, explain_omission, make_profile_lines, measure,
-    propose_repeat_limit)
+    Delays, MeasuredRecording, explain_omission, make_profile_lines, measure, propose_repeat_limit)
 from subtitles.common.program import TOP, read
 from subtitles.common.times import TICKS
 from subtitles.request.lines import read_profile, read_options
@@ -114,6 +113,11 @@ class Choices(Case):
             self.check(f"{name}: pace", [choice[1:5] for choice in paces], expected)
             self.check(f"{name}: line", ["not checked: " in choice[5] for choice in paces],
                        [True] * len(expected))
+
+    def test_chooses_english_if_a_file_cannot_be_read(self) -> None:
+        for path in ("none.stl", self.folder):
+            request = make_example_request(path, None, "--option", "auto")
+            self.check(path, request.option, "english")
 
     def test_chooses_the_option_of_the_language_code(self) -> None:
         with open(TS[0], "rb") as file:
@@ -339,12 +343,16 @@ class Profiles(Case):
         self.must("one", "--every 25" in alone and "--layout after=0A" not in alone, alone)
 
     def test_proposes_only_options_that_fit_all_recordings(self) -> None:
-        expected_subtitle = ExpectedSubtitle("0x101", [], [Repeats(9, 25, 7, 25)],
-                                             [Pace(REGULAR, 1, 3)], [Delays(
-            Counter({0: 3}), Counter({0: 3}), [], [])], (9, 0), True, {0}, [])
+        on_time = Delays(Counter({0: 3}), Counter({0: 3}), [], [])
+        late = Delays(Counter({0: 1, 2: 1}), Counter({1: 4}), [], [])
+        first = MeasuredRecording(
+            pid="0x101", lines=[], repeats=[Repeats(9, 25, 7, 25)],
+            paces=[Pace(REGULAR, 1, 3)], delays=[on_time], headers=(9, 0), is_alone=True,
+            option_bits={0}, sendings=[])
         request = make_example_request("a.stl", "a.ts", "--origin", "0")
         same = ["--page 888", "--pid 0x101", "--option english", "--every 25", "--pace 2"]
-        late = Delays(Counter({0: 1, 2: 1}), Counter({1: 4}), [], [])
+        # What differs in a second recording, the option that is no longer proposed for both, and
+        # new options.
         rows: list[tuple[dict[str, Any], str, str]] = [
             ({}, "", ""), ({"pid": "0x102"}, "--pid 0x101", ""), ({"pid": None}, "--pid 0x101", ""),
             ({"option_bits": {4}}, "--option english", ""),
@@ -359,15 +367,13 @@ class Profiles(Case):
             ({"headers": (9, 4), "is_alone": False}, "", ""), ({"is_alone": False}, "", "")]
         for changes, missing, new in rows:
             expected = {*same, *filter(None, new.split("|"))} - {missing}
-            for two in itertools.permutations((expected_subtitle,
-                                               expected_subtitle._replace(**changes))):
-                lines = [*make_profile_lines([request, request], two)]
+            for both in itertools.permutations((first, first._replace(**changes))):
+                lines = [*make_profile_lines([request, request], both)]
                 result = [line for line in lines if not line.startswith("#")]
-                self.must(f"{changes}", {*result} == expected
-                          and len(result) == len(expected), lines)
+                self.check(f"{changes}", sorted(result), sorted(expected))
         for words, is_known in (((), False), (("--start", "tcp"), True)):
             lines = [*make_profile_lines([make_example_request("a.stl", "a.ts", *words)],
-                                         [expected_subtitle._replace(delays=[late])])]
+                                         [first._replace(delays=[late])])]
             self.check(f"{words}", ["--within 2" in lines, any(
                 "no clock was given for a.ts" in line for line in lines)], [is_known, not is_known])
 

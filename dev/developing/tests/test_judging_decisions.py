@@ -21,16 +21,16 @@ from subtitles.judging.timing import add_delay, make_unclear_origin
 from subtitles.judging.verdict import measure_delay
 from subtitles.recording.notices import find_character_set_notices, find_page_notices
 from subtitles.request.commands import OutputNames
-from subtitles.request.lines import find_folder_pairs, make_line_request
+from subtitles.request.lines import find_folder_pairs
 from subtitles.request.request import Unclear
 from subtitles.results.files import find_hint
-from subtitles.results.schema import REQUEST, add_numbers_if_known
+from subtitles.results.schema import add_numbers_if_known
 from subtitles.stream.packets import Packets
 from subtitles.stream.receiver import BLANK_PAGE, PACKETS_PER_PAUSE, Rows, Timeline
 from subtitles.stream.survey import Announced
 from .bench import Case
 from .parts import (
-    make_example_request, list_call_arguments, make_default_options, survey_packets, decode_packets)
+    make_example_request, make_default_options, survey_packets, decode_packets)
 from .transmissions import CLOSING, HEADER, PAGE, make_numbered_row
 
 
@@ -53,18 +53,6 @@ class Results(Case):
             hint = find_hint({"worst_fault": line, "hints": hints})
             self.must(f"{line}", hint == expected, hint)
         self.must("no hints", find_hint({"worst_fault": "refused 72 Content", "hints": []}) == "")
-
-    def test_a_request_survives_conversion_to_arguments(self) -> None:
-        options = [["--page", "150"], ["--every", "50"], ["--option", "german"], ["--origin", "7"],
-                   ["--origin", "0"],
-                   ["--within", "3"], ["--breaks", "2"], ["--pes", "2-9"], ["--pid", "0x101"],
-                   ["--start", "10:00:00:00"], ["--severity", "file"], ["--no-complete"],
-                   ["--allow-lost"]]
-        every = [word for one in options if one[0] != "--start" for word in one]
-        for words in [list[str](), *options, every]:
-            request = make_example_request("one.stl", "one.pes", *words)
-            again = make_line_request(list_call_arguments(request), make_default_options())
-            self.must(f"{words}", REQUEST.to_json(again) == REQUEST.to_json(request), again)
 
 
 class Folders(Case):

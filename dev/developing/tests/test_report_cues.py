@@ -271,8 +271,8 @@ class RefusedFiles(Case):
                 (("refused 53 X block 2 at 0", "refused 50 X block 2 at 2"),
                  "<mark>a <mark>b</mark></mark><br/>c"), (("refused 21 X block 2",), "a b<br/>c")):
             self.must(f"{lines}", marked(*lines) == words, marked(*lines))
-        letters = [markup_text(show_byte(byte)) for byte in (0x20, 0x41, 0x7E, 0x7F, 0x1F)]
-        self.must("letters", letters == ["\u2423", "A", "~", "<i>7F</i>", "<i>1F</i>"])
+        letters = [markup_text(show_byte(byte)) for byte in (0x20, 0x3C, 0x7E, 0x7F, 0x0B)]
+        self.must("letters", letters == ["\u2423", "&lt;", "~", "<i>7F</i>", "<i>0B</i>"])
 
     def test_marks_the_times_that_a_fault_names(self) -> None:
         begin, end = "00:00:02:10", "00:00:02:20"
