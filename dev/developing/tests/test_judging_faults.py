@@ -10,7 +10,7 @@ from unittest import mock
 
 from developing.pes import make_packet, make_pes_packet
 from subtitles.common.program import find_proof
-from subtitles.common.times import CLOCK, Span, TICKS
+from subtitles.common.times import CLOCK, TICKS
 from subtitles.formats.listing import parse_fault_line
 from subtitles.judging.causes import (
     Cause, EARLY, LATE, NEVER, NOT_ERASED, OTHER_TEXT, TEXT_IN_PAUSE, UNKNOWN_CAUSE,
@@ -23,7 +23,7 @@ from subtitles.judging.transmissions import run_program
 from subtitles.request.commands import CLEAR_LINE, Listener, Progress, Printer
 from subtitles.request.request import Unclear
 from subtitles.stream.packets import PacketRun, Packets
-from subtitles.stream.receiver import BLANK_PAGE, SpanIndex
+from subtitles.stream.receiver import BLANK_PAGE
 from .bench import Case
 from .judged import LineRecorder
 from .parts import (
@@ -139,16 +139,6 @@ class Descriptions(Case):
             words = describe_faults(Facts("refused", 9, parse_fault_line(
                 "refused 68 Parity frame 00:00:01:00 packet 1"), False, 3, counts, "a letter"))
             self.must(expected, words == f"at 00:00:01:00, a letter{expected}", words)
-
-    def test_ignores_frames_with_losses(self) -> None:
-        data = b"".join(make_pes_packet(TICKS * frame, [HEADER, CLOSING]) for frame in (0, 50, 100))
-        decoded = decode_packets(self, data)
-        decoded.lost, decoded.uncertain_spans = SpanIndex([Span(10, 20)]), [Span(60, 70)]
-        for first, last, is_seen in ((0, 9, True), (0, 10, False), (20, 25, False), (21, 59, True),
-                                     (5, 30, False), (70, 90, False), (71, 100, True)):
-            self.assertEqual(decoded.was_received(first, last), is_seen, (first, last))
-        decoded.halt = 9
-        self.assertEqual([decoded.was_received(80, last) for last in (100, 101)], [True, False])
 
     def test_finds_the_pes_packet_of_a_fault(self) -> None:
         data = b"".join(make_pes_packet(ticks, [HEADER, CLOSING])

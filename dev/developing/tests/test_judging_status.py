@@ -22,7 +22,7 @@ from subtitles.judging.sentence import (
 from subtitles.judging.status import (
     ACCEPTED, CheckSummary, DIFFERS, Decision, FAULT_NUMBERS, Grounds, LOST, NOT_ANSWERED,
     NOT_JUDGED, NOTHING_READ, REFUSED, RELATIVE, SAME, Severity, STATUSES, WAIVED, WARNED,
-    combine_statuses, decide, decide_comparison, decide_part, matches_exit_status)
+    combine_statuses, decide, decide_comparison, matches_exit_status)
 from .bench import Case
 from .parts import make_answer, make_part
 
@@ -100,16 +100,6 @@ def get_outcome(decision: Decision) -> tuple[str, int]:
 NAMED = make_severity(f"{WARNING} warning")
 ALLOWING_SEVERITIES = [make_severity(f"{WARNING} warning", is_loss_allowed=True),
                        make_severity(f"{WARNING} warning", f"{LOST_PACKETS} warning")]
-
-
-class PartVerdicts(unittest.TestCase):
-    def test_accepts_only_valid_check_output_as_a_verdict(self) -> None:
-        for name, printed in RIGHT.items():
-            with self.subTest(name):
-                self.assertEqual(decide_part(printed), ACCEPTED if "accepted" in name else REFUSED)
-        for name, printed in WRONG.items():
-            with self.subTest(name):
-                self.assertEqual(decide_part(printed), NOT_JUDGED)
 
 
 class Decisions(unittest.TestCase):
