@@ -35,8 +35,8 @@ class Edges(Case):
                 ("the same once more", expected_subtitle._replace(begin=20, end=30), [10, 30]),
                 ("on another row", ExpectedSubtitle(20, 30, (22, 2, b"one"), b"one"), [10, 20, 30]),
                 ("other letters", ExpectedSubtitle(20, 30, (20, 2, b"two"), b"two"), [10, 20, 30])):
-            self.must(name, [cue.frame
-                             for cue in find_expected_cues([expected_subtitle, other])] == frames)
+            self.check(name, [cue.frame for cue in find_expected_cues([expected_subtitle, other])],
+                       frames)
 
 
 class BeginsAndEnds(Case):
@@ -65,11 +65,10 @@ class RepeatedPages(Case):
             for frame, most, expected in ((3, 1, 2), (3, 2, 2), (4, 1, None), (4, 2, 2),
                                           (52, 50, 2), (53, 50, None)):
                 changes = [change(0, b"text", 0), change(2, b"", 1), change(frame, b"text", 2)]
-                self.must(f"{origin} {frame} {most}", find_repeat(changes, 0, most) == expected,
-                          find_repeat(changes, 0, most))
+                self.check(f"{origin} {frame} {most}", find_repeat(changes, 0, most), expected)
             changes = [change(0, b"text", 0), change(2, b"", 1), change(3, b"other", 2),
                        change(4, b"text", 3)]
-            self.must(f"{origin}, behind another", find_repeat(changes, 0, 5) == 3)
+            self.check(f"{origin}, behind another", find_repeat(changes, 0, 5), 3)
             self.must(f"{origin}, not blank", find_repeat(changes, 2, 5) is None)
 
     def test_counts_a_repeated_page_only_if_it_is_expected(self) -> None:
@@ -84,7 +83,7 @@ class RepeatedPages(Case):
             if away <= min(MAX_ERASED_FRAMES, due - 1):
                 del frames[1:3]
             self.must(f"{due} {away}", [*base.changes] == frames, base.changes)
-            self.must("some", [*base.copy_between(cues, 100, 160).changes] == frames[1:-1])
+            self.check("some", [*base.copy_between(cues, 100, 160).changes], frames[1:-1])
 
 
 Inserter = Callable[[random.Random, bool], int]  # returns the delay of an in-cue or out-cue

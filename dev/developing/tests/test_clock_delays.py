@@ -49,7 +49,7 @@ class Delays(ProgrammeCase):
                           result.verdict.subtitle_count == 10, result.said)
             wrong = make_delay(1, self.due[15][0] * TICKS)(sent)
             words = [self.judge(wrong, *way, middle).word for way in (["--to"], ["--from"])]
-            self.must(f"{by}: late", words == ["accepted", "refused"], words)
+            self.check(f"{by}: late", words, ["accepted", "refused"])
 
     def test_judges_adjoining_parts(self) -> None:
         frames = [*self.due[:9], (self.due[9][0], self.due[10][0]), *self.due[10:]]

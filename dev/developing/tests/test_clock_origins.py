@@ -130,7 +130,7 @@ class Origins(Case):
         alike = self.stl(make_even_times(30, 100, 50, b"Again"))
         pes = schedule_pes(self, alike)
         for some, printed in ((pes, ["--origin 0"]), (pes[10:20], [])):
-            self.must("alike", self.find(alike, some).printed == printed)
+            self.check("alike", self.find(alike, some).printed, printed)
 
     def transmission(self, begin: int, late: Sequence[int] = (0,) * COUNT) -> list[bytes]:
         """Return the PES packets of a programme whose subtitles have these delays in frames."""

@@ -230,7 +230,7 @@ class Decisions(Case):
                 (NO_FRAME, [900], []), (10, [900], [Span(11, 899)]), (0, [4], [Span(1, 3)]),
                 (0, [3], []), (10, [900, 990], [
                     Span(11, 899), Span(901, 989)]), (NO_FRAME, [900, 990], [Span(901, 989)])):
-            self.must(f"{before} {frames}", [*find_pauses(before, frames)] == expected)
+            self.check(f"{before} {frames}", [*find_pauses(before, frames)], expected)
 
     def test_looks_back_as_far_as_the_repeat_interval(self) -> None:
         packets = survey_packets(self, b"".join(make_pes_packet(TICKS * at, [HEADER, CLOSING])
@@ -238,4 +238,4 @@ class Decisions(Case):
         for every, expected in ((25, [1000]), (250, [1000]), (399, [1000]), (400, [600, 1000]),
                                 (1000, [0, 600, 1000]), (3000, [0, 600, 1000])):
             near = decode_pages_around(packets, PAGE, 0, 0, Span(1000, 1001), every)
-            self.must(f"{every}", [*near.header_frames] == expected, [*near.header_frames])
+            self.check(f"{every}", [*near.header_frames], expected)

@@ -40,8 +40,7 @@ class Results(Case):
             ([], None), ([3], 3), ([None], None), ([3, 4, 5], 12), ([None, 4, 5], None),
             ([3, None, 5], None), ([3, 4, None], None), ([0], 0)]
         for numbers, expected in of_numbers:
-            self.must(f"{numbers}", add_numbers_if_known(numbers) == expected,
-                      add_numbers_if_known(numbers))
+            self.check(f"{numbers}", add_numbers_if_known(numbers), expected)
 
     def test_shows_the_hint_of_the_named_fault(self) -> None:
         hints = ["5: of none", "7: of none", "72: of the content", "72: once more", "6: of none"]
@@ -51,8 +50,8 @@ class Results(Case):
                 ("accepted 72 frames", ""), (None, ""),
                 ("not accepted, since TS packets are lost: waived: refused 5 X", "of none")):
             hint = find_hint({"worst_fault": line, "hints": hints})
-            self.must(f"{line}", hint == expected, hint)
-        self.must("no hints", find_hint({"worst_fault": "refused 72 Content", "hints": []}) == "")
+            self.check(f"{line}", hint, expected)
+        self.check("no hints", find_hint({"worst_fault": "refused 72 Content", "hints": []}), "")
 
 
 class Folders(Case):
@@ -98,21 +97,21 @@ class Folders(Case):
                     find_folder_pairs(self.path("in"), make_default_options()))]
 
         for now, expected in ((100, []), (109, []), (110, ["one"]), (111, []), (150, [])):
-            self.must(f"at {now}", due(lambda: now) == expected)
+            self.check(f"at {now}", due(lambda: now), expected)
         self.write("in/one.ts", b"12")
         for now, expected in ((200, []), (205, []), (210, ["one"]), (230, [])):
-            self.must(f"changed, at {now}", due(lambda: now) == expected)
+            self.check(f"changed, at {now}", due(lambda: now), expected)
         self.write("in/one.stl", b"12")
         self.must("changed once more", due(lambda: 300) == [] and due(lambda: 310) == ["one"])
         self.write("in/two.ts", b"2")
         self.write("in/two.stl", b"2")
         self.write("in/two.done", b"")
-        self.must("somebody says so", due(lambda: 311) == ["two"])
+        self.check("somebody says so", due(lambda: 311), ["two"])
         os.unlink(self.path("in/two.done"))
         self.write("in/two.ts", b"22")
         times = iter([400.0, 409.0, 418.0, 419.0])  # one search takes nine seconds
-        self.must("from when it was seen", [due(lambda: next(times)) for _ in range(3)] ==
-                  [[], [], ["two"]])
+        self.check("from when it was seen", [due(lambda: next(times)) for _ in range(3)],
+                   [[], [], ["two"]])
         self.must("what was seen", isinstance(watch.seen["one"], FolderState))
 
 
@@ -133,7 +132,7 @@ class SubtitleFiles(Case):
                 ((2,), ("pol",), ["language", "option"])):
             own = [Announced(PAGE, language, kind) for kind, language in zip(kinds, languages)]
             result = [warned.kind for warned in find_page_notices(own, request)]
-            self.must(f"{kinds} {languages}", result == expected, result)
+            self.check(f"{kinds} {languages}", result, expected)
 
     def test_warns_of_another_character_set(self) -> None:
         for region, option, more in itertools.product((None, 0, 1), (None, 0, 4), (0, 1)):
@@ -178,8 +177,8 @@ class EstimatedOrigins(Case):
             origin = OriginEstimate(0, ticks_late=TICKS, has_all_cues=has_all_cues,
                                     first_shift=shifted,
                                     printed=["--origin 5"] * printed)
-            self.must(words, add_delay(Clock(5, START), origin)[1] ==
-                      [f"{words} subtitles are 1 frame late"])
+            self.check(words, add_delay(Clock(5, START), origin)[1],
+                       [f"{words} subtitles are 1 frame late"])
 
     def test_asks_about_a_delay_of_a_picture_distance(self) -> None:
         for away, is_asked in ((TICKS, True), (TICKS + 5, False), (2 * TICKS, False)):
@@ -193,7 +192,7 @@ class EstimatedOrigins(Case):
             why = make_unclear_origin(OriginEstimate(airings=[(0, 9)] * runs, breaks=breaks,
                                                      lines=["one"]),
                                       [])
-            self.must(f"{runs} {breaks}", (why.reason == "one") == is_alone)
+            self.check(f"{runs} {breaks}", why.reason == "one", is_alone)
 
 
 class DecodedPages(Case):
@@ -210,7 +209,7 @@ class DecodedPages(Case):
             decoded = self.decode(make_pes_packet(0, [CLOSING]) + data + b"".join(more))
             for is_complete, frames in ((True, expected), (False, 0)):
                 delay = measure_delay(subtitle, decoded.get_page_at(100), decoded, is_complete)
-                self.must(f"{closed} {is_complete}", delay == frames, delay)
+                self.check(f"{closed} {is_complete}", delay, frames)
 
     def test_finds_the_first_frame_with_a_closed_page(self) -> None:
         data = b"".join(make_pes_packet(TICKS * frame, units) for frame, units in (
@@ -221,8 +220,8 @@ class DecodedPages(Case):
                                 (39, 40), (40, 40), (99, 99)):
             self.check(f"from {frame}", decoded.find_closed_frame(frame), expected)
         decoded = self.decode(data[:len(data) // 2 + 1])
-        self.must("open and closed once",
-                  (decoded.find_closed_frame(15), decoded.find_closed_frame(20)) == (20, 20))
+        self.check("open and closed once",
+                   (decoded.find_closed_frame(15), decoded.find_closed_frame(20)), (20, 20))
 
     def test_shows_a_page_once_a_header_ends_it(self) -> None:
         old, new = make_numbered_row(20, b"old"), make_numbered_row(20, b"new")
@@ -235,7 +234,7 @@ class DecodedPages(Case):
             screen = self.decode(make_pes_packet(0, [HEADER, old]) +
                                  make_pes_packet(TICKS * 10, units)).states[-1].screen
             text = screen and screen[0][19].strip(b"\x0b ")
-            self.must(f"{units}", text == expected, text)
+            self.check(f"{units}", text, expected)
         packets = survey_packets(self, make_pes_packet(0, [HEADER, old]) + make_pes_packet(
             TICKS, [CLOSING, HEADER, new]))
         self.must("tuned in later", Timeline(packets, PAGE, 0, 0, (1, 1)).states[-1].screen is None)
@@ -249,11 +248,11 @@ class DecodedPages(Case):
         for numbers, expected in of_doubts:
             decoded = self.decode(b"".join(broken[at] if at in numbers else item
                                            for at, item in enumerate(good)))
-            self.must(f"{numbers}", decoded.uncertain_spans == expected, decoded.uncertain_spans)
+            self.check(f"{numbers}", decoded.uncertain_spans, expected)
             for first, last in ((0, 15), (15, 25), (30, 30), (65, 66), (85, 90)):
                 is_seen = not any(item.first <= last and first <= item.last for item in expected)
-                self.must(f"{numbers}: {first} to {last}", decoded.was_received(first, last) ==
-                          is_seen)
+                self.check(f"{numbers}: {first} to {last}", decoded.was_received(first, last),
+                           is_seen)
 
     def test_decodes_only_the_requested_range(self) -> None:
         data = b"".join(make_pes_packet(TICKS * 10 * at, [
@@ -303,7 +302,7 @@ class DecodedPages(Case):
                        None if pause is None else [*decoded.pauses][pause])
         for decoded.count, is_steady in ((2 * PACKETS_PER_PAUSE, True),
                                          (2 * PACKETS_PER_PAUSE - 1, False)):
-            self.must(f"{is_steady}", (decoded.find_pause(91) is not None) == is_steady)
+            self.check(f"{is_steady}", decoded.find_pause(91) is not None, is_steady)
 
     def test_drops_pages_before_a_step_back(self) -> None:
         for frames, pages, is_lost in (
@@ -315,9 +314,9 @@ class DecodedPages(Case):
             self.must(f"{frames}",
                       (len(decoded.pages), decoded.halt is not None) == (pages, is_lost),
                       (decoded.frames, decoded.halt))
-            self.must(f"{frames}: seen",
-                      [decoded.was_received(300, decoded.last + more) for more in (0, 1)]
-                      == [True, not is_lost])
+            self.check(f"{frames}: seen",
+                       [decoded.was_received(300, decoded.last + more) for more in (0, 1)],
+                       [True, not is_lost])
 
 
 class SubtitlesInParts(Case):
@@ -342,8 +341,8 @@ class SubtitlesInParts(Case):
                 ("another order", nine, three[::-1], other)):
             result = [self.FOUND._replace(begin=begin, end=end) for begin, end in parts]
             chosen_parts = choose_parts(result, self.FOUND)
-            self.must(f"{name}: frames", [(item[:4], item.between) for item in chosen_parts] == [
-                (item[:4], FrameRange(*item[:2])) for item in result])
+            self.check(f"{name}: frames", [(item[:4], item.between) for item in chosen_parts],
+                       [(item[:4], FrameRange(*item[:2])) for item in result])
             reason = ""
             try:
                 refuse_missing_subtitles(chosen_parts, subtitles, "one.stl")
@@ -352,8 +351,8 @@ class SubtitlesInParts(Case):
             self.must(name, reason.startswith(expected) and bool(reason) == bool(expected), reason)
         whole = TimedPart(2, 90, Clock(5, RECORDING))
         for item in (self.FOUND, self.FOUND._replace(begin=5, end=7)):
-            self.must("a single one", choose_parts([item], whole) == [
-                whole._replace(clock=item.clock, packets=(3, 5))])
+            self.check("a single one", choose_parts([item], whole),
+                       [whole._replace(clock=item.clock, packets=(3, 5))])
 
     def test_parts_that_lack_a_subtitle_are_refused_before_they_are_judged(self) -> None:
         item = PairJudge(mock.Mock(request=make_example_request("one.stl", "one.pes")), mock.Mock(),

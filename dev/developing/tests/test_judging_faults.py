@@ -130,7 +130,7 @@ class Descriptions(Case):
                 "refused", 9, content, True, 9, [FaultCount(number, "Name", count)
                                                  for number, count in numbers.items()],
                 causes=several))
-            self.must(f"{numbers}", words == describe_causes(several, "english") + expected, words)
+            self.check(f"{numbers}", words, describe_causes(several, "english") + expected)
 
     def test_counts_faults_without_a_cause(self) -> None:
         for counts, expected in (([FaultCount(68, "Parity", 3)], "; 3 faults in all"),
@@ -138,7 +138,7 @@ class Descriptions(Case):
                                   "; 3 faults in all: 68 Parity (2) and 73 Gap")):
             words = describe_faults(Facts("refused", 9, parse_fault_line(
                 "refused 68 Parity frame 00:00:01:00 packet 1"), False, 3, counts, "a letter"))
-            self.must(expected, words == f"at 00:00:01:00, a letter{expected}", words)
+            self.check(expected, words, f"at 00:00:01:00, a letter{expected}")
 
     def test_finds_the_pes_packet_of_a_fault(self) -> None:
         data = b"".join(make_pes_packet(ticks, [HEADER, CLOSING])
@@ -164,8 +164,8 @@ class Descriptions(Case):
         assert fault
         for number in (0, 1):  # number of the last PES packet that changes the cell
             due = decoded.get_state_after(1 - number).rows
-            self.must(f"{number}",
-                      find_fault_place(fault, decoded.packets, decoded, due).pes == number)
+            self.check(f"{number}", find_fault_place(fault, decoded.packets, decoded, due).pes,
+                       number)
         decoded = decode_packets(self, make_pes_packet(0, [HEADER]) + make_pes_packet(9, [CLOSING]),
                                  0, 1)
         fault = parse_fault_line("refused 67 Control frame 00:00:00:00 packet 0")
@@ -201,8 +201,8 @@ class Descriptions(Case):
                                                "--within",
                                                str(abs(off)))
                 result = describe_longest_gap((headers, ends), origin, request, numbers, times)
-                self.must(f"{frames} {numbers} {origin} {off}", result ==
-                          (expected and f"the page had no header for up to {expected}"), result)
+                self.check(f"{frames} {numbers} {origin} {off}", result,
+                           expected and f"the page had no header for up to {expected}")
 
     def test_gives_a_hint_for_the_first_fault_of_each_number(self) -> None:
         data = b"".join(
@@ -222,8 +222,7 @@ class Descriptions(Case):
                  for at, some in enumerate((lines, good, [lines[2], "1 faults"]), 1)]
         verdict = make_part_verdict(parts)
         verdict.request.every = 100
-        self.must("of each", list(list_hints(verdict)) == [
-            *expected, expected[1]], list(list_hints(verdict)))
+        self.check("of each", list(list_hints(verdict)), [*expected, expected[1]])
         verdict.parts = parts[1:2]
         self.must("none", not list(list_hints(verdict)))
 
@@ -235,11 +234,11 @@ class Descriptions(Case):
             recorder.end_list(f"{count - 1}")
             more = [f".. {count - 41} more lines"] * (count > 41)
             expected = [*map(str, range(min(count, 40))), *more, *[f"{count - 1}"] * (count > 40)]
-            self.must(f"{count}", recorder.lines == expected, recorder.lines)
+            self.check(f"{count}", recorder.lines, expected)
             recorder.print_command("next")
             recorder.print_list_line("first")
-            self.must(f"{count}: another list",
-                      recorder.lines[len(expected):] == ["+ next", "first"])
+            self.check(f"{count}: another list", recorder.lines[len(expected):],
+                       ["+ next", "first"])
         with contextlib.redirect_stdout(io.StringIO()) as out:
             printer = Printer(Progress())
             for line in ("a", "b"):
@@ -273,8 +272,8 @@ class ProgramCalls(Case):
                 result: list[str] | None = run_program(path, "schedule", "x")
             except Unclear as reason:
                 result = None
-                self.must("why", reason.reason == "schedule gave no result: "
-                          f"{''.join(lines[-1:])}", reason.reason)
+                self.check("why", reason.reason,
+                           "schedule gave no result: " f"{''.join(lines[-1:])}")
             self.must(f"{lines} {status}", result == (lines if is_right else None), result)
 
 

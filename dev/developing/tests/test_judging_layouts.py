@@ -80,7 +80,7 @@ class DecodedPages(Case):
                                                  ENGLISH)
             rows = [number for sent in sent_subtitles for number, cells in enumerate(sent.rows, 1)
                     if cells.strip()]
-            self.must(f"{begin} {end} {pages}", rows == expected, rows)
+            self.check(f"{begin} {end} {pages}", rows, expected)
 
 
 class LayoutMessages(Case):
@@ -105,16 +105,14 @@ class LayoutMessages(Case):
                          (PLAIN, parse_layout(text)) if layout and
                          not isinstance(lines := draw_text(b"Hi", 18, 2, layout, ENGLISH),
                                         TextFault))
-            self.must(text, describe_row_difference(due, sent) == expected,
-                      describe_row_difference(due, sent))
+            self.check(text, describe_row_difference(due, sent), expected)
         for first, second, expected in (
                 (b"Hi Ho", b"Hi\x8aHo", "2 rows instead of 1"),
                 (b"H i", b"H\x02i", "row 18, other codes within the text"),
                 (b"Hi\x8aH o", b"Hi\x8aH\x02o", "row 19, other codes within the text")):
             due, sent = (make_page_rows(lines) for text in (first, second) if not isinstance(
                 lines := draw_text(text, 18, 2, PLAIN, ENGLISH), TextFault))
-            self.must(f"{second!r}", describe_row_difference(due, sent) == expected,
-                      describe_row_difference(due, sent))
+            self.check(f"{second!r}", describe_row_difference(due, sent), expected)
 
 
 class OpenSubtitles(Case):
@@ -132,7 +130,7 @@ class OpenSubtitles(Case):
                 self.must("with --open", other.result["line"] == "refused 13 Display block 0",
                           other.said)
                 continue
-            self.must(f"{kind}: a file", judge_files(self, stl, "--open").word == "valid")
+            self.check(f"{kind}: a file", judge_files(self, stl, "--open").word, "valid")
             pes = self.schedule(stl, "open.pes", "--open", "--every", "20", "--layout", "after=0A")
             judged_pair = judge_files(self, stl, pes, "--open", "--layout", "after=0A", "-o",
                                       self.path("out"))

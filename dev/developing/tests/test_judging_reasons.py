@@ -349,14 +349,14 @@ class MissingRows(Case):
                 (0, ""), (24, ""), (50, "row 22"), (60, "row 22"), (75, "rows 20 and 22"),
                 (99, "rows 20 and 22"), (100, "")):
             omitted_rows = name_omitted_rows(decoded, due, frame, self.make_row_fault(frame))
-            self.must(f"{frame}", omitted_rows == expected, omitted_rows)
-        self.must("the row",
-                  [self.make_row_fault(frame).find_fault_row(9) for frame in (0, 9, 10)] ==
-                  [22, 22, None])
-        self.must("nothing told", name_omitted_rows(decoded, due, 50, None) == "a row")
-        self.must("another page is due", name_omitted_rows(decoded, BLANK_PAGE, 50, None) == "")
+            self.check(f"{frame}", omitted_rows, expected)
+        self.check("the row",
+                   [self.make_row_fault(frame).find_fault_row(9) for frame in (0, 9, 10)],
+                   [22, 22, None])
+        self.check("nothing told", name_omitted_rows(decoded, due, 50, None), "a row")
+        self.check("another page is due", name_omitted_rows(decoded, BLANK_PAGE, 50, None), "")
         nothing = decode_packets(self, make_packets_at([(5, [CLOSING])]))
-        self.must("no header", name_omitted_rows(nothing, BLANK_PAGE, 5, None) == "")
+        self.check("no header", name_omitted_rows(nothing, BLANK_PAGE, 5, None), "")
 
     def test_a_changed_row_is_not_missing(self) -> None:
         decoded, due = self.decode((0, COMPLETE_PAGE), (20, COMPLETE_PAGE), (25, ONE_ROW_LESS),
@@ -365,27 +365,26 @@ class MissingRows(Case):
             reported = self.make_row_fault(
                 25, f"refused 69 RowChanged {make_frame_text(frame)} packet 1")
             omitted_rows = name_omitted_rows(decoded, due, 25, reported)
-            self.must(f"{frame}", omitted_rows == expected, omitted_rows)
+            self.check(f"{frame}", omitted_rows, expected)
         decoded, due = self.decode((0, REPEATED_PAGE), (25, ONE_ROW_LESS))
         reported = self.make_row_fault(25, f"refused 69 RowChanged {make_frame_text(0)} packet 1")
-        self.must("none erases", name_omitted_rows(decoded, due, 25, reported) == "")
+        self.check("none erases", name_omitted_rows(decoded, due, 25, reported), "")
 
     def test_counts_rows_up_to_the_tolerance(self) -> None:
         frames = (0, COMPLETE_PAGE), (25, [KEEPING_HEADER]), (26, [FIRST_ROW]), (50, COMPLETE_PAGE)
         decoded, due = self.decode(*frames, within=2)
-        self.must("both frames",
-                  name_omitted_rows(decoded, due, 27, self.make_row_fault(27)) == "row 22")
+        self.check("both frames", name_omitted_rows(decoded, due, 27, self.make_row_fault(27)),
+                   "row 22")
         decoded, due = self.decode(*frames)
-        self.must("one frame",
-                  name_omitted_rows(decoded, due, 25, self.make_row_fault(25)) == "rows 20 and 22")
+        self.check("one frame", name_omitted_rows(decoded, due, 25, self.make_row_fault(25)),
+                   "rows 20 and 22")
 
     def test_finds_rows_missing_after_a_keeping_header(self) -> None:
         decoded, due = self.decode((0, COMPLETE_PAGE), (25, WITHOUT_ROWS), (50, ONE_ROW_LESS))
         subtitle = Subtitle(1, 1, 0, 100, 20, 2, b"1")
         namer = CauseFinder(ExpectedPages([subtitle], [due]), decoded, self.make_row_fault(50))
         for frame, expected in ((0, ""), (25, "rows 20 and 22"), (50, "row 22")):
-            self.must(f"{frame}", namer.explain_omitted_rows(frame) == expected,
-                      namer.explain_omitted_rows(frame))
+            self.check(f"{frame}", namer.explain_omitted_rows(frame), expected)
         namer.timeline.lost = SpanIndex([Span(50, 50)])
         self.must("not received",
                   namer.explain_omitted_rows(50) == "" and namer.explain_omitted_rows(25) != "")
@@ -393,8 +392,7 @@ class MissingRows(Case):
         for within, expected in ((0, ""), (1, "row 22")):
             decoded, due = self.decode((0, COMPLETE_PAGE), *several, within=within)
             namer = CauseFinder(ExpectedPages([subtitle], [due]), decoded, self.make_row_fault(25))
-            self.must(f"in two, {within}", namer.explain_omitted_rows(25) == expected,
-                      namer.explain_omitted_rows(25))
+            self.check(f"in two, {within}", namer.explain_omitted_rows(25), expected)
 
     def test_an_early_header_without_rows_erases_nothing(self) -> None:
         subtitle, faulty = Subtitle(1, 1, 25, 100, 20, 2, b"1"), FaultyFrames()

@@ -107,7 +107,7 @@ class RefusedSubtitles(Case):
                   known["faults"])
         verdicts = ["wrong" if position in (3, 7) else "right" for position in range(1, 11)]
         found_verdicts = [item["verdict"] for item in known["subtitles"]]
-        self.must("subtitles", found_verdicts == verdicts, found_verdicts)
+        self.check("subtitles", found_verdicts, verdicts)
         rows = list(csv.DictReader(self.read("x.csv").decode().splitlines()))
         self.must("table", [item["verdict"] for item in rows] == ["refused", *verdicts], rows)
         words, case = "8 subtitles judged, 2 refused", tree.fromstring(self.read("x.xml"))
@@ -313,9 +313,8 @@ class LongInputs(Case):
             run.stdin.write(sent)
             run.stdin.close()
             lines = run.stdout.read().decode().splitlines()
-        self.must("status", run.returncode == 0, run.returncode)
-        self.must("over", lines[-1] == f"over 0 {PACKETS_PER_WRITE * TIMES + len(parts)}",
-                  lines[-1])
+        self.check("status", run.returncode, 0)
+        self.check("over", lines[-1], f"over 0 {PACKETS_PER_WRITE * TIMES + len(parts)}")
         reported = [line for line in lines if line.startswith(f"pes {PID} 0 1 ")]
         self.must("its PES packet", len(reported) == 1, lines)
 
@@ -327,7 +326,7 @@ class LongInputs(Case):
         blocks[12] = begin, end, BAD
         status, lines = self.program("check", self.write("bad.stl", make_stl_of_blocks(blocks)),
                                      self.path("sent.pes"), "--all")
-        self.must("status", status == 1, status)
+        self.check("status", status, 1)
         self.must("the subtitle", lines[0] == "refused 50 Character block 13 at 0", lines)
         self.must("the others", [line for line in lines[1:] if line.startswith("refused ")] == [
             f"refused 78 Undecided frame {when}" for when in ("00:00:50:10",)], lines)

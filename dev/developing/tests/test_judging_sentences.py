@@ -347,10 +347,9 @@ class DrawingReceiver(Receiver):
 class VisibleRows(Case):
     def test_finds_the_characters_that_decoders_show(self) -> None:
         for cells, sight, words in ROWS:
-            self.must(cells.hex(),
-                      (find_visibility(cells), describe_hidden_characters(cells, "english")) ==
-                      (sight, words),
-                      (find_visibility(cells), describe_hidden_characters(cells, "english")))
+            self.check(cells.hex(),
+                       (find_visibility(cells), describe_hidden_characters(cells, "english")),
+                       (sight, words))
         for paper, ink, of_paper, of_ink in itertools.product(range(8), range(8), (0, 16), (0, 16)):
             for behind, expected in ((b"", ink == paper), (b"\x1c", ink == 0)):  # black background
                 cells = b"\x0b\x0b%c\x1d%c%sHi" % (paper + of_paper, ink + of_ink, behind)
@@ -364,7 +363,7 @@ class VisibleRows(Case):
             self.skipTest("what libzvbi draws, which is not installed")
         for cells, _, _ in ROWS:
             expected = "".join(chr(cell.code) for cell in decode_cells(cells) if cell.is_shown)
-            self.must(cells.hex(), receiver.letters(cells) == expected, receiver.letters(cells))
+            self.check(cells.hex(), receiver.letters(cells), expected)
 
     def test_reports_each_hidden_row_with_its_block(self) -> None:
         blank = BLANK_PAGE[0]

@@ -305,19 +305,19 @@ def make_check_output(*lines: str, path: str) -> CheckOutput:
 
 class LeadingFaults(Case):
     def test_each_cause_and_fault_number_has_a_rank(self) -> None:
-        self.must("causes", set(CAUSE_RANKS) == set(CAUSE_NAMES))
+        self.check("causes", set(CAUSE_RANKS), set(CAUSE_NAMES))
         self.must("numbers", set(NUMBER_RANKS) == FAULT_NUMBERS - PACKET_FAULTS_ONLY,
                   set(NUMBER_RANKS) ^ (FAULT_NUMBERS - PACKET_FAULTS_ONLY))
         for number, item in read_meanings().items():
             rank = rank_number(number)
             if number in STL_FAULTS:
-                self.must(f"{number}", rank == Rank.FILE)
+                self.check(f"{number}", rank, Rank.FILE)
             elif number in (63, 74):  # the recording is too short, unless a cause is known
-                self.must(f"{number}", rank == Rank.UNSEEN)
+                self.check(f"{number}", rank, Rank.UNSEEN)
             elif item.name.partition("</a>")[2].startswith("now"):
                 self.must(f"{number}", rank <= Rank.SOME, rank)
             elif item.name.partition("</a>")[2].startswith("next") and number != 61:
-                self.must(f"{number}", rank == Rank.LATER, rank)
+                self.check(f"{number}", rank, Rank.LATER)
         names = sorted(CAUSE_NAMES, key=lambda name: CAUSE_RANKS[name])
         self.must("order of causes", names[0] == "never sent" and names[-4:] == [
             "late", "early", "wrong colour or attribute", "not received"], names)
@@ -345,7 +345,7 @@ class LeadingFaults(Case):
                   part.worst_fault_line is None and part.first_text == part.check_output.line)
 
     def test_ranks_named_faults(self) -> None:
-        self.must("each", set(NAME_RANKS) == {*FAULT_NAMES, *READING_FAULT_NAMES})
+        self.check("each", set(NAME_RANKS), {*FAULT_NAMES, *READING_FAULT_NAMES})
         never, left, hidden = (NamedFault(name, "") for name in FAULT_NAMES)
         rows: tuple[tuple[list[NamedFault], Rank | None, NamedFault | None], ...] = (
             ([], None, None), ([], Rank.LATER, None), ([left], None, left),
@@ -428,8 +428,7 @@ class ParsedLines(Case):
                  ("ended", 72, "Content", NONE, NONE, NONE, "00:00:03:00", NONE, NONE, NONE)),
                 ("fault 91 Memory",
                  ("fault", 91, "Memory", NONE, NONE, NONE, NONE, NONE, NONE, NONE))):
-            self.must(line, parse_fault_line(line) == FaultLine(line, *expected),
-                      parse_fault_line(line))
+            self.check(line, parse_fault_line(line), FaultLine(line, *expected))
             is_fault = line.startswith("refused ")
             self.must(f"number of {line}", parse_fault_number(line) ==
                       (expected[1] if is_fault else None))
@@ -440,15 +439,15 @@ class ParsedLines(Case):
                       parse_fault_line(line))
 
     def test_parses_accepted_trusted_and_count_lines(self) -> None:
-        self.must("accepted", parse_accepted_line("accepted 226 frames 5 transmissions") ==
-                  Accepted(226, 5))
-        self.must("trusted", parse_trusted_line("trusted frames 00:00:01:00 00:00:02:00") ==
-                  Trusted("00:00:01:00", "00:00:02:00"))
-        self.must("counted", parse_count_line("12 faults") == 12)
+        self.check("accepted", parse_accepted_line("accepted 226 frames 5 transmissions"),
+                   Accepted(226, 5))
+        self.check("trusted", parse_trusted_line("trusted frames 00:00:01:00 00:00:02:00"),
+                   Trusted("00:00:01:00", "00:00:02:00"))
+        self.check("counted", parse_count_line("12 faults"), 12)
         for line in ("accepted", "accepted 1 frames", "accepted 1 frames 2 transmissions more",
                      "refused 60 Empty", "12 faults more", "faults", ""):
             result = [parse_accepted_line(line), parse_trusted_line(line), parse_count_line(line)]
-            self.must(f"none of {line}", result == [None] * 3, result)
+            self.check(f"none of {line}", result, [None] * 3)
 
     def test_parses_subtitles(self) -> None:
         for lines, expected in (([FIRST, SECOND_LINE, "2 subtitles"],
@@ -456,7 +455,7 @@ class ParsedLines(Case):
                                 (["0 subtitles"], []),
                                 ([FIRST, "refused 16 Cumulative block 2"], [FIRST_SUBTITLE]),
                                 (["refused 10 Format block 0"], [])):
-            self.must(str(lines), parse_subtitles(lines) == expected, parse_subtitles(lines))
+            self.check(str(lines), parse_subtitles(lines), expected)
         unread: list[list[str]] = [
             [], [FIRST], [FIRST, SECOND_LINE], [FIRST, "2 subtitles"], [FIRST, "fault 91 Memory"],
             [FIRST + " ", "1 subtitles"], [FIRST.replace("vp", "row"), "1 subtitles"],

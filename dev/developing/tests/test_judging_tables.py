@@ -26,7 +26,6 @@ from subtitles.judging.pair import PairJudge
 from subtitles.judging.subtitles import OptionAdvice
 from subtitles.judging.timing import (
     PartSearch, find_subtitle_packets, list_timed_parts, report_estimated_origin)
-from subtitles.judging.transmissions import describe_control_bits
 from subtitles.judging.unchecked import summarize_pictures
 from subtitles.reading.judge import ReadingJudge
 from subtitles.recording.notices import (
@@ -259,10 +258,10 @@ class NamesOfFiles(Case):
             names = OutputNames("one", self.folder, out)
             for item, name in ((names, "one"), (names.make_part_paths(2), "one.2")):
                 typed = os.path.join(out or "", name)
-                self.must(f"{out} {name}: typed", item.report_path == f"{typed}.html")
-                self.must(f"{out} {name}: here", (item.recording_path, item.list_path) == (
-                    os.path.join(self.folder, f"{name}.recording"),
-                    os.path.join(self.folder, f"{name}.txt")))
+                self.check(f"{out} {name}: typed", item.report_path, f"{typed}.html")
+                self.check(f"{out} {name}: here", (item.recording_path, item.list_path),
+                           (os.path.join(self.folder, f"{name}.recording"),
+                            os.path.join(self.folder, f"{name}.txt")))
                 self.must(f"{out} {name}: object", item.json_path == (f"{typed}.json" if out else
                                                                    None))
 
@@ -292,8 +291,8 @@ class NamesOfFiles(Case):
         names = ListNames()
         self.must("of a list", [names.name_pair(item) for item in (
             "a.stl", "b/a.stl", "a~2.stl", "b.stl", "a.STL")] == ["a", "a~2", "a%7E2", "b", "a~3"])
-        self.must("of lines", [names.make_line_name(item) for item in (2, 3, 2)] ==
-                  ["line 2", "line 3", "line 2~2"])
+        self.check("of lines", [names.make_line_name(item) for item in (2, 3, 2)],
+                   ["line 2", "line 3", "line 2~2"])
 
     def test_finds_the_files_of_an_earlier_call(self) -> None:
         out = self.path("out")
@@ -313,7 +312,7 @@ class NamesOfFiles(Case):
             path = self.write(f"out/{name}.1.txt", b"")
             kept = list_pair_files(out, name)
             self.must(name, path in kept and os.path.join(out, "one.1.txt") not in kept, kept)
-        self.must("no folder", len(list_pair_files(self.path("none"), "one")) == 7)
+        self.check("no folder", len(list_pair_files(self.path("none"), "one")), 7)
 
     def test_prints_the_call_with_other_options(self) -> None:
         typed = CommandPaths("tools/qc", self.bench.program)
@@ -332,16 +331,15 @@ class NamesOfFiles(Case):
                                (("--within", "5"),
                                 whole.replace(" --within 2", "") + " --within 5"),
                                (("--pes", "1-2"), whole.replace(" --pes 2-9", "") + " --pes 1-2")):
-            self.must(f"{more}", make_command(request, typed, *more) == expected,
-                      make_command(request, typed, *more))
+            self.check(f"{more}", make_command(request, typed, *more), expected)
         start = make_example_request("one.stl", "one.ts", "--start", "tcp")
-        self.must("start", make_command(start, typed) == "tools/qc one.stl one.ts --start tcp")
-        self.must("an origin instead", make_command(start, typed, "--origin", "T") ==
-                  "tools/qc one.stl one.ts --origin T")
+        self.check("start", make_command(start, typed), "tools/qc one.stl one.ts --start tcp")
+        self.check("an origin instead", make_command(start, typed, "--origin", "T"),
+                   "tools/qc one.stl one.ts --origin T")
         self.check("a file alone", make_command(make_example_request("one.stl", None), typed),
                    "tools/qc one.stl --file-only")
-        self.must("words", quote_command("cat", "a b", ">", "c", "|", "d'e") ==
-                  "cat 'a b' >c | 'd'\"'\"'e'")
+        self.check("words", quote_command("cat", "a b", ">", "c", "|", "d'e"),
+                   "cat 'a b' >c | 'd'\"'\"'e'")
         for called, tool, program in (("tools/qc", "tools/air", "subttx"),
                                       ("./qc", "./air", "../subttx"), ("qc", "./air", "../subttx"),
                                       ("/a/tools/qc", "/a/tools/air", "/a/subttx")):
@@ -362,7 +360,7 @@ class RecordingKinds(Case):
                 (b"G" + b"\0" * 203 + b"G" + b"\0" * 99, True),
                 (b"timeG" + b"\0" * 191 + b"G" + b"\0" * 99, True),
                 (b"G" + b"\0" * 188 + b"G" + b"\0" * 99, False)):
-            self.must(f"{data[:6]!r}", is_recording(self.write("one", data)) == is_one)
+            self.check(f"{data[:6]!r}", is_recording(self.write("one", data)), is_one)
 
 
 class PageDifferences(Case):
@@ -417,21 +415,6 @@ class PageDifferences(Case):
         self.assertEqual([describe_code(code) for code in (0, 7, 0x1F, 0x20, 0x21, 0x7F)],
                          ["alpha black", "alpha white", "release mosaics", "a space", "21", "7F"])
         self.assertEqual((len(ATTRIBUTES), ATTRIBUTES[0x0D]), (32, "double height"))
-
-    def test_describes_each_wrong_control_bit(self) -> None:
-        good = [8, 8, 0, 8, 0, 8, 1, 0]
-        of_bits: list[tuple[int, int, list[str]]] = [
-            (0, 8, []), (3, 0, []), (5, 0, ["C6"]), (6, 0, ["C7"]), (5, 12, ["C5"]),
-            (6, 9, ["C10"]), (5, 4, ["C6", "C5"]), (7, 8, ["the header is German"]), (6, 7, []),
-            (7, 1, []), (7, 14, ["C12, C13 and C14"])]
-        for place, value, words in of_bits:
-            header = bytes(value if at == place else item for at, item in enumerate(good))
-            result = describe_control_bits(header, "english")
-            self.assertEqual(len(result), len(words), (place, value, result))
-            self.assertTrue(all(item.startswith(word) for item, word in zip(result, words)), result)
-        self.assertEqual(describe_control_bits(bytes([*good[:7], 8]), "german"), [])
-        self.assertEqual(describe_control_bits(bytes(good), "german"),
-                         ["the header is English, but --option is german"])
 
     def test_finds_characters_of_a_subtitle_with_several_blocks(self) -> None:
         first = make_tti_block(7, 25, 50, 20, 2, b"a\xc2e\x80", 0)

@@ -119,8 +119,8 @@ class Verdicts(Case):
                            RECORDING if name == "f" else GIVEN)
                  for number, name in enumerate(names, 1)], Severity(mild if is_mild else None)),
                 **{name: value for name, value in known.items() if name != "is_mild"})
-            self.must(f"{names} {known}", (verdict.word, verdict.line, verdict.worst_line) ==
-                      (word, line, lead or line), (verdict.word, verdict.line, verdict.worst_line))
+            self.check(f"{names} {known}", (verdict.word, verdict.line, verdict.worst_line),
+                       (word, line, lead or line))
 
     def test_is_not_judged_with_a_reason_or_a_failed_output(self) -> None:
         full, broken = FailedOutput("full", "resource"), FailedOutput("broken", "bug")
@@ -157,7 +157,7 @@ class Verdicts(Case):
                                                                     None), make_part_verdict([])
         verdict.warn([notice, notice])
         verdict.warn([other, notice])
-        self.must("each", verdict.warnings == [notice, other], verdict.warnings)
+        self.check("each", verdict.warnings, [notice, other])
 
     def test_the_sentence_names_the_first_loss(self) -> None:
         verdict = make_part_verdict(self.three())
@@ -167,8 +167,7 @@ class Verdicts(Case):
             "Not accepted: between 1 and 9: 1 lost, and in 2 more places;"), verdict.sentence)
         refused = dataclasses.replace(make_part_verdict(self.three(0)), named_faults=[
             NamedFault(NEVER_SENT, "nothing was sent")])
-        self.must("a name", refused.sentence == "Refused: nothing was sent; 2 faults in all.",
-                  refused.sentence)
+        self.check("a name", refused.sentence, "Refused: nothing was sent; 2 faults in all.")
         alone = verdict.narrow_to_part(verdict.parts[1], verdict.gaps[3:4])
         self.must("of a part", (alone.parts, alone.gaps) == (verdict.parts[1:2], verdict.gaps[3:4])
                   and "and in" not in alone.sentence, alone.sentence)
@@ -250,15 +249,12 @@ class Verdicts(Case):
         counts = [tuple(item) for item in count_fault_numbers(
             verdict.parts, lambda part: part.check_output.counts_by_number)]
         verdict.named_faults.append(NamedFault(NEVER_SENT, ""))
-        self.must("each", counts == [(72, "Content", 1), (38, "UnitLength", 2), (70, "Repeat", 2)],
-                  counts)
-        self.must("in all", verdict.fault_count == 6, verdict.fault_count)
-        self.must("subtitles", verdict.subtitle_counts == SubtitleCounts(0, 0),
-                  verdict.subtitle_counts)
+        self.check("each", counts, [(72, "Content", 1), (38, "UnitLength", 2), (70, "Repeat", 2)])
+        self.check("in all", verdict.fault_count, 6)
+        self.check("subtitles", verdict.subtitle_counts, SubtitleCounts(0, 0))
         verdict.valid_subtitles, verdict.subtitle_count = \
             ValidSubtitles([], [], frozenset({4, 5})), 2
-        self.must("beside", verdict.subtitle_counts == SubtitleCounts(0, 2),
-                  verdict.subtitle_counts)
+        self.check("beside", verdict.subtitle_counts, SubtitleCounts(0, 2))
         letter = make_answer(["refused 50 Character block 1 at 4", "1 faults"])
         self.must("a file",
                   make_part_verdict([*self.three(),
@@ -269,12 +265,11 @@ class Verdicts(Case):
             ([], None), ([None], None), ([3], DelaySpread(3, 3, 3, 0)),
             ([5, 1, 3], DelaySpread(1, 3, 5, 0)), ([None, 2, None, 4], DelaySpread(2, 4, 4, 2))]
         for several, expected in of_spreads:
-            self.must(f"{several}", summarize_delays(several) == expected,
-                      summarize_delays(several))
+            self.check(f"{several}", summarize_delays(several), expected)
         delays: list[list[int | None]] = [[1, None], [], [7]]
         parts = [dataclasses.replace(part, delays=known)
                  for part, known in zip(self.three(), delays)]
-        self.must("of all parts", make_part_verdict(parts).delays == DelaySpread(1, 7, 7, 1))
+        self.check("of all parts", make_part_verdict(parts).delays, DelaySpread(1, 7, 7, 1))
 
 
 class PartDecisions(Case):
@@ -303,13 +298,13 @@ class PartDecisions(Case):
             printed = make_answer([*lines, *[f"{faults} faults"] * bool(faults)])
             packets = Packets(0, [PacketRun(0, count, 0, TICKS, "h", "")] * bool(count))
             part = make_part(0, 9, 0, printed, packets=packets, pes=pes)
-            self.must(f"{count} {pes} {lines}", part.is_read() == expected)
+            self.check(f"{count} {pes} {lines}", part.is_read(), expected)
 
         lines = [f"refused {refused}", trusted, "1 faults"]
         for first, last in ((900_000, 900_024), (900_000, 900_049)):  # 25 or 50 frames are lost
             part = make_part(900_000, 900_050, 0, make_answer(lines), pes=(0, 1), places=[
                 make_loss_between(first - 1, last + 2, missing=9)])
-            self.must(f"a hole from {first} to {last}", part.is_read() == (last < 900_049))
+            self.check(f"a hole from {first} to {last}", part.is_read(), last < 900_049)
 
     def test_counts_the_headers_of_its_own_pes_packets(self) -> None:
         runs = [PacketRun(0, 2, 0, 9, "h", "88080812"), PacketRun(2, 4, 20, 9, "h", "88080810"),
@@ -319,7 +314,7 @@ class PartDecisions(Case):
                 PacketRun(9, 1, 90, 0, "h", "8808081A")]
         part = make_part(0, 9, 0, packets=Packets(0, runs), pes=(3, 8))
         english, german = (bytes([8, 8, 0, 8, 0, 8, 1, last]) for last in (0, 8))
-        self.must("heard", part.count_headers() == {english: 4, german: 1}, part.count_headers())
+        self.check("heard", part.count_headers(), {english: 4, german: 1})
         self.check("options", part.find_option_bits(),
                    {option.bits for option in (ENGLISH, GERMAN, SWEDISH, ROMANIAN)})
 
@@ -358,9 +353,9 @@ class PartDecisions(Case):
             self.must(f"{refusal}", causes.call_args.args[2] == (
                 Span(0, 250) if refusal is None else None), causes.call_args)
             *request, lost = near.call_args.args
-            self.must(f"{is_stream}: near", request == [
-                recording.packets, part.request.page, 0, 2, (100, 199), 300, None])
-            self.must(f"{is_stream}: lost", [*lost] == [(120, 129), (150, 159)] * is_stream)
+            self.check(f"{is_stream}: near", request,
+                       [recording.packets, part.request.page, 0, 2, (100, 199), 300, None])
+            self.check(f"{is_stream}: lost", [*lost], [(120, 129), (150, 159)] * is_stream)
             causes.return_value.classify_faults.assert_called_once_with(part.check_output)
             self.must("named", part_causes is causes.return_value)
 
@@ -381,13 +376,13 @@ class PartDecisions(Case):
                 answer.read_line(line)
             answer.close_file()
             result = list(answer.skipped_packets)
-            self.must(f"{lines}", result == expected, result)
+            self.check(f"{lines}", result, expected)
 
 
 class FaultNumbers(Case):
     def test_delaying_faults_are_complete(self) -> None:
-        self.must("pages are moved",
-                  DELAYING_FAULTS == {30, 31, 32, 44, 45, 60, 62, 63, 71, 72, 74, 77})
+        self.check("pages are moved", DELAYING_FAULTS,
+                   {30, 31, 32, 44, 45, 60, 62, 63, 71, 72, 74, 77})
 
     def test_finds_the_end_of_each_fault(self) -> None:
         lines = ["refused 72 Content frame 00:00:01:00 row 1 column 1",
@@ -402,8 +397,8 @@ class FaultNumbers(Case):
         answer.close_file()
         ends = answer.fault_ends
         result = [tuple(ends.get(index, NO_END)) for index in range(5)]
-        self.must("ends", result == [("00:00:02:00", None), (None, 9), (None, None), (None, None),
-                                     ("00:00:05:00", None)], result)
+        self.check("ends", result, [("00:00:02:00", None), (None, 9), (None, None), (None, None),
+                                    ("00:00:05:00", None)])
         self.must("trusted", [*answer.trusted_frames] == [(150, 175), (225, 225)],
                   answer.trusted_frames)
         self.must("marks", [*answer.fault_spans[72]] == [(25, 50), (75, 75), (100, 125)],

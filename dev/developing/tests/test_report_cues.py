@@ -59,8 +59,7 @@ class ActualCues(Case):
             decoded = make_timeline_of_pages(*changes)
             decoded_times = add_decoded_page(Cue(subtitles[0], item, cause), 0,
                                              ExpectedPages(subtitles, [item, two]), decoded, 0)
-            self.must(name, (decoded_times.begin, decoded_times.end) == expected,
-                      (decoded_times.begin, decoded_times.end))
+            self.check(name, (decoded_times.begin, decoded_times.end), expected)
             self.must(f"{name}: late", decoded_times.delay_in == (
                 None if expected[0] is None else expected[0] - 100), decoded_times.delay_in)
 
@@ -200,7 +199,7 @@ class TextMarkup(Case):
                 ("aa", "a", ("a[a]", "a")), ("<a>", "<b>", ("&lt;[a]&gt;", "&lt;[b]&gt;"))):
             reported = tuple(markup_text(item).replace("<mark>", "[").replace("</mark>", "]")
                              for item in mark_difference(first, second))
-            self.must(f"{first} {second}", reported == expected, reported)
+            self.check(f"{first} {second}", reported, expected)
 
     def test_prints_the_first_200_wrong_rows(self) -> None:
         result: Any = SimpleNamespace(
@@ -223,17 +222,17 @@ class TextMarkup(Case):
                    [False, True, False, False, True, False, False])
 
     def test_writes_numbers_with_their_signs(self) -> None:
-        self.must("signs", [format_signed(item) for item in (None, 0, 12, -3)] ==
-                  ["", "0", "+12", "-3"])
+        self.check_rows(format_signed, {
+            "none": ((None,), ""), "zero": ((0,), "0"), "late": ((12,), "+12"),
+            "early": ((-3,), "-3")})
 
-    def test_breaks_no_option_between_lines(self) -> None:
-        for text, expected in (("give --origin or --start",
-                                "give <b>--origin</b> or <b>--start</b>"),
-                               ("--every 25 <x>", "<b>--every 25</b> &lt;x&gt;"),
-                               ("give --allow-lost", "give <b>--allow-lost</b>"),
-                               ("a - b", "a - b")):
-            self.must(text, markup_text(keep_options_together(text)) == expected,
-                      markup_text(keep_options_together(text)))
+    def test_breaks_no_line_within_an_option(self) -> None:
+        # No line is broken within <b>.
+        self.check_rows(lambda text: markup_text(keep_options_together(text)), {
+            "two options": (("give --origin or --start",), "give <b>--origin</b> or <b>--start</b>"),
+            "a hyphen in an option": (("give --allow-lost",), "give <b>--allow-lost</b>"),
+            "a value and a special character": (("--every 25 <x>",), "<b>--every 25</b> &lt;x&gt;"),
+            "a dash": (("a - b",), "a - b")})
 
     def test_gives_each_verdict_a_class_and_a_shape(self) -> None:
         words = (ACCEPTED, VALID, WAIVED, RELATIVE, REFUSED, LOST, WARNED, NOT_JUDGED)
@@ -241,9 +240,9 @@ class TextMarkup(Case):
                               (SAME, ACCEPTED), (DIFFERS, REFUSED)):
             self.check(reading, [draw_verdict(word)[0] for word in (reading, pair)],
                        [draw_verdict(pair)[0]] * 2)
-        self.must("all", set(SHAPES) == {*words, AS_SHOWN, NOT_READ, SAME})
-        self.must("classes", len({kind for kind, _ in SHAPES.values()}) == len(words))
-        self.must("shapes", len({markup_text(drawn) for _, drawn in SHAPES.values()}) == len(words))
+        self.check("all", set(SHAPES), {*words, AS_SHOWN, NOT_READ, SAME})
+        self.check("classes", len({kind for kind, _ in SHAPES.values()}), len(words))
+        self.check("shapes", len({markup_text(drawn) for _, drawn in SHAPES.values()}), len(words))
 
 
 class RefusedFiles(Case):
@@ -257,8 +256,8 @@ class RefusedFiles(Case):
             head, _, value = fields.get(number, "").rpartition(" ")
             reported = markup_text(mark_field(subtitle_file, parse_single_fault(line))).strip()
             self.must(line, reported == (f"{head} <mark>{value}</mark>" if head else ""), reported)
-        self.must("no block", markup_text(mark_field(subtitle_file,
-                                                     parse_single_fault("refused 14 Cct"))) == "")
+        self.check("no block",
+                   markup_text(mark_field(subtitle_file, parse_single_fault("refused 14 Cct"))), "")
 
     def test_marks_the_byte_or_line_that_a_fault_names(self) -> None:
         def marked(*lines: str) -> str:
@@ -270,9 +269,9 @@ class RefusedFiles(Case):
                 (("refused 52 X block 2 at 1",), "a b<br/><mark>c</mark>"),
                 (("refused 53 X block 2 at 0", "refused 50 X block 2 at 2"),
                  "<mark>a <mark>b</mark></mark><br/>c"), (("refused 21 X block 2",), "a b<br/>c")):
-            self.must(f"{lines}", marked(*lines) == words, marked(*lines))
+            self.check(f"{lines}", marked(*lines), words)
         letters = [markup_text(show_byte(byte)) for byte in (0x20, 0x3C, 0x7E, 0x7F, 0x0B)]
-        self.must("letters", letters == ["\u2423", "&lt;", "~", "<i>7F</i>", "<i>0B</i>"])
+        self.check("letters", letters, ["\u2423", "&lt;", "~", "<i>7F</i>", "<i>0B</i>"])
 
     def test_marks_the_times_that_a_fault_names(self) -> None:
         begin, end = "00:00:02:10", "00:00:02:20"
@@ -282,10 +281,10 @@ class RefusedFiles(Case):
                 ("refused 56 X block 6", (f"<mark>{begin}</mark>", end)),
                 ("refused 57 X block 6", (f"<mark>{begin}</mark>", end)),
                 ("refused 20 X block 6", (begin, end)), ("refused 50 X block 6", (begin, end))):
-            self.must(line,
-                      (*map(markup_text, mark_times(named_subtitle, [parse_single_fault(line)])),
-                       ) == expected)
+            self.check(line,
+                       (*map(markup_text, mark_times(named_subtitle, [parse_single_fault(line)])),),
+                       expected)
         wrong = named_subtitle._replace(begin="99:00:00:00")
         reported = [*map(markup_text,
                          mark_times(wrong, [parse_single_fault("refused 20 X block 6")]))]
-        self.must("no time", reported == ["<mark>99:00:00:00</mark>", end])
+        self.check("no time", reported, ["<mark>99:00:00:00</mark>", end])

@@ -95,7 +95,7 @@ class WrittenResults(Case):
                 known["properties"]["new"]["maximum"] == 3, known["properties"]["new"])
             self.must("read", find_misfit(make_result(faults=[FAULT])) == ".faults[0].new" and
                       find_misfit(result) is None)
-        self.must("no more", find_misfit(result) == ".faults[0].new")
+        self.check("no more", find_misfit(result), ".faults[0].new")
 
     def judge(self) -> dict[str, Any]:
         stl = self.write("story.stl", read_example_file("story.stl"))
@@ -131,7 +131,7 @@ class WrittenResults(Case):
                    for item in whole[name])
         for room, left in ((size, 0), (size - 1, 1)):
             with mock.patch.object(files, "MAX_BYTES", room):
-                self.must(f"{room}", self.judge()["omitted"]["subtitles"] == left)
+                self.check(f"{room}", self.judge()["omitted"]["subtitles"], left)
 
     def test_rejects_an_accepted_result_without_a_clock(self) -> None:
         self.require_validator()
@@ -245,7 +245,7 @@ class UntrustedResults(Case):
         self.must("it fits", find_misfit(known) is None and known["format"] == FORMAT)
         self.must("all lists", {item.name for item in VERDICT.members
                                 if isinstance(item.shape, ListOf)} == {item.name for item in LISTS})
-        self.must("room", files.MAX_RESULT_BYTES == 2 * files.MAX_BYTES)
+        self.check("room", files.MAX_RESULT_BYTES, 2 * files.MAX_BYTES)
         text = json.dumps({**FAULT, "cause": {"name": "late", "line": "a, b, c", "subtitle": 1}})
         values = 20_000 * 2 * sum(map(text.count, ",{[")) + 100_000 * 4
         self.must("values of full lists of faults, causes and subtitles",
@@ -272,7 +272,7 @@ class CollectedResults(Case):
             "c       not judged          why", "d       waived           3  waived: refused 5 X",
             "4 pairs: 1 accepted, 1 refused, 1 not judged, 1 waived"],
                   list(collection.format_summary(self.ROWS)))
-        self.must("one", list(collection.format_summary(self.ROWS[:1]))[-1] == "1 pair: 1 accepted")
+        self.check("one", list(collection.format_summary(self.ROWS[:1]))[-1], "1 pair: 1 accepted")
 
     def end(self, **outputs: str) -> tuple[int, str, str]:
         """Collect all rows, and return the exit status, the output and the error output."""
@@ -290,10 +290,10 @@ class CollectedResults(Case):
 
     def test_prints_the_table_unless_a_file_uses_standard_output(self) -> None:
         table = "".join(f"{line}\n" for line in collection.format_summary(self.ROWS))
-        self.must("none", self.end() == (2, table, ""), self.end())
+        self.check("none", self.end(), (2, table, ""))
         for name in ("csv", "junit", "json"):
             with mock.patch.object(collection, "write_file"):
-                self.must(f"{name} to -", self.end(**{name: "-"}) == (2, "", table))
+                self.check(f"{name} to -", self.end(**{name: "-"}), (2, "", table))
         status, out, reported = self.end(csv=self.path("no/x"), junit=self.path("no/y"))
         self.must("failed", status == 2 and
                   out == f"{table.rstrip()}; an output was not written\n" and
@@ -306,23 +306,22 @@ class CollectedResults(Case):
             b'{\n "format": %d,\n "status": 2,\n "date": "' % FORMAT))
         self.must("objects", [item["verdict"] for item in have["pairs"]] ==
                   ["accepted", "refused", "not judged", "waived"] and have["status"] == 2, have)
-        self.must("lines", len(self.read("lines").splitlines()) == 6)
-        self.must("cases", self.read("cases").count(b"<testcase") == 4)
+        self.check("lines", len(self.read("lines").splitlines()), 6)
+        self.check("cases", self.read("cases").count(b"<testcase"), 4)
 
-    def test_ignores_a_closed_output(self) -> None:
-        class Gone(io.StringIO):
-            """An output stream whose reader has gone."""
-
+    def test_a_closed_standard_output_does_not_lose_the_csv_file(self) -> None:
+        class ClosedOutput(io.StringIO):
             def write(self, text: str) -> int:
-                raise BrokenPipeError
+                raise BrokenPipeError  # the reader of the pipe has gone
 
-        words = argparse.Namespace(csv=self.path("lines"), junit=None, json=None)
-        with mock.patch.object(collection, "discard_output") as silenced, \
-                contextlib.redirect_stdout(Gone()) as out:
-            status = collection.write_collection(words, self.ROWS[:2],
-                                                 [self.path("a"), self.path("b")])
-        self.must("status", status == 1 and os.path.exists(self.path("lines")) and
-                  silenced.call_args == mock.call(out), silenced)
+        args = argparse.Namespace(csv=self.path("x.csv"), junit=None, json=None)
+        accepted_and_refused, paths = self.ROWS[:2], [self.path("a"), self.path("b")]
+        with mock.patch.object(collection, "discard_output") as discard, \
+                contextlib.redirect_stdout(ClosedOutput()) as out:
+            status = collection.write_collection(args, accepted_and_refused, paths)
+        self.check("status", status, 1)
+        self.check("the CSV file is written", os.path.exists(args.csv), True)
+        self.check("discarded", discard.call_args_list, [mock.call(out)])
 
     def test_collects_the_results_of_a_folder(self) -> None:
         words = argparse.Namespace(csv=None, junit=None, json=None, collect=self.path("in"))
@@ -347,9 +346,9 @@ class CollectedResults(Case):
             collection.refuse_output_names(argparse.Namespace(
                 json=None, csv=self.path("in"), junit=None))
         self.write("in/two.json", json.dumps(make_result()).encode())
-        self.must("refused", collect()[0] == 1)
+        self.check("refused", collect()[0], 1)
         self.write("in/three.json", b"{")
-        self.must("not judged", collect()[0] == 2)
+        self.check("not judged", collect()[0], 2)
         self.must("index", b"three" in self.read("in/index.html"))
 
     def test_lists_a_deleted_result_as_not_judged(self) -> None:
@@ -361,7 +360,7 @@ class CollectedResults(Case):
             self.must("gone", have["verdict"] == "not judged" and have["name"] == "gone", have)
         known = make_result(faults=[FAULT])
         self.write("gone.json", b'{"status": 0, ' + json.dumps(known, indent=3).encode()[1:])
-        self.must("as it was read", collection.load_result(path) == known)
+        self.check("as it was read", collection.load_result(path), known)
         lines = make_table_lines(map(collection.load_for_csv, [path, path]))
         self.check("lines", len(b"".join(lines).splitlines()), 5)
         known["omitted"]["faults"] = 7
