@@ -30,8 +30,7 @@ from .bench import Case
 from .judged import JudgedPair, ProgrammeCase, judge_files
 from .stories import read_table
 from .transmissions import (
-    CLOSING, HEADER, SentPes, join_pes_packets, delay_subtitle, write_programme, make_numbered_row,
-    schedule_pages)
+    CLOSING, HEADER, join_pes_packets, delay_subtitle, write_programme, schedule_pages)
 from .test_formats_characters import ANY_SUBCODE, CHARACTER, LEVEL_1, Receiver, TEXT_OFFSET
 from .test_judging_faults import cause, make_causes
 
@@ -163,36 +162,6 @@ class Sentences(unittest.TestCase):
 
 BEGIN = 900_000
 TIMES = [(BEGIN + 50 * at, BEGIN + 50 * at + 40) for at in range(6)]
-KEEPING_HEADER = make_packet(0, 0, [8, 8, 0, 0, 0, 8, 1, 0], b" " * 32)  # header without erase_page
-
-
-def insert_two_faults(sent: SentPes) -> SentPes:
-    """Replace a header with a header that does not erase the page, and send a wrong text later."""
-    result = list(sent)
-    result[1:2] = [(result[1][0], [KEEPING_HEADER, *result[1][1][1:]])]
-    at = next(number for number, (_, some) in enumerate(sent) if b"3" in get_first_row(some))
-    result[at] = (result[at][0], [HEADER, make_numbered_row(22, b"Wrong"), CLOSING])
-    return result
-
-
-def get_first_row(packets: list[bytes]) -> bytes:
-    return b"".join(bytes(byte & 0x7F for byte in packet[2:]) for packet in packets[1:2])
-
-
-class LeadingFaults(ProgrammeCase):
-    due = TIMES
-
-    def test_the_result_of_a_pair_leads_with_the_visible_fault(self) -> None:
-        reported = self.judge(insert_two_faults(self.sent), "-o", self.path("out"))
-        lead = reported.result["worst_fault"]
-        self.must("lead", reported.result["line"].startswith("refused 67 ") and
-                  lead.startswith("refused 72 ")
-                  and "has the wrong text" in reported.result["sentence"]
-                  and "; also 67 Control. " in reported.result["sentence"], reported.result)
-        page = self.read("out/one.html").decode()
-        self.check("the report's rows", re.findall(r'<tr><td>(Subtitle|67) ', page), [
-            "Subtitle", "67"])
-
 
 # The frames of the received PES packets, by how much all subtitles are late, the fault and the
 # option of the hint, and part of the sentence.
