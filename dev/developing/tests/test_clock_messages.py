@@ -40,7 +40,15 @@ class OriginLines(unittest.TestCase):
         sent = SimpleNamespace(cues=[None] * cues, within=more.get("within", 0),
                                find_cue_offset=lambda _: more.get("apart"))
         return SimpleNamespace(best=fit, others=more.get("others", []), time_base=sent,
-                               early=more.get("early"))
+                               early=more.get("early"), origin=9, begin=0, end=50, base=0,
+                               overlapping=[])
+
+    def store(self, parts: Sequence[Any], bases: Sequence[Any] = (), **asked: Any
+              ) -> OriginEstimate:
+        """Return the estimate with these parts; `asked` contains the options of the search."""
+        estimate = OriginEstimate()
+        store_parts(estimate, OriginSearch("a", "b", **asked), bases, parts)
+        return estimate
 
     def other(self, origin: int, matches: int) -> Any:
         return SimpleNamespace(origin=origin, matches=matches, start=900, text_matches=1,
@@ -104,24 +112,16 @@ class OriginLines(unittest.TestCase):
                 "whole frames apart are refused with fault 61"], off)
 
     def test_needs_one_part_more_than_breaks(self) -> None:
-        for count, printed in itertools.product(range(5), (1, 2, 3)):
+        for count, breaks in itertools.product(range(5), (1, 2, 3)):
             parts = [self.part(20, 20, 20) for _ in range(count)]
-            for item in parts:
-                item.begin, item.end, item.base, item.overlapping, item.origin = 0, 50, 0, [], 9
-            origin_estimate, breaks = OriginEstimate(), max(count - 1, 0)
-            store_parts(origin_estimate, OriginSearch("a", "b", breaks=printed), [], parts)
-            words = {0: "no break", 1: "1 break"}.get(breaks, f"{breaks} breaks")
-            if count == printed + 1:
-                self.assertEqual((origin_estimate.status, len(origin_estimate.parts),
-                                  origin_estimate.breaks), (0, count, None),
-                                 (count, printed))
-            else:
-                self.assertEqual((origin_estimate.status, origin_estimate.parts,
-                                  origin_estimate.breaks), (1, [], breaks),
-                                 (count, printed))
-                self.assertEqual(origin_estimate.lines,
-                                 [f"{words} found, but --breaks is {printed}",
-                                  *format_breaks(parts)], (count, printed))
+            estimate, found = self.store(parts, breaks=breaks), max(count - 1, 0)
+            is_right = count == breaks + 1
+            words = {0: "no break", 1: "1 break"}.get(found, f"{found} breaks")
+            with self.subTest(parts=count, breaks=breaks):
+                self.assertEqual((estimate.status, len(estimate.parts), estimate.breaks),
+                                 (0, count, None) if is_right else (1, 0, found))
+                self.assertTrue(is_right or estimate.lines == [
+                    f"{words} found, but --breaks is {breaks}", *format_breaks(parts)], estimate)
 
     def test_describes_each_part(self) -> None:
         overlapping = [SimpleNamespace(begin=25 * at, end=25 * at + 50) for at in range(3)]
@@ -129,11 +129,9 @@ class OriginLines(unittest.TestCase):
             parts = [self.part(cues - 1, cues, cues - 1, cues) for cues in (20, 12, 6)]
             for number, item in enumerate(parts):
                 item.begin, item.end, item.origin = 1000 * number, 1000 * number + 500, 9 + number
-                item.base, item.time_base.packets = 0, (number, 7)
-                item.overlapping = overlapping[2 * number:][:2]
-            origin_estimate, bases = OriginEstimate(), [item.time_base for item in parts][:count]
-            store_parts(origin_estimate, OriginSearch("a", "b", origin=origin, breaks=2),
-                        bases, parts)
+                item.time_base.packets, item.overlapping = (number, 7), overlapping[2 * number:][:2]
+            bases = [item.time_base for item in parts][:count]
+            origin_estimate = self.store(parts, bases, origin=origin, breaks=2)
             pes = [f"--pes {at}-7 " * (count > 1) for at in range(3)]
             self.assertEqual((origin_estimate.status, origin_estimate.ticks_late,
                               origin_estimate.printed), (
@@ -158,17 +156,14 @@ class OriginLines(unittest.TestCase):
 
     def test_is_unclear_if_many_cues_of_a_part_are_early(self) -> None:
         many, few = EarlyCues(9, 20, 1), EarlyCues(1, 30, 1)
+        # The early cues of both parts, the given origin of the first part, and the status
         for early, origin, status in (((None, None), None, 0), ((many, None), None, 1),
                                       ((many, None), 9, 0), ((None, many), None, 1),
                                       ((None, many), 9, 1), ((many, few), 9, 0)):
             parts = [self.part(20, 20, 20, early=item) for item in early]
-            for item in parts:
-                item.begin, item.end, item.base, item.overlapping, item.origin = 0, 50, 0, [], 9
-            origin_estimate = OriginEstimate()
-            store_parts(origin_estimate, OriginSearch("a", "b", origin=origin, breaks=1),
-                        [parts[0].time_base], parts)
-            self.assertEqual((origin_estimate.status, len(origin_estimate.parts)),
-                             (status, 2 - 2 * status), early)
+            estimate = self.store(parts, [parts[0].time_base], origin=origin, breaks=1)
+            self.assertEqual((estimate.status, len(estimate.parts)), (status, 2 - 2 * status),
+                             early)
 
     def test_compares_an_origin_with_a_given_one(self) -> None:
         rows: list[tuple[int | None, int, str]] = [

@@ -397,10 +397,8 @@ class Profiles(Case):
             status = measure(known, "tools/qc")
         self.check("a right call", (status, out.getvalue()[:5]), (0, "# qc "))
 
-    def test_never_proposes_an_implausible_layout(self) -> None:
+    def test_says_why_it_does_not_propose_a_layout(self) -> None:
         for text, words in (
-                ("before=0B0B08", "all would flash"),
-                ("row=3", "no site moves all by more than 2 rows"),
                 ("strip=03", "it removes something that viewers see"),
                 ("after=0A", "10 subtitles have to show it, 9 in 10 of them as they were sent")):
             self.assertEqual(explain_omission(text), words, text)

@@ -9,6 +9,7 @@ from subtitles.common.times import TICKS
 from subtitles.judging.desync import find_desync
 from subtitles.judging.status import (
     ACCEPTED, CheckSummary, Grounds, NOT_JUDGED, REFUSED, Severity, decide)
+from subtitles.judging.unchecked import Unchecked
 from subtitles.stream.survey import Survey
 from .bench import Case
 
@@ -24,16 +25,22 @@ def make_leads(begin: int, end: int, ahead: float = 6, each: float = 0, video: i
 
 
 class Pictures(Case):
-    def find_kinds(self, lines: Sequence[str], streams: str = f"{VIDEO}:27",
-                   sent: Sequence[int] = SENT, clock: int = 300) -> list[str]:
-        """Return the kinds of what was not checked, in a programme with these streams."""
+    def find_unchecked(self, lines: Sequence[str], streams: str = f"{VIDEO}:27",
+                       sent: Sequence[int] = SENT, pcr_pid: int = VIDEO, source: str = GIVEN
+                       ) -> list[Unchecked]:
+        """Return what was not checked in a programme with these streams (PID:stream_type)."""
         survey = Survey()
-        for line in ["size 188", f"programme 1 {clock}", f"stream {PID} 6", *(
+        for line in ["size 188", f"programme 1 {pcr_pid}", f"stream {PID} 6", *(
                 f"stream {pid} {kind}" for pid, _, kind in (
                     item.partition(":") for item in streams.split())), *lines]:
             survey.read_line(line)
-        part = TimedPart(1000, 4000, Clock(0, GIVEN))
-        return [item.kind for item in find_desync(survey, PID, part, 0, 1, sent).unchecked]
+        part = TimedPart(1000, 4000, Clock(0, source))
+        return [*find_desync(survey, PID, part, 0, 1, sent).unchecked]
+
+    def find_kinds(self, lines: Sequence[str], streams: str = f"{VIDEO}:27",
+                   sent: Sequence[int] = SENT) -> list[str]:
+        """Return the kinds of what was not checked. No video has the PCR."""
+        return [item.kind for item in self.find_unchecked(lines, streams, sent, pcr_pid=300)]
 
     def test_says_where_no_picture_was_compared(self) -> None:
         whole, both = make_leads(500, 4500), f"{VIDEO}:27 {OTHER}:36"
@@ -71,25 +78,21 @@ class Pictures(Case):
         self.check("stills", self.find_kinds(whole[::10]), [])
 
     def test_does_not_judge_large_changes(self) -> None:
-        for change, doubts in ((0, 0), (1, 0), (24, 0), (26, 1), (50, 1), (-50, 1)):
-            survey = Survey()
-            for line in [f"programme 1 {VIDEO}", f"stream {PID} 6", f"stream {VIDEO} 27",
-                         *make_leads(500, 2500), *make_leads(2500, 4500, 6 + change, number=-60)]:
-                survey.read_line(line)
-            unchecked = find_desync(survey, PID, TimedPart(1000, 4000, Clock(0, GIVEN)), 0, 1,
-                                    SENT).unchecked
-            self.check(f"{change}", sum(item.may_be_wrong for item in unchecked), doubts)
+        # The arguments are the frames by which the lead changes, a second being 25 frames.
+        self.check_rows(lambda change: sum(item.may_be_wrong for item in self.find_unchecked([
+            *make_leads(500, 2500), *make_leads(2500, 4500, 6 + change, number=-60)])), {
+            "none": ((0,), 0), "a frame": ((1,), 0), "less than a second": ((24,), 0),
+            "more than a second": ((26,), 1), "two seconds": ((50,), 1),
+            "two seconds less": ((-50,), 1)})
 
     def test_does_not_judge_with_a_doubtful_first_picture(self) -> None:
-        for clock, at, expected in ((START, 900, 1), (START, 1020, 1), (START, 1100, 0),
-                                    (TCP, 900, 1), (GIVEN, 1020, 0), (RECORDING, 1020, 0)):
-            survey = Survey()
-            for line in [f"programme 1 {VIDEO}", f"stream {PID} 6", f"stream {VIDEO} 27",
-                         *make_leads(500, at), *make_leads(at, 4500, 5, number=-2)]:
-                survey.read_line(line)
-            unchecked = find_desync(survey, PID, TimedPart(1000, 4000, Clock(0, clock)), 0, 1,
-                                    SENT).unchecked
-            self.check(f"{clock} {at}", (len(unchecked), [
+        # The source of the clock, the frame in which the lead changes, and how many entries say
+        # that the clock may be wrong. The part begins with frame 1000.
+        for source, frame, expected in ((START, 900, 1), (START, 1020, 1), (START, 1100, 0),
+                                        (TCP, 900, 1), (GIVEN, 1020, 0), (RECORDING, 1020, 0)):
+            unchecked = self.find_unchecked(
+                [*make_leads(500, frame), *make_leads(frame, 4500, 5, number=-2)], source=source)
+            self.check(f"{source} {frame}", (len(unchecked), [
                 item.text.endswith(", so the clock of --start may be wrong")
                 for item in unchecked if item.may_be_wrong]), (1, [True] * expected))
 
