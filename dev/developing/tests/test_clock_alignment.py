@@ -39,21 +39,6 @@ class Edges(Case):
                        frames)
 
 
-class BeginsAndEnds(Case):
-    def test_finds_a_delay_of_nine_in_ten_begins_or_ends(self) -> None:
-        several = [ExpectedSubtitle(100 * at, 100 * at + 50, at, b"%d" % at) for at in range(10)]
-        cues = find_expected_cues(several)
-        for is_begin in (True, False):
-            for others, is_told in ((0, True), (1, True), (2, False)):
-                late = [item for item in cues if item.is_begin == is_begin][others:]
-                changes = [PageChange(TICKS * (cue.frame + 7 * (cue in late)), cue.letters, at,
-                                      ((20, cue.letters),)) for at, cue in enumerate(cues)]
-                base = TimeBase(cues, changes, 0, 1000 * TICKS, (0, 19), 0)
-                cue_offset = base.find_cue_offset(base.compare(0))
-                self.must(f"{is_begin} {others}", (cue_offset and cue_offset[:3]) == (
-                    (is_begin, 7, 10 - others) if is_told else None), cue_offset)
-
-
 class RepeatedPages(Case):
     def test_ignores_a_page_that_is_erased_and_sent_again(self) -> None:
         for origin in (0, CLOCK - TICKS, CLOCK - 2 * TICKS, CLOCK - 5 * TICKS, CLOCK - 100 * TICKS):

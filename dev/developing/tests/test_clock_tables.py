@@ -16,6 +16,7 @@ from subtitles.clock.stretches import (
 from subtitles.common.command_line import Lateness
 from subtitles.common.times import CLOCK, EARLY_TICKS, TICKS
 from subtitles.stream.packets import PacketRun, Packets, PageChange
+from .bench import Case
 
 EACH = 5000  # frames between the starts of two airings of the programme
 SHIFTS = (0, CLOCK - 2 * TICKS - 7)  # first PTS: without a wrap, and shortly before a wrap
@@ -116,7 +117,7 @@ class TimeBases(unittest.TestCase):
                          [((5, 5 + 8 * TICKS), (0, 8), 8)])
 
 
-class Fits(unittest.TestCase):
+class Fits(Case):
     cues = find_expected_cues([ExpectedSubtitle(10, 20, 1, b"a"), ExpectedSubtitle(30, 45, 2, b"b"),
                                ExpectedSubtitle(50, 60, 3, b"c")])
     SENT = [(0, b"a"), (10, b""), (20, b"b"), (35, b""), (40, b"c"), (50, b"")]
@@ -180,41 +181,53 @@ class Fits(unittest.TestCase):
         self.assertEqual((make_time_base(self.cues, []).fits, make_time_base([], self.SENT).fits),
                          ([], []))
 
-    def test_finds_the_smaller_delay_between_begins_and_ends(self) -> None:
-        two = [(frame + by, text) for (frame, text), by in zip(self.SENT, (0, 2, 0, 2, 0, 2))]
-        item = [(0, b"x"), (10, b"")]
-        rows: list[tuple[list[tuple[int, bytes]], int, CueOffset | None]] = [
-            (self.SENT, 0, None), (two, 0, CueOffset(False, 2, 3, 3)),
-            (two, 1, CueOffset(False, 2, 3, 3)), (two, 2, None), ([*two[:5], (50, b"")], 0, None),
-            ([*two[:1], (12, b""), *two[2:3], (37, b""), two[4], (56, b"")], 0, None),
-            ([*self.SENT[:1], (MAX_CUE_OFFSET + 10, b"")], 0, None), (item[1:], 0, None)]
-        for some, within, expected in rows:
-            base = make_time_base(self.cues, [(TICKS * frame, text) for frame, text in some], 60,
-                                  within)
-            self.assertEqual(base.find_cue_offset(base.compare(10)), expected, (some, within))
-        half = [(0, b"a"), (10, b""), (12, b""), (20, b"b"), (37, b"")]  # out-cues on time and late
-        base = make_time_base(self.cues[:4], [(TICKS * frame, text) for frame, text in half])
-        self.assertIsNone(base.find_cue_offset(base.compare(10)))
+    def find_offset(self, sent: Sequence[tuple[int, bytes]], within: int = 0,
+                    cues: Sequence[ExpectedCue] = cues, start: int = 10) -> CueOffset | None:
+        """Return the difference between the delays of in-cues and out-cues, if it is constant."""
+        base = make_time_base(cues, [(TICKS * frame, text) for frame, text in sent], 1000, within)
+        return base.find_cue_offset(base.compare(start))
+
+    def test_finds_the_constant_difference_between_in_cues_and_out_cues(self) -> None:
+        late = [(frame + 2 * (not text), text) for frame, text in self.SENT]
+        first, two, most = (0, b"a"), self.cues[:2], MAX_CUE_OFFSET
+        twice_erased = [first, (10, b""), (12, b""), (20, b"b"), (37, b"")]
+        self.check_rows(self.find_offset, {
+            "no delay": ((self.SENT,), None),
+            "late out-cues": ((late,), CueOffset(False, 2, 3, 3)),
+            "later than the tolerance": ((late, 1), CueOffset(False, 2, 3, 3)),
+            "within the tolerance": ((late, 2), None),
+            "one of three is on time": (([*late[:5], (50, b"")],), None),
+            "three delays": (([first, (12, b""), late[2], (37, b""), late[4], (56, b"")],), None),
+            "an out-cue on time and late": ((twice_erased, 0, self.cues[:4]), None),
+            "only an erasure": (([(10, b"")],), None), "a late one": (([(13, b"")], 0, two), None),
+            "one out-cue": (([first, (10 + most, b"")], 0, two), CueOffset(False, most, 1, 1)),
+            "later than the maximum": (([first, (11 + most, b"")], 0, two), None)})
+
+    def test_nine_in_ten_cues_have_to_have_the_same_delay(self) -> None:
+        cues = find_expected_cues([ExpectedSubtitle(100 * at, 100 * at + 50, at, b"%d" % at)
+                                   for at in range(10)])
+        for is_begin, on_time in itertools.product((True, False), (0, 1, 2)):
+            late = [cue for cue in cues if cue.is_begin == is_begin][on_time:]
+            sent = [(cue.frame + 7 * (cue in late), cue.letters) for cue in cues]
+            self.check(f"in-cues {is_begin}, {on_time} on time", self.find_offset(sent, 0, cues, 0),
+                       None if on_time == 2 else CueOffset(is_begin, 7, 10 - on_time, 10))
+
+    def test_counts_cues_with_a_delay(self) -> None:
         base = make_time_base(self.cues, [(TICKS * frame, text) for frame, text in self.SENT], 49)
         for is_begin, late, matches, of in (
                 (True, 0, 3, 3), (False, 0, 2, 2), (True, 10, 0, 2), (True, -1, 0, 2),
                 (False, -1, 0, 3), (True, 9, 0, 3), (False, -36, 0, 1), (True, 20, 0, 2)):
-            self.assertEqual(base.count_delayed(base.compare(10), is_begin, late),
-                             CueOffset(is_begin, late, matches, of), (is_begin, late, matches))
-        for at, is_told in ((MAX_CUE_OFFSET, True), (MAX_CUE_OFFSET + 1, False)):
-            base = make_time_base(self.cues[:2], [(0, b"a"), (TICKS * (10 + at), b"")])
-            cue_offset = base.find_cue_offset(base.compare(10))
-            self.assertEqual(cue_offset, CueOffset(False, at, 1, 1) if is_told else None,
-                             (at, is_told))
-        base = make_time_base(self.cues[:2], [(TICKS * 13, b"")])
-        self.assertIsNone(base.find_cue_offset(base.compare(10)))
-        # If only out-cues are on time, the in-cues determine the origin.
+            self.check(f"in-cues {is_begin}, {late} late", base.count_delayed(
+                base.compare(10), is_begin, late), CueOffset(is_begin, late, matches, of))
+
+    def test_in_cues_determine_the_origin_if_only_out_cues_are_on_time(self) -> None:
         for by in (-3, 3):
-            some = [(frame + 9 + by * bool(text), text) for frame, text in self.SENT]
-            base = make_time_base(self.cues, [(TICKS * frame, text) for frame, text in some], 70)
-            self.assertEqual(base.find_cue_offset(base.compare(1)), CueOffset(True, by, 3, 3), by)
-            self.assertEqual(base.align_to_in_cues(base.compare(1)).start, 1 - by, by)
-            self.assertEqual(base.align_to_in_cues(base.compare(1 - by)).start, 1 - by, by)
+            sent = [(frame + 9 + by * bool(text), text) for frame, text in self.SENT]
+            base = make_time_base(self.cues, [(TICKS * frame, text) for frame, text in sent], 70)
+            self.check(f"{by}", self.find_offset(sent, start=1), CueOffset(True, by, 3, 3))
+            for start in (1, 1 - by):
+                self.check(f"{by}: start from {start}",
+                           base.align_to_in_cues(base.compare(start)).start, 1 - by)
 
     def test_samples_the_votes_of_many_changes(self) -> None:
         sent = [(TICKS * at, b"x") for at in range(0, 80, 2)] + [
