@@ -1,20 +1,31 @@
-"""Test how a report draws Teletext pages."""
+"""Test how a report draws Teletext pages, and what it lists about a verdict."""
 from __future__ import annotations
 
+import collections
+import dataclasses
 import itertools
 import re
 import unittest
 from types import SimpleNamespace
 from typing import Any
+from unittest import mock
 
+from subtitles.common.markup import escape
+from subtitles.formats.listing import NamedFault
 from subtitles.formats.teletext import ENGLISH
+from subtitles.judging.part import Part
+from subtitles.judging.verdict import Gap
+from subtitles.report.page import PartView, list_waived, make_verdict_box
 from subtitles.report.pictures import (
     CellStyle, BLANK_PAGE_ROWS, find_differences, draw_row, draw_outlines, is_boxed, draw_picture,
     find_used_rows, style_row)
 from subtitles.report.timeline import Lanes
+from subtitles.stream.gaps import LossPlace
 from subtitles.stream.receiver import BLANK_PAGE, HIT, OLD, Rows
 from .bench import Case, get_example_path
-from .parts import markup_text
+from .parts import make_answer, make_part, markup_text
+from .test_judging_status import make_severity
+from .test_judging_verdicts import make_part_verdict
 
 
 SUBTITLE_HEADER, PLAIN_HEADER = bytes([8, 8, 0, 8, 0, 8, 1, 0]), bytes([8, 8, 0, 8, 0, 0, 1, 0])
@@ -167,3 +178,39 @@ class WrongTable(Case):
         box, _, rest = page.partition("</div></div>")
         self.check("the last line", ["refused 67 " in text for text in (box, rest)],
                    [False, True])
+
+
+class VerdictLists(Case):
+    # Two faults with number 68 and one with number 67, as `check` prints them
+    PRINTED = ("refused 68 Parity frame 00:00:03:10 packet 1",
+               "refused 67 Control frame 00:00:03:12 packet 0",
+               "refused 68 Parity frame 00:00:03:15 packet 1", "3 faults")
+
+    def make_refused_part(self, number: int) -> Part:
+        part = make_part(75, 99, 0, make_answer(self.PRINTED, path=self.path(f"{number}")), number)
+        part.names.program_stl = get_example_path("story.stl")
+        return part
+
+    def test_the_box_lists_losses_and_faults_without_a_number(self) -> None:
+        gaps = [Gap("00:00:01:00", None, f"{at} packets", LossPlace(1, 2, at), is_judged=at != 2)
+                for at in (1, 2, 3)]
+        faults = [NamedFault("not shown", f"row {at}", block=at) for at in (1, 2)]
+        verdict = dataclasses.replace(make_part_verdict([make_part(0, 9, 0)]), gaps=gaps,
+                                      named_faults=faults)
+        box = markup_text(make_verdict_box(verdict))
+        for line, is_listed in (*((gap.format_line(), gap.is_judged) for gap in gaps),
+                                *((f"{fault.line}: {fault.text}", True) for fault in faults)):
+            self.check(line, escape(line) in box, is_listed)
+
+    def test_counts_the_waived_faults_of_all_parts(self) -> None:
+        verdict = make_part_verdict([self.make_refused_part(at) for at in (1, 2)],
+                                    make_severity("68 warning"))
+        self.check("waived", [*list_waived(verdict)], ["68 Parity (4)"])
+
+    def test_marks_the_waived_faults_of_a_number(self) -> None:
+        part = self.make_refused_part(1)
+        view = PartView(make_part_verdict([part]), part)
+        for count, words in ((0, ""), (1, " (1 waived)"), (2, " (waived)")):
+            with mock.patch.object(Part, "waived_counts", collections.Counter({68: count})):
+                table = markup_text(view.make_fault_table())
+            self.must(f"{count} of 2", f">68 Parity{words}</th>" in table, table)
