@@ -1,8 +1,6 @@
 """Test the reported reasons for a verdict, and headers that do not erase the page."""
 from __future__ import annotations
 
-from typing import Sequence
-
 from developing.pes import decode_address, decode_header, make_packet, make_pes_packet
 from subtitles.clock.origin import explain_mismatch
 from subtitles.common.times import Span, TICKS, format_frame
@@ -23,6 +21,7 @@ from subtitles.stream.packets import (
 from subtitles.stream.receiver import BLANK_PAGE, INITIAL_STATE, Rows, SpanIndex, Timeline
 from .bench import Case
 from .judged import JudgedPair, ProgrammeCase, judge_files
+from .stories import read_table
 from .streams import OLD, TELETEXT_PID, make_stream_with_video, make_planned_stream
 from .parts import make_answer, make_example_request, decode_packets
 from .transmissions import (
@@ -319,65 +318,67 @@ class HeaderCounts(Case):
             "three, fewer than none came": (([18, 20, 22], 20, -1), "rows 18, 20 and 22")})
 
 
-def make_packets_at(frames: Sequence[tuple[int, list[bytes]]]) -> bytes:
-    return b"".join(make_pes_packet(TICKS * frame, packets) for frame, packets in frames)
-
-
-COMPLETE_PAGE, REPEATED_PAGE = [HEADER, FIRST_ROW, SECOND_ROW, CLOSING], [KEEPING_HEADER, FIRST_ROW,
-                                                                          SECOND_ROW, CLOSING]
+COMPLETE_PAGE = [HEADER, FIRST_ROW, SECOND_ROW, CLOSING]
 ONE_ROW_LESS, WITHOUT_ROWS = [KEEPING_HEADER, FIRST_ROW, CLOSING], [KEEPING_HEADER, CLOSING]
-
-
-def make_frame_text(frame: int) -> str:
-    return f"frame {format_frame(frame)}"
+# Names of packets in the tables below. All but the complete page keep what was sent before.
+PACKETS = {"complete": COMPLETE_PAGE, "repeat": [KEEPING_HEADER, FIRST_ROW, SECOND_ROW, CLOSING],
+           "one row": ONE_ROW_LESS, "no rows": WITHOUT_ROWS, "header": [KEEPING_HEADER],
+           "row": [FIRST_ROW]}
+# What is sent, with its first frame; the frame in which row 22 is wrong; the frame of a fault 69
+# (a row was changed); and the missing rows.
+OMITTED_ROWS = """
+sent                                            | within | wrong | changed | missing
+0 complete, 25 repeat                           | 0      | 24    |         |
+0 complete, 25 repeat, 50 one row               | 0      | 50    |         | row 22
+0 complete, 25 repeat, 50 one row               | 0      | 60    |         | row 22
+0 complete, 25 repeat, 50 one row, 75 no rows   | 0      | 75    |         | rows 20 and 22
+0 complete, 25 repeat, 50 one row, 75 no rows   | 0      | 99    |         | rows 20 and 22
+0 complete, 75 no rows, 100 complete            | 0      | 100   |         |
+0 complete, 20 complete, 25 one row, 50 one row | 0      | 25    | 0       | row 22
+0 complete, 20 complete, 25 one row, 50 one row | 0      | 25    | 19      | row 22
+0 complete, 20 complete, 25 one row, 50 one row | 0      | 25    | 20      |
+0 complete, 20 complete, 25 one row, 50 one row | 0      | 25    | 25      |
+0 complete, 20 complete, 25 one row, 50 one row | 0      | 25    | 26      | row 22
+0 repeat, 25 one row                            | 0      | 25    | 0       |
+0 complete, 25 header, 26 row, 50 complete      | 2      | 27    |         | row 22
+0 complete, 25 header, 26 row, 50 complete      | 0      | 25    |         | rows 20 and 22
+"""
 
 
 class MissingRows(Case):
     def decode(self, *frames: tuple[int, list[bytes]], within: int = 0) -> tuple[Timeline, Rows]:
-        packets = decode_packets(self, make_packets_at(frames), within=within)
-        return packets, packets.get_page_at(frames[0][0])
+        """Return the decoded pages, and the page of the first frame."""
+        timeline = decode_packets(self, b"".join(make_pes_packet(TICKS * frame, packets)
+                                                 for frame, packets in frames), within=within)
+        return timeline, timeline.get_page_at(frames[0][0])
 
-    def make_row_fault(self, frame: int, *before: str) -> CheckOutput:
-        """Return output of `check --all` with a fault in row 22 at a frame."""
-        lines = [*before, f"refused 72 Content {make_frame_text(frame)} row 22 column 0"]
+    def make_row_fault(self, frame: int, changed: str = "") -> CheckOutput:
+        """Return output of `check --all` with a fault in row 22, and perhaps a changed row."""
+        lines = [f"refused 69 RowChanged frame {format_frame(int(changed))} packet 1"] \
+            if changed else []
+        lines.append(f"refused 72 Content frame {format_frame(frame)} row 22 column 0")
         return make_answer([*lines, f"{len(lines)} faults"], path=self.path("told"))
 
-    def test_finds_the_rows_missing_at_a_frame(self) -> None:
-        decoded, due = self.decode((0, COMPLETE_PAGE), (25, REPEATED_PAGE), (50, ONE_ROW_LESS),
-                                   (75, WITHOUT_ROWS), (100, COMPLETE_PAGE))
-        for frame, expected in (
-                (0, ""), (24, ""), (50, "row 22"), (60, "row 22"), (75, "rows 20 and 22"),
-                (99, "rows 20 and 22"), (100, "")):
-            omitted_rows = name_omitted_rows(decoded, due, frame, self.make_row_fault(frame))
-            self.check(f"{frame}", omitted_rows, expected)
-        self.check("the row",
-                   [self.make_row_fault(frame).find_fault_row(9) for frame in (0, 9, 10)],
+    def test_names_the_rows_that_a_header_does_not_repeat(self) -> None:
+        for row in read_table(OMITTED_ROWS):
+            sent = [(int(frame), PACKETS[name]) for frame, _, name in (
+                item.partition(" ") for item in row["sent"].split(", "))]
+            timeline, due = self.decode(*sent, within=int(row["within"]))
+            output = self.make_row_fault(int(row["wrong"]), row["changed"])
+            self.check(f"{row}", name_omitted_rows(timeline, due, int(row["wrong"]), output),
+                       row["missing"])
+
+    def test_names_no_row_if_the_page_is_not_expected_or_has_no_header(self) -> None:
+        timeline, due = self.decode((0, COMPLETE_PAGE), (50, ONE_ROW_LESS))
+        closed, _ = self.decode((5, [CLOSING]))
+        self.check_rows(lambda *args: name_omitted_rows(*args, None), {
+            "the expected page, no fault line": ((timeline, due, 50), "a row"),
+            "another page": ((timeline, BLANK_PAGE, 50), ""),
+            "no header": ((closed, BLANK_PAGE, 5), "")})
+
+    def test_finds_the_row_of_a_fault_in_or_before_a_frame(self) -> None:
+        self.check("rows", [self.make_row_fault(frame).find_fault_row(9) for frame in (0, 9, 10)],
                    [22, 22, None])
-        self.check("nothing told", name_omitted_rows(decoded, due, 50, None), "a row")
-        self.check("another page is due", name_omitted_rows(decoded, BLANK_PAGE, 50, None), "")
-        nothing = decode_packets(self, make_packets_at([(5, [CLOSING])]))
-        self.check("no header", name_omitted_rows(nothing, BLANK_PAGE, 5, None), "")
-
-    def test_a_changed_row_is_not_missing(self) -> None:
-        decoded, due = self.decode((0, COMPLETE_PAGE), (20, COMPLETE_PAGE), (25, ONE_ROW_LESS),
-                                   (50, ONE_ROW_LESS))
-        for frame, expected in ((0, "row 22"), (19, "row 22"), (20, ""), (25, ""), (26, "row 22")):
-            reported = self.make_row_fault(
-                25, f"refused 69 RowChanged {make_frame_text(frame)} packet 1")
-            omitted_rows = name_omitted_rows(decoded, due, 25, reported)
-            self.check(f"{frame}", omitted_rows, expected)
-        decoded, due = self.decode((0, REPEATED_PAGE), (25, ONE_ROW_LESS))
-        reported = self.make_row_fault(25, f"refused 69 RowChanged {make_frame_text(0)} packet 1")
-        self.check("none erases", name_omitted_rows(decoded, due, 25, reported), "")
-
-    def test_counts_rows_up_to_the_tolerance(self) -> None:
-        frames = (0, COMPLETE_PAGE), (25, [KEEPING_HEADER]), (26, [FIRST_ROW]), (50, COMPLETE_PAGE)
-        decoded, due = self.decode(*frames, within=2)
-        self.check("both frames", name_omitted_rows(decoded, due, 27, self.make_row_fault(27)),
-                   "row 22")
-        decoded, due = self.decode(*frames)
-        self.check("one frame", name_omitted_rows(decoded, due, 25, self.make_row_fault(25)),
-                   "rows 20 and 22")
 
     def test_finds_rows_missing_after_a_keeping_header(self) -> None:
         decoded, due = self.decode((0, COMPLETE_PAGE), (25, WITHOUT_ROWS), (50, ONE_ROW_LESS))
