@@ -9,7 +9,7 @@ from types import SimpleNamespace
 from typing import Any
 
 from developing.pes import make_packet
-from subtitles.common.times import CLOCK, TICKS, format_frame
+from subtitles.common.times import CLOCK, TICKS
 from subtitles.formats.layout import PLAIN, TextFault, make_cell_lines, prepare_line
 from subtitles.clock.start import advise_on_clock
 from subtitles.formats.listing import NamedFault, NOT_SHOWN, parse_fault_line, read_meanings
@@ -335,31 +335,18 @@ class VisibleRows(Case):
             self.check(cells.hex(), receiver.letters(cells), expected)
 
     def test_reports_each_hidden_row_with_its_block(self) -> None:
-        blank = BLANK_PAGE[0]
-        rows = [blank, *(next(cells for cells, sight, _ in ROWS if sight == item).ljust(40)
-                         for item in Visibility)]
-        file: Any = SimpleNamespace(start_blocks=[2, 5, 6])
-        for cells in itertools.product(rows, repeat=4):
-            subtitles = [Subtitle(index, index, 25 * index, 25 * index + 9, 1, 2, b"")
-                         for index in (1, 3)]
-            pages = [(*cells[at:at + 2], *BLANK_PAGE[2:]) for at in (0, 2)]
-            expected = [(subtitle, row, item) for subtitle, page in zip(subtitles, pages)
-                        for row,
-                        item in enumerate(page[:2], 1) if find_visibility(item) != Visibility.ALL]
-            printed = [(find_visibility(item) == Visibility.NONE,
-                        f"{subtitle.name} at {format_frame(subtitle.begin)}, "
-                        f"row {row}: {describe_hidden_characters(item, 'english')}",
-                        file.start_blocks[subtitle.index - 1], format_frame(subtitle.begin))
-                       for subtitle, row, item in expected]
-            hidden_rows = find_hidden_rows(subtitles, pages, file, "english")
-            self.assertEqual(hidden_rows.faults, [NamedFault(NOT_SHOWN, words, block=block)
-                                                  for is_none, words, block, _ in printed
-                                                  if is_none],
-                             cells)
-            self.assertEqual(hidden_rows.warnings, [Notice(HIDDEN_KIND, words, when)
-                                                    for is_none, words, _,
-                                                    when in printed if not is_none],
-                             cells)
+        shown, hidden, partly = (cells.ljust(40) for cells in (b"\x0b\x0bHi", b"Hi", b"\x0bHi"))
+        pages = [(hidden, partly, shown, *BLANK_PAGE[3:]), (shown, hidden, hidden, *BLANK_PAGE[3:])]
+        subtitles = [Subtitle(1, 1, 25, 34, 1, 2, b""), Subtitle(3, 3, 75, 84, 1, 2, b"")]
+        file: Any = SimpleNamespace(start_blocks=[2, 5, 6])  # first block of each subtitle
+        first, third = "subtitle 1 at 00:00:01:00, row", "subtitle 3 at 00:00:03:00, row"
+        hidden_rows = find_hidden_rows(subtitles, pages, file, "english")
+        self.check("faults", hidden_rows.faults, [
+            NamedFault(NOT_SHOWN, f"{first} 1: {NO_BOX}", block=2),
+            NamedFault(NOT_SHOWN, f"{third} 2: {NO_BOX}", block=6),
+            NamedFault(NOT_SHOWN, f"{third} 3: {NO_BOX}", block=6)])
+        self.check("warnings", hidden_rows.warnings, [
+            Notice(HIDDEN_KIND, f"{first} 2: {ONE}", "00:00:01:00")])
 
     def test_checks_only_files_with_codes_that_may_hide(self) -> None:
         for code, has_layout, at in itertools.product(range(256), (False, True), range(3)):
