@@ -2,13 +2,11 @@
 from __future__ import annotations
 
 import os
-import random
 import re
 import unittest
 from types import SimpleNamespace
 from typing import Any
 
-from subtitles.common.command_line import counted
 from subtitles.common.program import TOP, read
 from subtitles.common.times import Span, Spans, TICKS, format_frame
 from subtitles.formats.listing import parse_fault_line
@@ -379,19 +377,14 @@ class CausesByHand(unittest.TestCase):
                              f'"{due}": {printed}', (name, frames, sent))
 
     def test_counts_causes_of_all_parts_by_name(self) -> None:
-        chance = random.Random(3)
-        for count in (1, 1, 2, 2, 3, 3, 4):
-            names = [chance.choices(CAUSE_NAMES[:4], k=chance.choice((0, 1, 2, 5)))
-                     for _ in range(count)]
-            several: Any = [SimpleNamespace(
-                cause_by_index={at: SimpleNamespace(name=name) for at, name in enumerate(some)},
-                list_causes=lambda some=some: [SimpleNamespace(name=name) for name in some],
-                pause_texts={}) for some in names]
-            together = [name for some in names for name in some]
-            expected = ", ".join(f"{together.count(name)} {name}" for name in CAUSE_NAMES
-                                 if name in together)
-            self.assertEqual((list_cause_counts(several), format_cause_counts(several),
-                              count_causes(several)), (
-                expected, f"{counted(len(together), 'subtitle')} with a wrong page: {expected}" *
-                bool(together),
-                {name: together.count(name) for name in CAUSE_NAMES}), count)
+        def part(*names: str) -> Any:
+            causes = [Cause(at, name, 1, None, None, "", 0) for at, name in enumerate(names)]
+            return SimpleNamespace(list_causes=lambda: causes, pause_texts={},
+                                   cause_by_index=dict(enumerate(causes)))
+
+        parts, counts = [part(LATE, NEVER), part(), part(NEVER, LATE, LATE)], "3 late, 2 never sent"
+        self.assertEqual(list_cause_counts(parts), counts)
+        self.assertEqual(format_cause_counts(parts), f"5 subtitles with a wrong page: {counts}")
+        self.assertEqual(count_causes(parts), {**dict.fromkeys(CAUSE_NAMES, 0), NEVER: 2, LATE: 3})
+        self.assertEqual(format_cause_counts([part(LATE)]), "1 subtitle with a wrong page: 1 late")
+        self.assertEqual((list_cause_counts([part()]), format_cause_counts([part()])), ("", ""))
