@@ -272,14 +272,13 @@ def survey_lines(lines: Sequence[str], is_whole: bool = True) -> Survey:
     return survey
 
 
-def make_picture_lines(frames: Sequence[int | None], end: str = "0 0",
-                       passed: int = 3) -> list[str]:
-    """Return the lines of `survey` for pictures at these frames.
+def make_picture_lines(frames: Sequence[int | None], end: str = "0 0") -> list[str]:
+    """Return the lines of `survey` for pictures at these frames, after three other pictures.
 
-    The PTS wrap between the pictures. `passed` is the number of pictures before the first group.
+    The PTS wrap between the pictures.
     """
     pts = ["-" if item is None else (CLOCK - 5 + TICKS * item) % CLOCK for item in frames]
-    return [*list_programme_lines((VIDEO, MPEG_2)), f"video {VIDEO} {passed}",
+    return [*list_programme_lines((VIDEO, MPEG_2)), f"video {VIDEO} 3",
             *(f"picture {VIDEO} {item}" for item in pts), f"pictures {VIDEO} {end}"]
 
 

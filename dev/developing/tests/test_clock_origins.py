@@ -133,10 +133,10 @@ class Origins(Case):
             self.check("alike", self.find(alike, some).printed, printed)
 
     def transmission(self, begin: int, late: Sequence[int] = (0,) * COUNT) -> list[bytes]:
-        """Return the PES packets of a programme whose subtitles have these delays in frames."""
-        return [make_pes_packet((begin + TICKS * (70 * number + frame + by)) % CLOCK, [
+        """Return the PES packets of a programme whose out-cues have these delays in frames."""
+        return [make_pes_packet((begin + TICKS * (70 * number + frame)) % CLOCK, [
             HEADER, *[make_numbered_row(20, b"Number %d" % number)] * (not frame), CLOSING])
-                for number, by in enumerate(late) for frame in (0, 40)]
+                for number, by in enumerate(late) for frame in (0, 40 + by)]
 
     def write_own_stl(self) -> str:
         return self.stl(make_even_times(COUNT, 70, 40, begin=FIRST_TCI))
@@ -144,10 +144,7 @@ class Origins(Case):
     def test_accepts_ends_with_the_same_delay(self) -> None:
         for late, has_all_cues in (([3] * COUNT, True), ([3] * 6 + [9] * 6, False),
                                    ([3] * (COUNT - 1) + [9], False)):
-            pes = [make_pes_packet(TICKS * (70 * number + frame), [
-                HEADER, *[make_numbered_row(20, b"Number %d" % number)] * (not frame), CLOSING])
-                   for number, by in enumerate(late) for frame in (0, 40 + by)]
-            result = self.find(self.write_own_stl(), pes)
+            result = self.find(self.write_own_stl(), self.transmission(0, late))
             self.must(f"{late}", result.has_all_cues == has_all_cues, result)
             self.must(f"{late}: times", f"subtitles are expected from 11:06:40:00 to 11:07:12:10; "
                       f"the page was received from 11:06:40:00 to 11:07:12:{10 + late[-1]}"
