@@ -23,7 +23,7 @@ from .judged import judge_files
 from .streams import TELETEXT_PID, make_stream_of_pids
 from .parts import make_example_request, survey_packets, make_part, make_shell_script
 from .transmissions import CLOSING, HEADER, PAGE, write_pipe
-from .test_judging_verdicts import make_part_verdict
+from .test_judging_verdicts import make_part_verdict, read_lines
 
 FIRST_LINE_TEXT, SECOND = "refused 72 Content frame 00:00:05:00 row 20 column 1", \
     "refused 38 UnitLength pes 7"
@@ -111,10 +111,7 @@ class Answers(Case):
             ([FIRST_LINE_TEXT, "refused 38 UnitLength pes 7"], None),
             (["trusted frames 00:00:06:00 00:00:07:00"], "00:00:07:00")]
         for lines, expected in of_times:
-            result = CheckOutput(self.path("list"))
-            for item in lines:
-                result.read_line(item)
-            result.close_file()
+            result = read_lines(self, lines)
             self.assertEqual((result.find_last_time(), result.verdict,
                               result.summarize().exit_status),
                              (expected, "not judged", None), lines)

@@ -22,7 +22,7 @@ from subtitles.judging.pages import (
 from subtitles.judging.sentence import (
     CAUSE_PREDICATES, Facts, FAULT_CLAUSES, FaultCount, describe_causes, write_sentence)
 from subtitles.judging.status import (
-    ACCEPTED, FAULT_NUMBERS, LOST, NOT_JUDGED, REFUSED, RELATIVE, WAIVED, WARNED)
+    ACCEPTED, FAULT_NUMBERS, LOST, NOT_JUDGED, REFUSED, RELATIVE, WARNED)
 from subtitles.judging.transmissions import describe_control_bits
 from subtitles.recording.notices import Notice
 from subtitles.stream.receiver import BLANK_PAGE
@@ -84,8 +84,6 @@ SENTENCES: dict[str, tuple[Facts, str]] = {
     "--strict names each kind of warning once": (
         Facts(WARNED, 2, warnings=["page", "page", "pause"]), "Not accepted: --strict treats "
         "warnings as faults (page, pause); everything that was received is right."),
-    "waived": (Facts(WAIVED, 2, first=GAP, faults=1, hint="no header"), "Waived, since these "
-               "faults are declared as warnings: from 10:00:00:00 on, no header."),
     "all are late, and another fault": (
         Facts(REFUSED, 1234, first=parse_fault_line("refused 72 Content frame 10:00:00:00"),
               faults=2, delay=50, counts=[FaultCount(72, "Content", 1), FaultCount(73, "Gap", 1)]),
@@ -117,11 +115,7 @@ SENTENCES: dict[str, tuple[Facts, str]] = {
     "two losses and a gap": (
         Facts(REFUSED, 2, first=parse_fault_line("refused 45 Lost pes 7"), faults=3, lost=[
             "a", "b"], counts=[FaultCount(45, "Lost", 2), FaultCount(73, "Gap", 1)]),
-        "Refused: a, and in 1 more place; also 73 Gap; record that part again."),
-    "one fault": (Facts(REFUSED, 2, first=GAP, faults=1, hint="no header"),
-                  "Refused: from 10:00:00:00 on, no header."),
-    "three faults": (Facts(REFUSED, 2, first=GAP, faults=3, hint="no header"),
-                     "Refused: from 10:00:00:00 on, no header; 3 faults in all.")}
+        "Refused: a, and in 1 more place; also 73 Gap; record that part again.")}
 
 
 class Sentences(unittest.TestCase):

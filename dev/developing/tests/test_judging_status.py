@@ -406,32 +406,26 @@ FIRST = "00001 00:00:01:00 00:00:02:00 vp 20 jc 2 text 41"
 SECOND_LINE = "00002 00:00:02:00 00:00:04:00 vp 22 jc 1 text -"
 FIRST_SUBTITLE, SECOND_SUBTITLE = Subtitle(1, 1, 25, 50, 20, 2, b"A"), Subtitle(2, 2, 50, 100,
                                                                                 22, 1, b"")
-NONE = None
 
 
 class ParsedLines(Case):
     def test_parses_each_kind_of_place(self) -> None:
-        for line, expected in (
-                ("refused 60 Empty",
-                 ("refused", 60, "Empty", NONE, NONE, NONE, NONE, NONE, NONE, NONE)),
-                ("refused 16 Cumulative block 1",
-                 ("refused", 16, "Cumulative", 1, NONE, NONE, NONE, NONE, NONE, NONE)),
-                ("refused 50 Text block 0 at 7",
-                 ("refused", 50, "Text", 0, 7, NONE, NONE, NONE, NONE, NONE)),
-                ("refused 33 Flags pes 0",
-                 ("refused", 33, "Flags", NONE, NONE, 0, NONE, NONE, NONE, NONE)),
-                ("refused 70 Repeat frame 00:00:01:00 packet 3",
-                 ("refused", 70, "Repeat", NONE, NONE, NONE, "00:00:01:00", 3, NONE, NONE)),
-                ("refused 72 Content frame 00:00:01:00 row 20 column 0",
-                 ("refused", 72, "Content", NONE, NONE, NONE, "00:00:01:00", NONE, 20, 0)),
-                ("ended 72 Content frame 00:00:03:00",
-                 ("ended", 72, "Content", NONE, NONE, NONE, "00:00:03:00", NONE, NONE, NONE)),
-                ("fault 91 Memory",
-                 ("fault", 91, "Memory", NONE, NONE, NONE, NONE, NONE, NONE, NONE))):
-            self.check(line, parse_fault_line(line), FaultLine(line, *expected))
-            is_fault = line.startswith("refused ")
-            self.must(f"number of {line}", parse_fault_number(line) ==
-                      (expected[1] if is_fault else None))
+        # Lines, and the members of their places; the other members are `None`.
+        places: dict[str, dict[str, object]] = {
+            "refused 60 Empty": {}, "fault 91 Memory": {},
+            "refused 16 Cumulative block 1": {"block": 1},
+            "refused 50 Text block 0 at 7": {"block": 0, "at": 7},
+            "refused 33 Flags pes 0": {"pes": 0},
+            "refused 70 Repeat frame 00:00:01:00 packet 3": {"time": "00:00:01:00", "packet": 3},
+            "refused 72 Content frame 00:00:01:00 row 20 column 0": {
+                "time": "00:00:01:00", "row": 20, "column": 0},
+            "ended 72 Content frame 00:00:03:00": {"time": "00:00:03:00"}}
+        for line, place in places.items():
+            kind, number, name = line.split(" ")[:3]
+            self.check(line, parse_fault_line(line), (line, kind, int(number), name, *(
+                place.get(member) for member in FaultLine._fields[4:])))
+            self.check(f"number of {line}", parse_fault_number(line),
+                       int(number) if kind == "refused" else None)
         for line in ("", "refused", "refused 72", "refused x Content", "refused 72 Content frame",
                      "refused 72 Content row 1 column 2", "refused 72 Content pes 1 more",
                      " refused 72 Content", "accepted 72 Content"):

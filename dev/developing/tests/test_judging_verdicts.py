@@ -54,6 +54,15 @@ def make_loss_between(before: int | None, after: int | None, shift: int = 0,
     return LossPlace(first, last, **more)
 
 
+def read_lines(case: Case, lines: Sequence[str]) -> CheckOutput:
+    """Return the output of a `check` that has printed these lines, and has not ended."""
+    result = CheckOutput(case.path("list"))
+    for line in lines:
+        result.read_line(line)
+    result.close_file()
+    return result
+
+
 class Verdicts(Case):
     def three(self, *refused: int) -> list[Part]:
         """Return three parts of a hundred frames each. Those with the given numbers are refused."""
@@ -371,12 +380,7 @@ class PartDecisions(Case):
             (("refused 72 X frame 00:00:00:01", "refused 33 X pes 1", "refused 40 X pes 2"),
              [(1, 2)])]
         for lines, expected in of_lines:
-            answer = CheckOutput(self.path("list"))
-            for line in lines:
-                answer.read_line(line)
-            answer.close_file()
-            result = list(answer.skipped_packets)
-            self.check(f"{lines}", result, expected)
+            self.check(f"{lines}", [*read_lines(self, lines).skipped_packets], expected)
 
 
 class FaultNumbers(Case):
@@ -391,12 +395,8 @@ class FaultNumbers(Case):
                  "refused 38 UnitLength pes 11", "refused 72 Content frame 00:00:04:00 row 2 "
                  "column 1", "ended 72 Content frame 00:00:05:00",
                  "trusted frames 00:00:06:00 00:00:07:00", "trusted frames 00:00:09:00 00:00:09:00"]
-        answer = CheckOutput(self.path("list"))
-        for line in lines:
-            answer.read_line(line)
-        answer.close_file()
-        ends = answer.fault_ends
-        result = [tuple(ends.get(index, NO_END)) for index in range(5)]
+        answer = read_lines(self, lines)
+        result = [tuple(answer.fault_ends.get(index, NO_END)) for index in range(5)]
         self.check("ends", result, [("00:00:02:00", None), (None, 9), (None, None), (None, None),
                                     ("00:00:05:00", None)])
         self.must("trusted", [*answer.trusted_frames] == [(150, 175), (225, 225)],
