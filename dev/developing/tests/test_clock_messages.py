@@ -124,35 +124,31 @@ class OriginLines(unittest.TestCase):
                     f"{words} found, but --breaks is {breaks}", *format_breaks(parts)], estimate)
 
     def test_describes_each_part(self) -> None:
-        overlapping = [SimpleNamespace(begin=25 * at, end=25 * at + 50) for at in range(3)]
-        for origin, count in itertools.product((None, 9), (1, 2)):
+        in_two_parts = [f"the subtitle from 00:00:0{at}:00 to 00:00:0{at + 2}:00 reaches into the "
+                        "next part, so it is in no part" for at in range(3)]
+        for origin, bases in itertools.product((None, 9), (1, 2)):
             parts = [self.part(cues - 1, cues, cues - 1, cues) for cues in (20, 12, 6)]
-            for number, item in enumerate(parts):
-                item.begin, item.end, item.origin = 1000 * number, 1000 * number + 500, 9 + number
-                item.time_base.packets, item.overlapping = (number, 7), overlapping[2 * number:][:2]
-            bases = [item.time_base for item in parts][:count]
-            origin_estimate = self.store(parts, bases, origin=origin, breaks=2)
-            pes = [f"--pes {at}-7 " * (count > 1) for at in range(3)]
-            self.assertEqual((origin_estimate.status, origin_estimate.ticks_late,
-                              origin_estimate.printed), (
-                0, None if origin is None else 0, [
-                    f"--from 00:00:00:00 --to 00:00:20:00 {pes[0]}--origin 9",
-                    f"--from 00:00:40:00 --to 00:01:00:00 {pes[1]}--origin 10",
-                    f"--from 00:01:20:00 --to 00:01:40:00 {pes[2]}--origin 11"]), (origin, count))
-            self.assertEqual([(item.origin, item.packets, item.frames, item.matches, item.total)
-                              for item in origin_estimate.parts], [
-                (9 + at, (at, 7) if count > 1 else None, (1000 * at, 1000 * at + 500), cues - 1,
-                 cues) for at, cues in enumerate((20, 12, 6))], (origin, count))
-            for line, is_there in (("3 parts: 35 of 38 cues match", True),
-                                   ("19 of 20 cues in the recording match, 19 with the expected "
-                                    "text; this part has "
-                                    "20 cues; no other origin matches a cue", True),
-                                   ("the subtitles match --origin 9", origin == 9),
-                                   *((f"the subtitle from 00:00:0{at}:00 to 00:00:0{at + 2}:00 "
-                                      "reaches into the next part, so it is in no part", True)
-                                     for at in range(3))):
-                self.assertEqual(origin_estimate.lines.count(line), int(is_there),
-                                 origin_estimate.lines)
+            for at, part in enumerate(parts):
+                part.begin, part.end, part.origin = 1000 * at, 1000 * at + 500, 9 + at
+                part.time_base.packets = at, 7
+            parts[0].overlapping, parts[1].overlapping = (
+                [SimpleNamespace(begin=25 * at, end=25 * at + 50) for at in several]
+                for several in ((0, 1), (2,)))
+            estimate = self.store(parts, [part.time_base for part in parts][:bases],
+                                  origin=origin, breaks=2)
+            pes = [f"--pes {at}-7 " * (bases > 1) for at in range(3)]
+            self.assertEqual(estimate.printed, [
+                f"--from 00:00:00:00 --to 00:00:20:00 {pes[0]}--origin 9",
+                f"--from 00:00:40:00 --to 00:01:00:00 {pes[1]}--origin 10",
+                f"--from 00:01:20:00 --to 00:01:40:00 {pes[2]}--origin 11"], (origin, bases))
+            self.assertEqual([part[:5] for part in estimate.parts], [
+                (9 + at, (at, 7) if bases > 1 else None, (1000 * at, 1000 * at + 500), cues - 1,
+                 cues) for at, cues in enumerate((20, 12, 6))], (origin, bases))
+            self.assertEqual((estimate.status, estimate.ticks_late), (0, origin and 0))
+            self.assertEqual(estimate.lines, [
+                "3 parts: 35 of 38 cues match", *format_breaks(parts), *format_part(parts[0], 38),
+                *["the subtitles match --origin 9"] * (origin == 9), *in_two_parts[:2],
+                *format_part(parts[1], 38), in_two_parts[2], *format_part(parts[2], 38)])
 
     def test_is_unclear_if_many_cues_of_a_part_are_early(self) -> None:
         many, few = EarlyCues(9, 20, 1), EarlyCues(1, 30, 1)

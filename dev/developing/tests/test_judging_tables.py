@@ -314,32 +314,31 @@ class NamesOfFiles(Case):
             self.must(name, path in kept and os.path.join(out, "one.1.txt") not in kept, kept)
         self.check("no folder", len(list_pair_files(self.path("none"), "one")), 7)
 
-    def test_prints_the_call_with_other_options(self) -> None:
+    def test_replaces_options_in_the_printed_call(self) -> None:
         typed = CommandPaths("tools/qc", self.bench.program)
-        request = make_example_request("one.stl", "one.ts", "--page", "150", "--every", "50",
-                                       "--no-complete",
-                          "--pid", "0x101", "--origin", "7", "--within", "2", "--breaks", "1",
-                          "--pes", "2-9", "--option", "german")
-        whole = "tools/qc one.stl one.ts --page 150 --every 50 --option german --origin 7 " \
+        call = "tools/qc one.stl one.ts --page 150 --every 50 --option german --origin 7 " \
             "--no-complete --pid 0x101 --breaks 1 --pes 2-9 --within 2"
-        for more, expected in (((), whole), (("--page", "P"), whole.replace(" --page 150", "")
-                                             + " --page P"),
-                               (("--origin", "T"),
-                                whole.replace(" --origin 7", "") + " --origin T"),
-                               (("--breaks", "0"),
-                                whole.replace(" --breaks 1", "") + " --breaks 0"),
-                               (("--within", "5"),
-                                whole.replace(" --within 2", "") + " --within 5"),
-                               (("--pes", "1-2"), whole.replace(" --pes 2-9", "") + " --pes 1-2")):
-            self.check(f"{more}", make_command(request, typed, *more), expected)
+        request = make_example_request("one.stl", "one.ts", *(
+            "--within 2 --pes 2-9 --page 150 --every 50 --no-complete --pid 0x101 --origin 7 "
+            "--breaks 1 --option german").split())
+        self.check("all options", make_command(request, typed), call)
+        for old, new in (("--page 150", "--page P"), ("--origin 7", "--origin T"),
+                         ("--breaks 1", "--breaks 0"), ("--within 2", "--within 5"),
+                         ("--pes 2-9", "--pes 1-2")):
+            self.check(new, make_command(request, typed, *new.split()),
+                       call.replace(f" {old}", "") + f" {new}")
         start = make_example_request("one.stl", "one.ts", "--start", "tcp")
         self.check("start", make_command(start, typed), "tools/qc one.stl one.ts --start tcp")
         self.check("an origin instead", make_command(start, typed, "--origin", "T"),
                    "tools/qc one.stl one.ts --origin T")
         self.check("a file alone", make_command(make_example_request("one.stl", None), typed),
                    "tools/qc one.stl --file-only")
+
+    def test_quotes_the_words_of_a_command(self) -> None:
         self.check("words", quote_command("cat", "a b", ">", "c", "|", "d'e"),
                    "cat 'a b' >c | 'd'\"'\"'e'")
+
+    def test_finds_other_programs_next_to_the_called_one(self) -> None:
         for called, tool, program in (("tools/qc", "tools/air", "subttx"),
                                       ("./qc", "./air", "../subttx"), ("qc", "./air", "../subttx"),
                                       ("/a/tools/qc", "/a/tools/air", "/a/subttx")):
