@@ -371,7 +371,7 @@ class MissingRows(Case):
     def test_names_no_row_if_the_page_is_not_expected_or_has_no_header(self) -> None:
         timeline, due = self.decode((0, COMPLETE_PAGE), (50, ONE_ROW_LESS))
         closed, _ = self.decode((5, [CLOSING]))
-        self.check_rows(lambda *args: name_omitted_rows(*args, None), {
+        self.check_rows(lambda pages, page, frame: name_omitted_rows(pages, page, frame, None), {
             "the expected page, no fault line": ((timeline, due, 50), "a row"),
             "another page": ((timeline, BLANK_PAGE, 50), ""),
             "no header": ((closed, BLANK_PAGE, 5), "")})
