@@ -229,7 +229,7 @@ class TextMarkup(Case):
     def test_breaks_no_line_within_an_option(self) -> None:
         # No line is broken within <b>.
         self.check_rows(lambda text: markup_text(keep_options_together(text)), {
-            "two options": (("give --origin or --start",), "give <b>--origin</b> or <b>--start</b>"),
+            "two options": (("use --origin or --start",), "use <b>--origin</b> or <b>--start</b>"),
             "a hyphen in an option": (("give --allow-lost",), "give <b>--allow-lost</b>"),
             "a value and a special character": (("--every 25 <x>",), "<b>--every 25</b> &lt;x&gt;"),
             "a dash": (("a - b",), "a - b")})
