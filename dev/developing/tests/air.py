@@ -15,7 +15,7 @@ from subtitles.air import judge, main
 from subtitles.air.check import Outcome
 from subtitles.air.delivery import read_content
 from subtitles.air.schedule import Programme, Schedule, read_schedule
-from subtitles.air.segments import UnbrokenRun, make_segment_name
+from subtitles.air.segments import UnbrokenRun, find_difference, make_segment_name
 from subtitles.request.lines import read_options
 from subtitles.results.files import make_unjudged
 from .bench import Case
@@ -130,10 +130,13 @@ class AirCase(Case):
         os.utime(path, (DAY + end, DAY + end))
         return path
 
-    def put_clock_jump(self, step: int, at: int = 0) -> None:
-        """Put a segment on each side of a jump of the clock by `step` seconds."""
-        self.put_segment(at - 10, at, make_tdt(at - 10))
-        self.put_segment(at, at + 10, make_tdt(at - step), is_new=True)
+    def put_clock_jump(self, step: int, at: int = 0, difference: int = 0) -> None:
+        """Put a segment on each side of a jump of the clock by `step` seconds. Before it, the clock
+        differs from the TDT by `difference`."""
+        find_difference.cache_clear()  # other rows have the same names, sizes and times
+        begin = at - 10 - max(step, 0)
+        self.put_segment(begin, begin + 10, make_tdt(begin - difference))
+        self.put_segment(at, at + 10, make_tdt(at - step - difference), is_new=step < 0)
 
     def put_segments(self, begin: int, end: int, missing: Sequence[tuple[int, int]] = ()) -> None:
         for at in range(begin, end, LENGTH):

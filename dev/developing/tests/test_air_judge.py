@@ -3,6 +3,7 @@ from __future__ import annotations
 
 import contextlib
 import json
+import math
 import os
 import time
 from typing import Any, BinaryIO, NamedTuple
@@ -10,7 +11,7 @@ from unittest import mock
 
 from subtitles.air import judge as judging
 from subtitles.air.check import Outcome
-from subtitles.air.decision import Window, give_up, is_given_up
+from subtitles.air.decision import Window, give_up, is_clock_wrong, is_given_up
 from subtitles.air.segments import (
     Segment, find_segments, make_segment_name, parse_segment_begin)
 from subtitles.air.state import Monitor
@@ -585,6 +586,31 @@ CLOCK_CASES = {
     "a name of another zone": (-3540, 60, (False, 50)),
     "a file that no clock could name": (1e8, 60, (False, 50))}
 
+# The difference of the clock from the TDT, steps of the clock 1,500 s apart, and whether the alarm
+# remains when an hour has passed since the last
+CLOCK_STEPS = {
+    "behind, and it stays": (0, [-300], True),
+    "ahead, and it stays": (0, [300], True),
+    "there and back": (0, [-300, 300], False),
+    "away in two steps": (0, [300, -200], True),
+    "the step corrects the clock": (-300, [300], False),
+    "the TDT is another time": (3600, [-300], False)}
+
+# Differences of the clock from the TDT before and after each jump, the newest difference, and
+# whether the clock is wrong hours later
+JUMP_CASES: dict[str, tuple[list[tuple[float, float]], float, bool]] = {
+    "no jump": ([], 600, False),
+    "the TDT is still right": ([(0, -300)], -300, True),
+    "back without a jump": ([(0, -300)], 30, False),
+    "almost back without a jump": ([(0, -300)], -31, True),
+    "no TDT any more": ([(0, -300)], math.nan, True),
+    "back, and then the TDT jumps": ([(0, -300), (-300, 0)], 600, False),
+    "away again": ([(0, -300), (-300, 0), (0, 600)], 600, True),
+    "the clock almost agreed before": ([(30, 61)], 61, True),
+    "it did not agree before": ([(31, 62)], 62, False),
+    "it agrees on both sides": ([(-20, 20)], 60, False),
+    "back to what almost agreed": ([(30, -300), (-300, 31)], 31, False)}
+
 # The begin and the last write of segments, whether the clock is wrong at the last write, and the
 # number of segments that are used.
 LONG_SEGMENTS = {
@@ -630,12 +656,23 @@ class State(AirCase):
             monitor.look(self.path("segments"), self.path("out"), DAY + 60, "/bin/true", [], DAY)
             self.check(name, (monitor.is_clock_wrong, monitor.last_byte - DAY), expected)
 
-    def test_raises_the_alarm_for_an_hour_after_the_clock_jumped(self) -> None:
-        self.put_clock_jump(-120)
-        for now, expected in ((20, True), (HOUR, True), (HOUR + 1, False)):
-            monitor = Monitor()
-            monitor.look(self.path("segments"), self.path("out"), DAY + now, "/bin/true", [], DAY)
-            self.check(f"{now}", monitor.is_clock_wrong, expected)
+    def test_raises_the_alarm_while_the_clock_may_be_wrong(self) -> None:
+        for name, (difference, steps, is_wrong_later) in CLOCK_STEPS.items():
+            self.delete_all("segments")
+            for number, step in enumerate(steps):
+                self.put_clock_jump(step, 1500 * number, difference + sum(steps[:number]))
+            first = Monitor()
+            for now in (20, HOUR, HOUR + 1, 6300):
+                for monitor in (first, Monitor()):
+                    monitor.look(self.path("segments"), self.path("out"),
+                                 DAY + 1500 * (len(steps) - 1) + now, "/bin/true", [], DAY)
+                    self.check(f"{name}, {now} s later, {monitor is first}",
+                               monitor.is_clock_wrong, now <= HOUR or is_wrong_later)
+
+    def test_knows_from_jumps_and_the_newest_tdt_whether_the_clock_is_wrong(self) -> None:
+        self.check_rows(is_clock_wrong, {
+            name: (([(at, *jump) for at, jump in enumerate(jumps)], difference, 2 * HOUR), expected)
+            for name, (jumps, difference, expected) in JUMP_CASES.items()})
 
     def test_uses_long_segments_that_do_not_overlap(self) -> None:
         for name, (times, is_wrong, count) in LONG_SEGMENTS.items():

@@ -164,11 +164,12 @@ class Lengths(AirCase):
         for seconds, expected in ((-3600, changed), (0, changed), (59, changed), (60, "")):
             self.check(f"after {seconds} seconds", self.delivery("", DAY + seconds).fault, expected)
         # Seconds without a change of a file that was written while the clock was ahead
+        os.utime(self.path("one.stl"), (DAY, DAY + 1e-6))
+        item, = self.read_schedule().programmes
         for seconds, expected in ((0, changed), (59, changed), (60, "")):
             with mock.patch.object(time, "monotonic", lambda: 1e9 + seconds):
-                os.utime(self.path("one.stl"), (DAY, DAY + 1e-6))
                 self.check(f"from the future, for {seconds} seconds",
-                           self.delivery("", DAY - 3 * 86_400).fault, expected)
+                           read_delivery(item.request, DAY - 3 * 86_400, 60).fault, expected)
 
     def test_a_done_file_marks_a_complete_file(self) -> None:
         self.write_stl((0, 250), (500, 1000))

@@ -10,7 +10,7 @@ from unittest import mock
 from subtitles.air import recorder, segments
 from subtitles.air.recorder import Limits, Recorder
 from subtitles.air.segments import (
-    Segment, UnbrokenRun, find_clock_jump, find_segments, find_unbroken_runs, list_segment_names,
+    Segment, UnbrokenRun, find_clock_jumps, find_segments, find_unbroken_runs, list_segment_names,
     make_segment_name, parse_segment_begin)
 from subtitles.cli.single import now
 from .air import AirCase, DAY, make_tdt
@@ -163,14 +163,14 @@ class Segments(AirCase):
     def test_compares_the_clock_with_the_tdt(self) -> None:
         for name, (text, expected) in JUMP_CASES.items():
             self.delete_all("segments")
-            segments.read_feed_times.cache_clear()
+            segments.find_difference.cache_clear()
             for word in text.split():
                 times, _, tdt = word.strip("!").partition(":")
                 begin, end = map(float, times.split(".."))
                 self.put_segment(begin, end, make_tdt(float(tdt)) if tdt else b"", word[0] == "!")
-            folder, (step, _, time) = self.path("segments"), expected.partition(" at ")
-            self.check(name, find_clock_jump(folder, list_segment_names(folder), DAY), time and
-                       f"the clock jumped by {step} s from the TDT at {now(DAY + float(time))}")
+            jumps, _ = find_clock_jumps(self.path("segments"), DAY)
+            self.check(name, [f"{after - before:+.0f} at {begin - DAY:.0f}"
+                              for begin, before, after in jumps][-1:], [expected] * bool(expected))
 
     def test_finds_the_segments_of_a_time_range(self) -> None:
         chance = random.Random(4)

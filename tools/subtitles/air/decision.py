@@ -9,7 +9,7 @@ from ..common.command_line import INPUT
 from ..judging.status import NOT_JUDGED
 from ..results.files import make_unjudged
 from .check import Outcome
-from .segments import Segment, UnbrokenRun
+from .segments import MIN_JUMP, ClockJump, Segment, UnbrokenRun
 
 RECORDER_LAG = 10.0  # seconds to wait after the end of a programme, since the recorder may lag
 LENGTH_TOLERANCE = 1.0  # seconds by which a recording may seem shorter than its programme
@@ -93,6 +93,16 @@ def give_up(name: str, outcome: Outcome) -> Outcome:
     if outcome.result:
         reason, kind = f"a line nearby has no subtitle file: {reason}", INPUT
     return Outcome(make_unjudged(name, reason, kind), reason)
+
+
+def is_clock_wrong(jumps: Sequence[ClockJump], difference: float, now: float) -> bool:
+    """Return whether the clock jumped within the last hour, or is wrong since an earlier jump. A
+    clock that agreed with the TDT only before a jump is wrong until the newest TDT shows that it
+    differs as before. If it agreed only after the jump, or never, nobody knows that it is wrong."""
+    right = next((before if abs(after) > MIN_JUMP else None for _, before, after in reversed(jumps)
+                  if min(abs(before), abs(after)) <= MIN_JUMP), None)
+    return any(now - time <= HOUR for time, _, _ in jumps) or (
+        right is not None and not abs(difference - right) <= MIN_JUMP)
 
 
 def count_seconds(segments: Sequence[Segment], begin: float) -> float:

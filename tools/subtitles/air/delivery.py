@@ -24,11 +24,12 @@ MAX_STEP = 6 * 3600 * FRAMES_A_SECOND  # frames from a TCI to the TCO of the nex
 
 class Content(NamedTuple):
     """The content of a subtitle file: the size that its GSI block announces, the length of the
-    programme in seconds, and a hash of its times and texts."""
+    programme in seconds, a hash of its times and texts, and the monotonic time when it was read."""
 
-    announced_size: int
-    length: float
-    subtitles: int
+    announced_size: int = 0
+    length: float = 0.0
+    subtitles: int = 0
+    first_look: float = 0.0
 
 
 class Delivery(NamedTuple):
@@ -36,7 +37,7 @@ class Delivery(NamedTuple):
     nanoseconds and the size."""
 
     fault: str = ""
-    content: Content = Content(0, 0.0, 0)
+    content: Content = Content()
     version: tuple[int, int] = 0, 0
 
 
@@ -54,7 +55,8 @@ def read_delivery(request: Request, now: float, settled: float) -> Delivery:
         return Delivery(f"{stl} does not exist")
     except (OSError, Stop) as reason:
         return Delivery(format_error(reason))
-    if info.st_mtime > now - settled and time.monotonic() < find_first_look(stl, version) + settled:
+    # If the file was written while a clock was ahead, its mtime does not show when it last changed.
+    if info.st_mtime > now - settled and time.monotonic() < content.first_look + settled:
         fault = f"{stl} was changed at {date(info.st_mtime)} and may still be incomplete"
     elif info.st_size < content.announced_size:
         announced, found = ((size - GSI) // TTI for size in (content.announced_size, info.st_size))
@@ -64,13 +66,6 @@ def read_delivery(request: Request, now: float, settled: float) -> Delivery:
     with contextlib.suppress(OSError):
         fault = "" if os.stat(marker).st_mtime_ns >= info.st_mtime_ns else fault
     return Delivery(fault, content, version)
-
-
-@functools.lru_cache(maxsize=10_000)
-def find_first_look(_path: str, _version: tuple[int, int]) -> float:
-    """Return the monotonic time of the first look at a version of a file. If the file was written
-    while a clock was ahead, its mtime does not show for how long it has not changed."""
-    return time.monotonic()
 
 
 @functools.lru_cache(maxsize=10_000)
@@ -94,4 +89,4 @@ def read_content(path: str, _version: tuple[int, int], *limits: str | None) -> C
             subtitles.append((begin, end, subtitle.text))
     return Content(GSI + TTI * (read_count(data[TNB]) or 0),
                    max((end for _, end, _ in subtitles), default=0) / FRAMES_A_SECOND,
-                   hash(tuple(subtitles)))
+                   hash(tuple(subtitles)), time.monotonic())

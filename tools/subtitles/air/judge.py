@@ -6,7 +6,6 @@ import argparse
 import contextlib
 import math
 import os
-import shutil
 import signal
 import subprocess
 import sys
@@ -15,7 +14,7 @@ import time
 from ..cli.single import handle_signals, now as date
 from ..cli.state import lock_service, log_bug, write_state
 from ..common.command_line import INPUT, Stop, format_error, print_stdout
-from ..common.files import TEMPORARY_PREFIX, open_result
+from ..common.files import TEMPORARY_PREFIX, open_result, read_chunks
 from ..request.commands import CommandPaths
 from ..results.files import ENDING, encode_result, make_unjudged
 from .check import Checker, Outcome
@@ -24,22 +23,20 @@ from .decision import (
     give_up, is_given_up)
 from .delivery import Delivery, read_delivery
 from .schedule import Programme, Schedule, read_schedule
-from .segments import (
-    find_clock_jump, find_deleted, find_segments, find_unbroken_runs, list_segment_names)
+from .segments import find_clock_jumps, find_deleted, find_segments, find_unbroken_runs
 from .state import Monitor
 
-RETRY_SECONDS, MAX_RETRY_SECONDS = 2.0, 60.0  # delays in seconds after system errors
+RETRY_SECONDS = 60.0  # minimum delay in seconds after a system error
 SHARE = 10  # failing programmes get at most a tenth of the judging time
 OTHER_FILE_SECONDS = 600.0  # seconds between attempts while another line's file is missing
 HOOK_SECONDS = 10  # time limit of the command of --on-result
 
 
 class Attempts:
-    """The time of the next attempt to judge a programme, the reason why it was not judged yet, the
-    number of system errors, and the last of them."""
+    """When a programme is judged again, why it was not judged yet, and the last system error."""
 
     def __init__(self) -> None:
-        self.next, self.reason, self.failures, self.failure = 0.0, "", 0, ""
+        self.next, self.reason, self.failure = 0.0, "", ""
 
 
 class Judge:
@@ -105,11 +102,10 @@ class Judge:
             return False
         try:
             delivery = self.read_delivery(programme, now)
+            programme, is_limited = self.limit_margins(programme, delivery, now)
             window = self.window(programme, delivery)
             if now < window.end + RECORDER_LAG:
                 return False
-            programme, is_limited = self.limit_margins(programme, delivery, now)
-            window = self.window(programme, delivery)
             outcome = self.judge(programme, window, delivery, now)
             if outcome and outcome.result and not outcome.is_finished:
                 window = window._replace(more=window.length)  # breaks may delay the programme's end
@@ -145,7 +141,7 @@ class Judge:
                   and 0 < abs(item.begin - programme.begin) < 2 * self.args.margin]
         missing = [item for item, other in others if other.fault and item in self.waiting()]
         times = [(item.begin - programme.begin) / 2 for item, other in others
-                 if item in missing or other.content == delivery.content]
+                 if item in missing or other.content.subtitles == delivery.content.subtitles]
         return programme._replace(
             early=min([programme.early, *(-time for time in times if time < 0)]),
             late=min([programme.late, *(time for time in times if time > 0)])), bool(missing)
@@ -158,8 +154,10 @@ class Judge:
         needed_begin = window.last if outcome.result else window.last + MAX_WAIT - HOUR
         later = find_segments(self.segments, needed_begin, math.inf)
         missing_seconds = MIN_RECORDED_LATER - count_seconds(later, window.last)
-        if outcome.result and not outcome.is_file_refused and (jump := find_clock_jump(
-                self.segments, list_segment_names(self.segments), window.first)):
+        if outcome.result and not outcome.is_file_refused and (
+                jumps := find_clock_jumps(self.segments, window.first)[0]):
+            begin, before, after = jumps[-1]
+            jump = f"the clock jumped by {after - before:+.0f} s from the TDT at {date(begin)}"
             reason = f"{jump}: {outcome.reason}"
             outcome = outcome._replace(result=make_unjudged(programme.name, reason, INPUT),
                                        reason=reason)
@@ -208,9 +206,7 @@ class Judge:
             line, *_ = reason.split("\n")
             print_stdout(f"{date()}  {programme.name}: will be tried again: {line}")
         if seconds is None:
-            delay = min(RETRY_SECONDS * 2 ** min(attempts.failures, 10), MAX_RETRY_SECONDS)
-            seconds = max(delay, SHARE * elapsed_seconds)
-            attempts.failures, attempts.failure = attempts.failures + 1, reason
+            seconds, attempts.failure = max(RETRY_SECONDS, SHARE * elapsed_seconds), reason
         attempts.next, attempts.reason = now + seconds, reason
         self.monitor.last_error = f"{programme.name}: {reason}"
 
@@ -218,15 +214,12 @@ class Judge:
         """Store the result files. The JSON result comes last, since it marks the end of judging."""
         assert outcome.result is not None
         work, main = self.checker.work, name + ENDING
-        files = sorted(os.listdir(work)) if "request" in outcome.result else []
-        others = [file for file in files if file.startswith(f"{name}.") and file != main]
-        for file in [*others, main]:
+        files = [file for file in os.listdir(work) if file.startswith(f"{name}.")] \
+            if "request" in outcome.result else []
+        for file in sorted({*files, main}, key=lambda file: (file == main, file)):
             with open_result(os.path.join(self.out, file), is_stored=True) as target:
-                if file in files:
-                    with open(os.path.join(work, file), "rb") as source:
-                        shutil.copyfileobj(source, target)
-                else:
-                    target.write(encode_result(outcome.result))
+                target.writelines(read_chunks(os.path.join(work, file)) if file in files else
+                                  [encode_result(outcome.result)])
         self.checker.clear()
         self.attempts.pop(name, None)
         self.monitor.add_result(name, outcome.result["verdict"], outcome.reason)

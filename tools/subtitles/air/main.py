@@ -14,9 +14,6 @@ from .judge import judge_schedule
 from .recorder import Limits, record
 from .status import print_status
 
-parse_hours = make_number_parser("hours", 1, 99_999)
-parse_megabytes = make_number_parser("megabytes", 0, 999_999_999)
-
 
 def make_record_parser() -> ToolParser:
     """Return the argument parser of the command `record`."""
@@ -24,9 +21,10 @@ def make_record_parser() -> ToolParser:
     parser.add_argument("segments", metavar="SEGMENTS", help="write segments to this folder")
     parser.add_argument("--length", metavar="S", type=read_seconds, default=10,
                         help="begin a segment every S seconds (default: 10)")
-    parser.add_argument("--keep", metavar="HOURS", type=parse_hours, default=48,
-                        help="delete segments older than HOURS (default: 48)")
-    parser.add_argument("--free", metavar="MB", type=parse_megabytes, default=1000,
+    parser.add_argument("--keep", metavar="HOURS", type=make_number_parser("hours", 1, 99_999),
+                        default=48, help="delete segments older than HOURS (default: 48)")
+    parser.add_argument("--free", metavar="MB", default=1000,
+                        type=make_number_parser("megabytes", 0, 999_999_999),
                         help="keep MB megabytes of the disk free (default: 1000)")
     return parser
 

@@ -13,7 +13,6 @@ import os
 import re
 from typing import Iterable, Iterator, NamedTuple, Sequence
 
-from ..cli.single import now as date
 from ..common.command_line import PACKET_SIZES, Stop
 from ..common.times import subtract_pts
 from ..recording.dates import DAY, find_times
@@ -35,6 +34,8 @@ MAX_PAUSE, MAX_OVERLAP = 5.0, 1.0  # seconds between two segments if the clock d
 SYNC, MIN_SYNC_PACKETS = 0x47, 5  # number of sync bytes needed to find where TS packets begin
 TimedName = tuple[float, str]  # start time and name of a segment
 Sides = tuple[list[int], list[int]]  # counters or PCR, before and after a segment boundary
+# Time of a jump of the clock, and seconds by which it differs from the TDT before and after that
+ClockJump = tuple[float, float, float]
 
 
 class Segment(NamedTuple):
@@ -112,37 +113,38 @@ def compare_times(folder: str, names: Iterable[TimedName]) -> list[tuple[Segment
             for (segment, write), last_write, next_begin in zip(found, before, after)]
 
 
-def find_clock_jump(folder: str, names: Sequence[TimedName], begin: float) -> str:
-    """Describe the last jump of the clock after `begin`, if any. The clock may differ from the TDT,
-    but always by the same time. A clock that is set ahead makes a pause, and one that is set back a
-    new segment or an overlap. The TDT may also jump, and go back if a recording is sent again."""
-    jump, first = "", max(bisect.bisect_left(names, (begin, "")) - TDT_SEGMENTS, 0)
-    segments = [segment for segment, _, is_right in compare_times(folder, names[first:])
-                if is_right and segment.size]
+def find_clock_jumps(folder: str, begin: float) -> tuple[list[ClockJump], float]:
+    """Return the jumps of the clock after `begin`, and its difference from the newest TDT if there
+    are any. The clock may differ from the TDT, but always by the same time. A clock that is set
+    ahead makes a pause, and one that is set back a new segment or an overlap. The TDT may also
+    jump, and go back if a recording is sent again."""
+    jumps, names = list[ClockJump](), list_segment_names(folder)
+    first = max(bisect.bisect_left(names, (begin, "")) - TDT_SEGMENTS, 0)
+    segments = tuple(segment for segment, _, is_right in compare_times(folder, names[first:])
+                     if is_right and segment.size)
     for number, (before, after) in enumerate(zip(segments, segments[1:]), 1):
         pause = after.begin - before.end
         is_ahead, is_back = pause > MAX_PAUSE, after.is_new or pause < -MAX_OVERLAP
         if not (is_ahead or is_back) or after.begin < begin:
             continue
-        earlier, later = ([time for segment in part for time in read_feed_times(segment)] for part
-                          in (segments[:number][-TDT_SEGMENTS:], segments[number:][:TDT_SEGMENTS]))
+        earlier_tdt, earlier = find_difference(segments[:number][-TDT_SEGMENTS:])
+        later_tdt, later = find_difference(segments[number:][:TDT_SEGMENTS])
         # If a recording that is sent has an old TDT, the TDT jumps when the recording ends.
-        earlier = [(time, clock) for time, clock in earlier if clock - time < DAY]
-        if earlier and later:
-            seconds, clock_seconds = (new - old for new, old in zip(later[-1], earlier[-1]))
-            step = clock_seconds - seconds
-            if seconds > 0 and (step > MIN_JUMP and is_ahead or step < -MIN_JUMP and is_back):
-                jump = f"the clock jumped by {step:+.0f} s from the TDT at {date(after.begin)}"
-    return jump
+        if earlier < DAY and later_tdt > earlier_tdt and (
+                later > earlier + MIN_JUMP and is_ahead or later < earlier - MIN_JUMP and is_back):
+            jumps.append((after.begin, earlier, later))
+    return jumps, find_difference(segments[-TDT_SEGMENTS:])[1] if jumps else math.nan
 
 
-@functools.lru_cache(maxsize=1_000)
-def read_feed_times(segment: Segment) -> list[tuple[float, float]]:
-    """Return each time in the feed (TDT), and the time of the clock when it was recorded."""
-    with contextlib.suppress(OSError, Stop):  # the segment was deleted
-        return [(time, segment.begin + (segment.end - segment.begin) * place / segment.size)
-                for place, time in find_times(segment.path)]
-    return []
+@functools.lru_cache(maxsize=10_000)
+def find_difference(segments: tuple[Segment, ...]) -> tuple[float, float]:
+    """Return the last TDT in segments, and the difference of the clock from it, or else NaN."""
+    for segment in reversed(segments):
+        with contextlib.suppress(OSError, Stop):  # the segment was deleted
+            for place, time in reversed([*find_times(segment.path)]):
+                share = place / segment.size
+                return time, segment.begin + (segment.end - segment.begin) * share - time
+    return math.nan, math.nan
 
 
 class UnbrokenRun(NamedTuple):

@@ -9,9 +9,9 @@ from ..cli.state import State, format_date_or_none
 from ..common.command_line import Stop
 from ..formats.teletext import Page, page_name
 from ..stream.survey import survey
-from .decision import HOUR
+from .decision import HOUR, is_clock_wrong
 from .segments import (
-    CLOCK_TOLERANCE, NEW, NOTE, TimedName, compare_times, find_clock_jump, list_segment_names)
+    CLOCK_TOLERANCE, NEW, NOTE, TimedName, compare_times, find_clock_jumps, list_segment_names)
 
 SILENCE = 10.0  # seconds without data after which the alarm `silence` is active
 PAGE_SILENCE = 600.0  # seconds without a page header after which the alarm for the page is active
@@ -56,10 +56,12 @@ class Monitor(State):
                       past_names: Sequence[TimedName]) -> None:
         """Compare the names and the last writes of segments with the clock. A segment from the
         future is no sign that the feed is alive. A file that no clock could name is ignored."""
-        self.last_byte, self.is_clock_wrong = 0.0, False
+        # At first and while the clock is wrong, search all segments, since an old jump may matter.
+        begin = self.now - HOUR if self.last_byte and not self.is_clock_wrong else 0.0
+        self.last_byte = 0.0
         newest = sorted({*names[-NEWEST_SEGMENTS:], *past_names[-NEWEST_SEGMENTS:]})
         with contextlib.suppress(OSError):
-            self.is_clock_wrong = bool(find_clock_jump(folder, names, self.now - HOUR))
+            self.is_clock_wrong = is_clock_wrong(*find_clock_jumps(folder, begin), self.now)
             for segment, write, is_right in compare_times(folder, newest):
                 if segment.begin > write + MAX_ZONE_SECONDS:
                     continue
