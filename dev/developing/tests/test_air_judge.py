@@ -543,16 +543,18 @@ class JudgedProgrammes(AirCase):
         self.check("calls", self.read("calls").decode(),
                    f"{self.path('out')}/{NAME}.json relative\n")
 
-
     def test_kills_a_command_that_hangs_with_its_children(self) -> None:
         self.put_segments(0, 900)
         command = self.write_program("hook", f"#!/bin/sh\nsleep 60 &\n"
                                      f"echo $! >{self.path('child')}\nwait\n")
+        begin = time.monotonic()
         with mock.patch.object(judging, "HOOK_SECONDS", 0.5):
             self.run_judge(FakeChecker({NAME: SentProgramme(600, 660)}), 800, BEGIN,
                            "--on-result", command)
         child = self.read("child").decode().strip()
-        wait_until(lambda: not os.path.exists(f"/proc/{child}/exe"))
+        is_gone = wait_until(lambda: not os.path.exists(f"/proc/{child}/exe"))
+        self.must("the child ends before its 60 seconds are over",
+                  is_gone and time.monotonic() < begin + 55, time.monotonic() - begin)
 
 
 ALARM_CASES: dict[str, tuple[dict[str, Any], list[str]]] = {

@@ -142,8 +142,9 @@ class Imports(Case):
                 ("subtitles.cli.single", "from ..report.page import overview", True),
                 ("subtitles.common.command_line", "from developing import TOOLS", False),
                 ("subtitles.common.command_line", "from ..stream import survey", False),
-                ("developing.every_place.known", "from subtitles.formats.listing import told_of",
-                 False),
+                # The second implementation may import only what SHARED_MODULES names.
+                ("developing.every_place.known",
+                 "from subtitles.formats.listing import parse_fault_line", False),
                 ("developing.every_place.known", "from subtitles.formats.teletext import OPTIONS",
                  False),
                 ("developing.every_place.known", "from subtitles.common.times import CLOCK", True)]:

@@ -126,6 +126,8 @@ class Answers(Case):
                 self.assertEqual((pair.stop("10:00"), verdict.parts[-1]),
                                  (words, pair.current_part), (line, reported, words))
         self.assertEqual(len(verdict.parts), 2)
+
+    def test_a_subtitle_file_alone_has_no_lines_if_it_is_valid(self) -> None:
         result = CheckOutput(self.path("list"))
         result.read_line(FIRST_LINE_TEXT)
         result.read_line("1 faults")

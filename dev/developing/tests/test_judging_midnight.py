@@ -199,13 +199,15 @@ class Programmes(MidnightCase):
         stl, _ = self.write_programme(Programme(OVER))
         os.rename(stl, self.path("late film.v2.stl"))
         os.rename(self.path("film.pes"), self.path("late film.v2.pes"))
-        os.unlink(self.path("noon.stl"))
-        os.unlink(self.path("planned.pes"))
+        for made in ("noon.stl", "planned.pes"):  # what `write_programme` needed
+            os.unlink(self.path(made))
         for name in ("first", "again"):
             call = self.tool("qc", "--batch", self.folder, "-o", self.folder, "--no-complete",
                              "--relative")
             self.check(name, (call.status, call.out.decode().splitlines()[-1]),
                        (0, "1 pair: 1 relative"))
+            self.must(f"{name}: the copy with other times, which is no input of the next call",
+                      os.path.exists(self.path("late film.v2.midnight.copy")))
 
     def test_prints_a_check_command_that_a_user_can_run(self) -> None:
         judged = self.judge(Programme(OVER))
