@@ -20,7 +20,7 @@ from subtitles.stream.packets import (
     GapMarker, PCRStep, PacketRun, Packets, find_alternating_subcodes, read_subcode)
 from subtitles.stream.receiver import BLANK_PAGE, INITIAL_STATE, Rows, SpanIndex, Timeline
 from .bench import Case
-from .judged import JudgedPair, ProgrammeCase, judge_files
+from .judged import ProgrammeCase, judge_files
 from .stories import read_table
 from .streams import OLD, TELETEXT_PID, make_stream_with_video, make_planned_stream
 from .parts import make_answer, make_example_request, decode_packets
@@ -408,46 +408,30 @@ class MissingRows(Case):
             self.must(name, (cause.name, cause.details) == (name, words), cause)
 
 
-def add_keeping_repeats(sent: SentPes, way: str = "", frames: int = 0) -> SentPes:
+def add_keeping_repeats(sent: SentPes, is_first_empty: bool = False) -> SentPes:
     """Return the transmission with headers that do not erase the page in all repeated pages.
 
-    If `way` is `left out`, the first repeated page has no rows. If `way` is `subcode`, the subcode
-    of this page is different. All repeated rows are sent `frames` frames later.
+    If `is_first_empty` is true, the first repeated page has no rows.
     """
-    result: SentPes = []
-    before: list[bytes] = []
-    count = 0
-    for pts, some in sent:
-        is_repeat, before = some == before, some
-        if is_repeat:
-            count += 1
-            some = [KEEPING_HEADER, *some[1:]]
-        if is_repeat and way == "left out" and count == 1:
-            some = [KEEPING_HEADER, CLOSING]
-        if is_repeat and way == "subcode" and count == 1:
-            some = [make_packet(0, 0, change_subcode(KEEPING_NUMBERS, 1), b" " * 32), *some[1:]]
-        if is_repeat and frames:
-            result += [(pts, some[:1]), (pts + TICKS * frames, some[1:])]
-        else:
-            result.append((pts, some))
-    return result
+    repeats = [pts for (pts, some), (_, before) in zip(sent[1:], sent) if some == before]
+    without_rows = repeats[:is_first_empty]
+    return [(pts, some if pts not in repeats else
+             [KEEPING_HEADER, CLOSING] if pts in without_rows else [KEEPING_HEADER, *some[1:]])
+            for pts, some in sent]
 
 
 class RepeatsWithKeeping(ProgrammeCase):
     due = subtitle_times(3)
 
-    def judged(self, way: str, *args: str, frames: int = 0) -> JudgedPair:
-        return self.judge(add_keeping_repeats(self.sent, way, frames), *args)
-
     def test_accepts_keeping_headers_only_if_they_are_allowed(self) -> None:
-        judged_pair = self.judged("", "--keeping")
+        sent = add_keeping_repeats(self.sent)
+        judged_pair = self.judge(sent, "--keeping")
         self.must("accepted", judged_pair.word == "accepted" and
                   judged_pair.result["request"]["keeping"] is True
                   and any(" --keeping " in line for line in judged_pair.lines("+ ")),
                   judged_pair.said)
-        judged_pair = self.judged("")
-        keeping = sum(item != other for (_, item), (_, other) in zip(
-            add_keeping_repeats(self.sent), self.sent))
+        judged_pair = self.judge(sent)
+        keeping = sum(item != other for item, other in zip(sent, self.sent))
         words = f"{CLEAR} in {keeping} of {len(self.sent)} headers"
         self.must("refused", judged_pair.word == "refused"
                   and judged_pair.result["hints"] == [f"67: {words}"]
@@ -458,15 +442,9 @@ class RepeatsWithKeeping(ProgrammeCase):
                   judged_pair.said)
 
     def test_names_missing_rows_as_the_cause(self) -> None:
-        judged_pair = self.judged("left out", "--keeping")
+        judged_pair = self.judge(add_keeping_repeats(self.sent, is_first_empty=True), "--keeping")
         self.must("a cause", judged_pair.word == "refused"
                   and {item["number"] for item in judged_pair.result[
             "faults"]} == {CONTENT} and [item["line"] for item in judged_pair.result["causes"]] ==
             [f"not repeated whole: row 22 {OMITTED_BY_REPEAT}"] and
             "(row 22 missing after a header" in judged_pair.verdict.sentence, judged_pair.said)
-
-    def test_rows_of_the_next_frame_make_the_page_late(self) -> None:
-        result = self.judged("", "--keeping", "--no-complete", frames=1)
-        self.must("late", result.word == "refused", result.said)
-        result = self.judged("", "--keeping", "--within", "1", frames=1)
-        self.must("within", result.word == "accepted", result.said)
