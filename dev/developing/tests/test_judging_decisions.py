@@ -211,18 +211,6 @@ class DecodedPages(Case):
                 delay = measure_delay(subtitle, decoded.get_page_at(100), decoded, is_complete)
                 self.check(f"{closed} {is_complete}", delay, frames)
 
-    def test_finds_the_first_frame_with_a_closed_page(self) -> None:
-        data = b"".join(make_pes_packet(TICKS * frame, units) for frame, units in (
-            (10, [HEADER, make_numbered_row(20, b"a")]), (20, [CLOSING]), (30, [HEADER]),
-            (40, [CLOSING])))
-        decoded = self.decode(data)
-        for frame, expected in ((5, 5), (9, 9), (10, 20), (15, 20), (20, 20), (25, 25), (30, 40),
-                                (39, 40), (40, 40), (99, 99)):
-            self.check(f"from {frame}", decoded.find_closed_frame(frame), expected)
-        decoded = self.decode(data[:len(data) // 2 + 1])
-        self.check("open and closed once",
-                   (decoded.find_closed_frame(15), decoded.find_closed_frame(20)), (20, 20))
-
     def test_shows_a_page_once_a_header_ends_it(self) -> None:
         old, new = make_numbered_row(20, b"old"), make_numbered_row(20, b"new")
         rows: list[tuple[list[bytes], bytes | None]] = [
@@ -253,16 +241,6 @@ class DecodedPages(Case):
                 is_seen = not any(item.first <= last and first <= item.last for item in expected)
                 self.check(f"{numbers}: {first} to {last}", decoded.was_received(first, last),
                            is_seen)
-
-    def test_decodes_only_the_requested_range(self) -> None:
-        data = b"".join(make_pes_packet(TICKS * 10 * at, [
-            HEADER, make_numbered_row(20, b"%d" % at), *[make_numbered_row(22, b"x")] * (at % 3),
-            CLOSING]) for at in range(9))
-        packets = survey_packets(self, data)
-        for first, last in ((0, 8), (0, 3), (2, 5), (8, 8)):
-            decoded = Timeline(packets, PAGE, 0, 0, (first, last))
-            self.must(f"{first} to {last}", list(decoded.frames) ==
-                      [*range(10 * first, 10 * last + 1, 10)], decoded.frames)
 
     def test_uses_the_last_page_of_a_frame(self) -> None:
         a, b = (((text.ljust(40),) * 24) for text in (b"a", b"b"))

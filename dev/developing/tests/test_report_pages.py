@@ -59,18 +59,6 @@ class Attributes(unittest.TestCase):
         for row in (b"A", b"\x0b\x0bA", b"\x0a\x0aA"):
             self.assertTrue(self.look(row, is_boxed_page=False).boxed, row)
 
-    def test_applies_attributes_at_once_or_from_the_next_cell(self) -> None:
-        rows: list[tuple[bytes, dict[str, Any]]] = [
-                         (b"\1", {"ink": 7}), (b"\x08", {"flash": False}),
-                         (b"\x0d", {"double": False}), (b"\1\x1d", {"background": 1}),
-                         (b"\1\x1d\x1c", {"background": 0}), (b"\x08\x09", {"flash": False}),
-                         (b"\x0d\x0c", {"double": False}), (b"\x0b\x0b", {"boxed": True}),
-                         (b"\x0b\x0b\x0a\x0a", {"boxed": False})]
-        for row, own in rows:
-            result = self.look(row)
-            with self.subTest(row=row):
-                self.assertEqual({name: getattr(result, name) for name in own}, own)
-
     def test_draws_rows_as_ffmpeg_and_libzvbi_do(self) -> None:
         for codes, *wanted in (
                 ("0b 0b 03 1d 61 04 62 1c 63 0a 0a 64", "777333444444", "000333300000",
