@@ -215,18 +215,14 @@ class Decisions(unittest.TestCase):
 class BatchStatus(unittest.TestCase):
     def test_returns_the_worst_status(self) -> None:
         rows: list[tuple[list[int], bool, int]] = [
-            ([0], False, 0), ([0, 0], False, 0), ([0, 1], False, 1), ([1, 0], False, 1),
-            ([1], False, 1), ([3], False, 3), ([0, 3], False, 3), ([3, 0], False, 3),
-            ([0, 3, 0], False, 3), ([3, 1], False, 1), ([1, 3], False, 1), ([0, 3, 1], False, 1),
-            ([2], False, 2), ([1, 2, 0], False, 2), ([2, 1], False, 2), ([3, 2], False, 2),
-            ([2, 3], False, 2), ([], False, 2), ([4], False, 2), ([0, -9], False, 2),
-            ([0], True, 2), ([3], True, 2), ([], True, 2),
-            ([2, 64], False, 64), ([64, 70], False, 70), ([1, 70, 0], False, 70),
-            ([64, 1, 3], False, 64), ([70, 64, 2, 1, 3, 0], True, 70), ([64, 0], True, 64),
-            ([0, 71], False, 2)]
+            ([0], False, 0), ([0, 3], False, 3), ([3, 0, 1], False, 1), ([1, 3, 2], False, 2),
+            ([2, 0, 64], False, 64), ([64, 1, 70], False, 70), ([], False, 2), ([4], False, 2),
+            ([0, -9], False, 2), ([0, 71], False, 2), ([], True, 2), ([3], True, 2),
+            ([0, 64], True, 64)]
         for statuses, is_stopped, status in rows:
-            with self.subTest(statuses=statuses, stopped=is_stopped):
-                self.assertEqual(combine_statuses(statuses, is_stopped), status)
+            for order in (statuses, statuses[::-1]):
+                with self.subTest(statuses=order, stopped=is_stopped):
+                    self.assertEqual(combine_statuses(order, is_stopped), status)
 
     def test_rejects_a_result_with_another_status(self) -> None:
         for word, status, ended in itertools.product(

@@ -456,15 +456,10 @@ class RepeatIntervals(unittest.TestCase):
     def test_measures_repeats_between_cues(self) -> None:
         steady = list(range(0, 200, 10))
         of_frames: list[tuple[list[int], list[int], int | None]] = [
-                (steady, [], 10), (steady[:5], [], 10), (steady[:4], [], None),
-                (steady, [15, 25, 35, 45, 55, 65, 75, 85, 95, 105, 115, 125, 135, 145, 155, 165],
-                 None), (steady[:8], [45], 10), (steady[:8], [36, 45], 10),
-                (steady[:8], [35, 45], None), (steady[:5], [46], 10), (steady[:5], [45], None),
-                (steady[:5] * 2, [46], 10), (steady[:4] * 2, [], None),
-                (sorted(steady[:4] * 2), [], None), ([0, 1, 2, 3, 4, 8], [], 4),
-                (steady[:7], [20], 10),
-                ([0, 1, 25, 26, 50, 51, 75, 76], [], 24), ([], [], None),
-                ([0, 10, 20, 30, 50, 90], [], 20)]
+            ([], [], None), (steady[:4], [], None), (steady[:5], [], 10), (steady[:5], [45], None),
+            (steady[:5], [46], 10), (steady[:8], [35, 45], None), (steady[:8], [36, 45], 10),
+            (sorted(steady[:4] * 2), [], None), (steady[:5] * 2, [46], 10),
+            ([0, 1, 2, 3, 4, 8], [], 4), ([0, 10, 20, 30, 50, 90], [], 20)]
         for frames, edges, every in of_frames:
             self.assertEqual(repeat_distance(frames, edges), every, (frames, edges))
         with mock.patch.object(gaps, "sum", side_effect=sum, create=True) as summed:

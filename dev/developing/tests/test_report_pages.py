@@ -40,22 +40,17 @@ class Attributes(unittest.TestCase):
         """Return the display style of the last cell in a row."""
         return style_row(row, number, 0, is_boxed_page)[-1]
 
-    def test_applies_each_spacing_attribute_until_it_ends(self) -> None:
+    def test_ignores_parity_bits_conceal_and_single_box_codes(self) -> None:
         plain = CellStyle("A", 7, 0, False, False, False)
-        rows: list[tuple[bytes, dict[str, Any]]] = [
-                (b"A", {}), (b"\x0b\x0bA", {"boxed": True}), (b"\x0bA", {}), (b"\x0b \x0bA", {}),
-                (b"\x0b\x0b\x0a\x0aA", {}), (b"\x0b\x0b\x0aA", {"boxed": True}),
-                (b"\1A", {"ink": 1}), (b"\0A", {"ink": 0}), (b"\x07A", {}),
-                (b"\1\2A", {"ink": 2}), (b"\x17A", {}), (b"\x11A", {"ink": 1, "characters": "A"}),
-                (b"\x08A", {"flash": True}), (b"\x08\x09A", {}), (b"\x0dA", {"double": True}),
-                (b"\x0d\x0cA", {}), (b"\1\x1dA", {"ink": 1, "background": 1}),
-                (b"\1\x1d\x1cA", {"ink": 1}), (b"\1\x1d\2A", {"ink": 2, "background": 1}),
-                (b"\x8b\x8bA", {"boxed": True}), (b"\x18A", {}), (b"\x10A", {"ink": 0})]
-        for row, change in rows:
-            with self.subTest(row=row):
-                self.assertEqual(self.look(row)._replace(characters="A"), plain._replace(**change))
+        for row, is_in_box in ((b"\x8b\x8bA", True), (b"\x18A", False), (b"\x0bA", False),
+                               (b"\x0b \x0bA", False), (b"\x0b\x0b\x0aA", True)):
+            self.assertEqual(self.look(row), plain._replace(boxed=is_in_box), row)
+
+    def test_double_height_ends_with_row_22(self) -> None:
         for number, expected in ((22, True), (23, False), (24, False)):
             self.assertEqual(self.look(b"\x0dA", number).double, expected, number)
+
+    def test_other_pages_are_shown_without_a_box(self) -> None:
         for row in (b"A", b"\x0b\x0bA", b"\x0a\x0aA"):
             self.assertTrue(self.look(row, is_boxed_page=False).boxed, row)
 
