@@ -31,11 +31,8 @@ ENDS_READING = (*range(10, 16), 17, *range(22, 26), 30, 31, 32, 44)
 LOST_PACKETS, SILENT = 45, 79
 RIGHT = {
     "accepted": CheckSummary(0, is_accepted=True),
-    "refused": CheckSummary(1, fault_count=3, printed_total=3, fault_numbers=(WARNING, ERROR)),
-    "refused first": CheckSummary(1, fault_count=3, printed_total=3,
-                                  fault_numbers=(ERROR, WARNING)),
-    "refused between": CheckSummary(1, fault_count=3, printed_total=3,
-                                    fault_numbers=(WARNING, ERROR, WARNING)),
+    "refused": CheckSummary(1, fault_count=3, printed_total=3,
+                            fault_numbers=(WARNING, ERROR, WARNING)),
     "waived": CheckSummary(1, fault_count=2, printed_total=2, fault_numbers={WARNING}),
     "accepted, not read": CheckSummary(0, is_accepted=True, is_read=False),
     "waived, not read": CheckSummary(1, fault_count=1, printed_total=1, fault_numbers={WARNING},
@@ -44,7 +41,6 @@ RIGHT = {
                                       is_read=False)}
 WRONG = {
     "silent": CheckSummary(0),
-    "silent, status 1": CheckSummary(1),
     "not ended": CheckSummary(None, is_accepted=True),
     "not ended, refused": CheckSummary(None, fault_count=1, printed_total=1, fault_numbers={ERROR}),
     "killed": CheckSummary(-9, is_accepted=True),
@@ -52,8 +48,6 @@ WRONG = {
                                        fault_numbers={WARNING}),
     "accepted, status 1": CheckSummary(1, is_accepted=True),
     "accepted, status 2": CheckSummary(2, is_accepted=True),
-    "accepted with faults": CheckSummary(0, is_accepted=True, fault_count=1, printed_total=1,
-                                         fault_numbers={WARNING}),
     "accepted with a number alone": CheckSummary(0, is_accepted=True, fault_numbers={WARNING}),
     "accepted with a count alone": CheckSummary(0, is_accepted=True, fault_count=1),
     "refused, status 0": CheckSummary(0, fault_count=1, printed_total=1, fault_numbers={ERROR}),
