@@ -3,6 +3,7 @@ from __future__ import annotations
 
 import itertools
 import os
+import re
 from dataclasses import replace
 from typing import Callable
 from unittest import mock
@@ -134,18 +135,13 @@ class SubtitleFiles(Case):
             result = [warned.kind for warned in find_page_notices(own, request)]
             self.check(f"{kinds} {languages}", result, expected)
 
-    def test_warns_of_another_character_set(self) -> None:
-        for region, option, more in itertools.product((None, 0, 1), (None, 0, 4), (0, 1)):
-            sets = [(28, 0, region, option), *[(29, 4, 0, 1)] * more]
-            packets, request = Packets(0, character_sets=sets), make_example_request("one.stl",
-                                                                                     "one.ts")
-            reported = ["unreadable" if None in (region, option) else
-                    f"{option:03b} of region {region:04b}"] * ((region, option) != (0, 0))
-            reported += ["001 of region 0000"] * more
-            result = [character_set_notice.line
-                      for character_set_notice in find_character_set_notices(packets, request)]
-            self.assertEqual(len(result), len(reported), result)
-            self.assertTrue(all(map(str.__contains__, result, reported)), result)
+    def test_warns_of_each_packet_with_another_character_set(self) -> None:
+        # Packet, designation, region and option. The second packet names the expected set.
+        packets = Packets(0, character_sets=[
+            (29, 4, 0, 1), (28, 0, 0, 0), (28, 0, None, 0), (28, 0, 0, None)])
+        notices = find_character_set_notices(packets, make_example_request("one.stl", "one.ts"))
+        self.check("names", [re.split(" names |, not |: ", item.line)[1] for item in notices], [
+            "character set 001 of region 0000 (German)", *["an unreadable character set"] * 2])
 
 
 class EstimatedOrigins(Case):
