@@ -4,7 +4,7 @@ from __future__ import annotations
 import itertools
 import unittest
 from types import SimpleNamespace
-from typing import Any, Sequence
+from typing import Any
 
 from subtitles.clock.alignment import CueOffset, EarlyCues, MAX_CUE_OFFSET, OriginFit
 from subtitles.clock.origin import find_equal_origins, is_clear
@@ -28,12 +28,6 @@ ORIGINS = 0, 7, CLOCK - 100 * SECOND - 5, CLOCK - 20 * SECOND, CLOCK - 5
 
 def pts_at(seconds: float | None, origin: int = 0) -> int | None:
     return None if seconds is None else round(origin + seconds * SECOND) % CLOCK
-
-
-def make_packets_at(times: Sequence[float | None], origin: int = 0, does: str = "he") -> Packets:
-    """Return PES packets with the PTS `times` in seconds after `origin` and the flags `does`."""
-    return Packets(257, [PacketRun(number, 1, pts_at(item, origin), 0, does, "")
-                         for number, item in enumerate(times)])
 
 
 class Silences(unittest.TestCase):
