@@ -41,6 +41,7 @@ RUN_CASES = {
     "the longest pause": ("0-10 12-20", 2, "0-20"),
     "a longer pause": ("0-10 13-20", 2, "0-10 13-20"),
     "the same with more patience": ("0-10 13-20", 3, "0-20"),
+    "more patience than a recorder can stall": ("0-10 80-90", 75, "0-90"),
     "two gaps": ("0-10 20-30 30-40 50-60", 2, "0-10 20-40 50-60"),
     "one that begins before the end of the last": ("0-15 10-20", 2, "0-20"),
     "new ones": ("!0-10 10-20 !20-30 30-40", 2, "0-20 20-40"),

@@ -30,7 +30,7 @@ from subtitles.recording.notices import Notice
 from subtitles.report import page as report_page
 from subtitles.request.commands import CommandPaths, OutputNames
 from subtitles.request.request import Request, Unclear, IncompleteAnswer
-from subtitles.results.files import Row, describe_inputs
+from subtitles.results.files import LATER_CLOCK, NO_CLOCK, Row, describe_inputs
 from subtitles.stream.gaps import LossPlace
 from .bench import Case, get_example_path
 from .judged import LineRecorder
@@ -486,6 +486,9 @@ class Pages(Case):
         self.must("the worst two", "only the worst 2 of 5 pairs" in short_page and
                   "only the worst" not in page and short_page.count('<td class="verdict">') == 2
                   and "refused 72" in short_page and "waived: x" not in short_page, short_page)
+        page = collection.make_index_page(self.folder, [
+            rows[0]._replace(clock=clock) for clock in (NO_CLOCK, LATER_CLOCK, "")], "now").decode()
+        self.must("pairs without a clock", ">No clock was given: 1 of 3 pairs." in page, page)
         lines = {row.name: collection.make_pair_row(self.folder, row).source for row in rows}
         self.must("links", [lines[name].count("<a ") for name in "abc"] == [2, 2, 0] and
                   ">list</a>" in lines["b"] and 'href="./a.html">a</a>' in lines["a"], lines)

@@ -35,11 +35,12 @@ from subtitles.formats.listing import (
 from subtitles.formats.midnight import MIN_STEP_BACK
 from subtitles.formats.stl import COMMENT as MAX_COMMENT_FLAG, MAX_STL, TEXT
 from subtitles.formats.stl_writer import MAX_BLOCKS, RIGHT
-from subtitles.formats.teletext import OPTION_WORDS, OPTIONS as NATIONAL_OPTIONS
+from subtitles.formats.teletext import ERASE, OPTION_WORDS, OPTIONS as NATIONAL_OPTIONS
 from subtitles.judging.sentence import FAULT_CLAUSES
 from subtitles.judging.status import (
     ACCEPTED, FAULT_NUMBERS, NOT_JUDGED, READING_STATUSES, RELATIVE, STATUSES, STATUS_ORDER,
     Severity)
+from subtitles.judging.transmissions import CONTROL_BIT_FAULTS
 from subtitles.judging.unchecked import MAX_HOLE
 from subtitles.judging.waivers import WAIVABLE
 from subtitles.reading.received import FEW_CELLS
@@ -322,9 +323,18 @@ def join_numbers(numbers: Iterable[int]) -> str:
     return " and ".join(filter(None, [", ".join(parts[:-1]), parts[-1]]))
 
 
-def join_statuses(statuses: Iterable[int]) -> str:
+def join_statuses(statuses: Iterable[int | str]) -> str:
     *first, last = map(str, statuses)
     return f"{', '.join(first)} and {last}"
+
+
+def join_control_bits() -> str:
+    """Return the control bits that must be set or clear in a header, as documents state them."""
+    bits = {ERASE: True, **{bit: is_set for bit, is_set, _ in CONTROL_BIT_FAULTS}}
+    groups = ([f"C{bit}" for bit in sorted(bits) if bits[bit] == is_set]
+              for is_set in (True, False))
+    return " ".join(f"{join_statuses(group)} {word},"
+                    for group, word in zip(groups, ("set", "clear")))
 
 
 def read_constant(module: str, name: str) -> int:
@@ -433,7 +443,9 @@ STATED: list[tuple[str, str, object]] = [
     ("HEADLINE.md", "in one of rows 1 to {} and", PAGE_ROWS),
     ("HEADLINE.md", "and columns 0 to {}.", PAGE_COLUMNS - 1),
     ("HEADLINE.md", "Packets have {} bytes.", PAGE_COLUMNS + 2),
+    ("HEADLINE.md", "Each header of the page has {} and", join_control_bits()),
     ("ASSURANCE.md", "Some losses of {} or more TS packets", LOST_UNSEEN),
+    ("ASSURANCE.md", "perhaps followed by a fault, and ends with status {}.", OTHER_STATUS),
     ("manual/qc.md", "| `not judged` | `qc` could not decide | {} |",
      f"{STATUSES[NOT_JUDGED]}, {USAGE_STATUS} or {BUG_STATUS}"),
     ("manual/air.md", "of Nagios and Icinga: {} OK, 1 WARNING", OK),
@@ -545,6 +557,15 @@ class StatedFacts(Case):
         text = read_document("docs/ARCHITECTURE.md")
         for name in re.findall(r"`([\w./]+\.(?:rt|py|tsv))`", text):
             self.must(name, any(f"/{path}".endswith(f"/{name}") for path in paths))
+
+    def test_architecture_names_the_crate_of_each_function_and_type(self) -> None:
+        named = re.findall(r"`(\w+)` of\s+`(\w+)`", read_document("docs/ARCHITECTURE.md"))
+        self.must("some", len(named) > 5, named)
+        for name, crate in named:
+            texts = [read(path) or "" for path in glob.glob(os.path.join(
+                TOP, "crates", crate, "src", "**", "*.rt"), recursive=True)]
+            self.must(f"{name} of {crate}", any(re.search(
+                rf"^pub (fn|struct|enum|trait) {name}\b", text, re.M) for text in texts))
 
     def test_mentioned_fault_numbers_are_right(self) -> None:
         for path, text in list_document_texts():

@@ -164,15 +164,31 @@ class FailedScripts(Case):
                 status = script.main(["-p", "/bin/true"])
             self.check(f"{counts}", (out.getvalue().strip(), status), expected)
 
-    def test_bench_measures_no_command_that_failed(self) -> None:
+    def import_bench(self) -> Any:
         with unittest.mock.patch.object(sys, "path", [os.path.join(TOP, "bench"), *sys.path]):
-            script = import_script("../bench/run")
+            return import_script("../bench/run")
+
+    def test_bench_measures_no_command_that_failed(self) -> None:
+        script = self.import_bench()
         for does, is_measured in (("exit 0", True), ("exit 1", True), ("exit 2", False),
                                   ("kill -9 $$", False)):
             try:
                 self.check(does, script.milliseconds(["sh", "-c", does]) > 0, is_measured)
             except SystemExit:
                 self.check(does, False, is_measured)
+
+    def test_bench_prints_megabytes_a_second_and_the_ratio_to_cat(self) -> None:
+        script = self.import_bench()
+        bench = script.Bench("program", None, self.folder)
+        path = self.write("day.pes", bytes(1_000_000))
+        with unittest.mock.patch.multiple(
+                script, least=unittest.mock.Mock(side_effect=[[10.0], [40.0]]),
+                peak=lambda _: "7 MB"), contextlib.redirect_stdout(io.StringIO()) as out, \
+                unittest.mock.patch.object(script.shutil, "which", lambda _: None):
+            bench.row("day: cat PES", path, ["cat", path])
+            bench.row("day: check", path, ["program", "check"])
+        self.check("rows", out.getvalue(), "| day | cat PES | 100 | 1.00 | 7 MB | - |\n"
+                   "| day | check | 25 | 0.25 | 7 MB | - |\n")
 
 
 class FailedChecks(Case):

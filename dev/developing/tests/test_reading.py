@@ -573,6 +573,10 @@ class TwoRecordings(Case):
         self.write_stream("b.ts", [*frames[:6], (225, text)])
         self.check("nothing sent at the end", self.compare("a.ts", "b.ts", "--same-start"),
                    (0, f"{SAME} as a.ts"))
+        self.write_stream("a.ts", [*frames[:6], (174, blank), (175, blank)])
+        self.write_stream("b.ts", [*frames[:6], (176, blank)])
+        self.check("a change that --within allows after the end", self.compare(
+            "a.ts", "b.ts", "--same-start", "--within", "2"), (0, f"{SAME} as a.ts"))
         self.write_stream("a.ts", frames)
         self.write_stream("b.ts", frames, 2)
         self.check("no clock", self.compare("a.ts", "b.ts"), (3, "relative, same as a.ts"))

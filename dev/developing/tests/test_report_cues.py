@@ -196,7 +196,7 @@ class TextMarkup(Case):
                 ("abc", "abd", ("ab[c]", "ab[d]")), ("abc", "abc", ("abc", "abc")),
                 ("a b", "axxb", ("a[ ]b", "a[xx]b")), ("abcd", "abd", ("ab[c]d", "abd")),
                 ("", "abc", ("", "[abc]")), ("aXbYc", "a1b2c", ("a[X]b[Y]c", "a[1]b[2]c")),
-                ("aa", "a", ("a[a]", "a")), ("<a>", "<b>", ("&lt;[a]&gt;", "&lt;[b]&gt;"))):
+                ("xaab", "xab", ("xa[a]b", "xab")), ("<a>", "<b>", ("&lt;[a]&gt;", "&lt;[b]&gt;"))):
             reported = tuple(markup_text(item).replace("<mark>", "[").replace("</mark>", "]")
                              for item in mark_difference(first, second))
             self.check(f"{first} {second}", reported, expected)
