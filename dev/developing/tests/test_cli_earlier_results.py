@@ -14,7 +14,7 @@ from typing import Any, Callable, Iterator
 from unittest import mock
 
 from subtitles.cli import batch, collection
-from subtitles.cli.batch import FolderWatch, PairRunner, refuse_folders
+from subtitles.cli.batch import FolderWatch, PairRunner, is_reusable, refuse_folders
 from subtitles.cli.single import lock_pair
 from subtitles.common.command_line import Lateness, Stop
 from subtitles.common.program import ProgramInfo, describe_program
@@ -61,6 +61,10 @@ class CurrentResults(Case):
             path = self.write(f"other.{name}", b"other")
             other = dataclasses.replace(request, **{name: path})
             self.must(f"another {name}", not is_current(accepted_pair, other, PROGRAM))
+        item = BatchItem("one", request, None)
+        for verdict in ("accepted", "not judged"):
+            self.check(f"--resume keeps `{verdict}`", is_reusable(
+                {**accepted_pair, "verdict": verdict}, item, PROGRAM), verdict == "accepted")
         none = dataclasses.replace(request, severity=None)
         self.must("no severity", not is_current(accepted_pair, none, PROGRAM))
         names = {field.name for field in dataclasses.fields(request)}

@@ -211,6 +211,9 @@ class Installation(Case):
         for name, sums in (folder, "SHA256SUMS"), (self.folder, f"{path}.sha256"):
             process = self.call(["sha256sum", "--quiet", "-c", sums], folder=name)
             self.must(f"the sums in {sums}", process.status == 0, process)
+        names = re.findall(r"  (.+)", read(f"{path}.sha256") or "")
+        self.check("files with a sum beside the archive", names,
+                   [os.path.basename(path), os.path.basename(f"{path}.PROVED")])
         for name in os.path.join(folder, "PROVED"), f"{path}.PROVED":
             self.must(f"{name}: what was proved", read(name) == read(proved))
         check_installation(self, folder)

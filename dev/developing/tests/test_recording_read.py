@@ -156,9 +156,9 @@ class Messages(Case):
     def test_stores_the_extracted_pid(self) -> None:
         path = self.write_program(
             "program", '#!/bin/sh\nfor file; do :; done\necho "$3" >"$file"\n'
-            '[ "$3" != 0x103 ] || exit 2\n[ "$3" != 0x104 ]\n')
-        rows: list[tuple[int, bytes | None]] = [(FIRST_PID, b"0x101\n"), (THIRD_PID, None),
-                                                (0x104, b"0x104\n")]
+            '[ "$3" != 0x103 ] || exit 2\n[ "$3" != 0x102 ] || kill -9 $$\n[ "$3" != 0x104 ]\n')
+        rows: list[tuple[int, bytes | None]] = [(FIRST_PID, b"0x101\n"), (SECOND_PID, None),
+                                                (THIRD_PID, None), (0x104, b"0x104\n")]
         for pid, expected in rows:
             recording, result = read_recording(read_survey("size 188"), folder=self.folder), None
             recording.command_paths.program_path, recording.packets = path, Packets(pid)
