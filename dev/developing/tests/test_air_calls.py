@@ -165,6 +165,14 @@ class Calls(Feeds):
                             b"".join(frames))
         self.check("record", (process.status, process.told), (0, []))
 
+    def test_records_a_file(self) -> None:
+        self.write("feed.ts", b"feed")
+        process = self.call(["sh", "-c", 'exec "$0" record segments --free 0 <feed.ts',
+                             get_tool_path("air")])
+        names = os.listdir(self.path("segments"))
+        self.check("segments", (process.status, [self.read(f"segments/{name}") for name in names]),
+                   (0, [b"feed"]))
+
     def write_schedule_line(self, begin: float, *options: str) -> None:
         date = datetime.datetime.fromtimestamp(begin, datetime.timezone.utc)
         self.write_schedule(" ".join([f"{date:%Y-%m-%dT%H:%M:%SZ}", "one.stl", *options]))
@@ -261,3 +269,10 @@ class Calls(Feeds):
             with hold_lock(self.path(folder), name, ""):
                 process = self.tool(*line.split())
             self.must(line, process.status == 2 and ": another " in process.told[0], process)
+
+    def test_keeps_the_lock_that_another_call_holds_in_a_new_folder(self) -> None:
+        with hold_lock(self.path("new"), "state", ""):
+            name, = os.listdir(self.path("new"))
+            os.unlink(self.path(f"new/{name}"))
+            self.write(f"new/{name}", b"")
+        self.check("locks", os.listdir(self.path("new")), [name])

@@ -173,6 +173,11 @@ class Segments(AirCase):
             self.check(name, [f"{after - before:+.0f} at {begin - DAY:.0f}"
                               for begin, before, after in jumps][-1:], [expected] * bool(expected))
 
+    def test_takes_a_tdt_at_its_time_within_a_segment(self) -> None:
+        self.put_segment(0, 600, make_tdt(0) * 5 + make_tdt(500))
+        self.put_segment(620, 630, make_tdt(620))
+        self.check("jumps", find_clock_jumps(self.path("segments"), DAY)[0], [])
+
     def test_finds_the_segments_of_a_time_range(self) -> None:
         chance = random.Random(4)
         at, known = 0, []

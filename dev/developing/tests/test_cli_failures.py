@@ -281,11 +281,14 @@ class Bugs(CallCase):
                 self.check_bug_message(place, ValueError("odd"))
 
     def test_has_status_2_if_a_module_cannot_be_imported(self) -> None:
-        process = subprocess.run(
-            [sys.executable, "-c", "import sys; sys.path.insert(0, sys.argv[1]); "
-             "import subtitles; import subtitles.common.nothing", os.path.join(TOP, "tools")],
-            capture_output=True, encoding="utf-8", check=False)
-        self.assertEqual((process.returncode, len(process.stderr.splitlines())), (2, 1), process)
+        for ending, count in (("", 1), ("2>&-", 0), ("2>/dev/full", 0)):
+            process = subprocess.run(
+                ["sh", "-c", f'exec "$0" "$@" {ending}', sys.executable, "-c",
+                 "import sys; sys.path.insert(0, sys.argv[1]); import subtitles; "
+                 "import subtitles.common.nothing", os.path.join(TOP, "tools")],
+                capture_output=True, encoding="utf-8", check=False)
+            self.assertEqual((process.returncode, len(process.stderr.splitlines())), (2, count),
+                             process)
 
 
 if __name__ == "__main__":

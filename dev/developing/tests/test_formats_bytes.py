@@ -37,6 +37,7 @@ class Times(unittest.TestCase):
                               times.decode_time(code), times.decode_frame(code)),
                              (text, frame, code, text, frame), (frame, text))
         self.assertEqual(times.format_frame(DAY), "24:00:00:00")
+        self.assertEqual(times.format_seconds(93_549), "25:59:09")
         self.assertEqual(times.decode_time(bytes([24, 99, 255, 25])), "24:99:255:25")
         for text in ("24:00:00:00", "23:60:00:00", "23:59:60:00", "23:59:59:25", "", "1:00:00:00",
                      "00:00:00:000", "00:00:00:00\n", " 00:00:00:00", "00:00:00;00",

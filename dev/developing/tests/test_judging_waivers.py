@@ -73,6 +73,8 @@ class ParsedWaivers(Case):
             "a short day": (LINE.replace("01-31", "1-31"), "2027-1-31 is not a day"),
             "a folder": (LINE.replace("news", "in/news"), "without its folder"),
             "a short checksum": (LINE.replace("news.stl", "sha256:ab"), "ab is not a SHA-256"),
+            "a long checksum": (LINE.replace("news.stl", f"sha256:{SUM}0"),
+                                f"{SUM}0 is not a SHA-256"),
             **{f"fault {item}": (LINE.replace("72", f"{item}"), number) for item in (
                 *range(10, 26), *range(30, 46), *range(60, 64), 74, 76, 79)}}
         for name, (line, message) in rows.items():

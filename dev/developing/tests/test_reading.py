@@ -4,12 +4,13 @@ from __future__ import annotations
 import hashlib
 import json
 import os
+from types import SimpleNamespace
 from typing import Any
 
 from developing import TOOLS
 from developing.pes import decode_pts, encode_triplet, make_packet, make_pes_packet
 from subtitles.common.checks import CLOCK as CLOCK_KIND, OPTION, OUTSIDE, PHRASES
-from subtitles.common.times import CLOCK, FRAMES_OF_A_DAY, TICKS
+from subtitles.common.times import CLOCK, FRAMES_OF_A_DAY, Span, TICKS
 from subtitles.formats.layout import PLAIN, draw_text, make_page_rows
 from subtitles.formats.listing import NEVER_SENT, SUB_PAGES
 from subtitles.formats.stl_writer import StoredPage, make_gsi_block, store_page
@@ -17,7 +18,9 @@ from subtitles.formats.teletext import (
     CROATIAN, ENGLISH, FRENCH, GERMAN, OPTIONS, NationalOption)
 from subtitles.judging.cues import CERTAIN, NOT_CERTAIN
 from subtitles.judging.status import (
-    AS_SHOWN, CheckSummary, DIFFERS, Grounds, NOT_READ, SAME, Severity, WITH_FAULTS, decide_reading)
+    ACCEPTED, AS_SHOWN, CheckSummary, DIFFERS, Grounds, NOT_READ, SAME, Severity, WITH_FAULTS,
+    decide_reading)
+from subtitles.reading.judge import is_trusted
 from subtitles.recording.dates import find_date
 from subtitles.reading.received import (
     ShownPage, choose_header_option, choose_language, find_likely_errors, find_recorded_day,
@@ -200,6 +203,13 @@ class ReceivedPages(Case):
 
 
 class Decisions(Case):
+    def test_trusts_no_frame_of_a_loss_without_a_mark(self) -> None:
+        part: Any = SimpleNamespace(check_output=SimpleNamespace(verdict=ACCEPTED),
+                                    unmarked_losses=[Span(10, 12), Span(99, 99)])
+        reading: Any = SimpleNamespace(first=5, last=200)
+        self.check("frames", [frame for frame in range(300)
+                              if not is_trusted(part, reading, frame)], [10, 11, 12, 99])
+
     def test_decides_the_verdict(self) -> None:
         accepted, cut = CheckSummary(0, True), CheckSummary(1, False, 1, 1, {74})
         grounds = Grounds([accepted], Severity(None), has_clock=True)

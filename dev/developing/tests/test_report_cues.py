@@ -49,6 +49,7 @@ class ActualCues(Case):
         for name, cause, changes, expected in (
                 ("right", None, [(100, item), (200, two)], (100, 200)),
                 ("late", late, [(107, item), (207, two)], (107, 207)),
+                ("late within the limit", None, [(103, item), (203, two)], (103, 203)),
                 ("wrong text", text, [(101, wrong), (199, two)], (101, 199)),
                 ("never sent", never, [(0, blank), (200, two)], (None, None)),
                 ("damaged", None, [(100, item), (150, wrong), (200, two)], (100, 200)),
@@ -58,7 +59,8 @@ class ActualCues(Case):
             subtitles = [Subtitle(1, 1, 100, 200, 20, 2, b""), Subtitle(2, 2, 200, 300, 20, 2, b"")]
             decoded = make_timeline_of_pages(*changes)
             decoded_times = add_decoded_page(Cue(subtitles[0], item, cause), 0,
-                                             ExpectedPages(subtitles, [item, two]), decoded, 0)
+                                             ExpectedPages(subtitles, [item, two]), decoded,
+                                             (expected[0] or 100) - 100)
             self.check(name, (decoded_times.begin, decoded_times.end), expected)
             self.must(f"{name}: late", decoded_times.delay_in == (
                 None if expected[0] is None else expected[0] - 100), decoded_times.delay_in)

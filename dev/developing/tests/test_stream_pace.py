@@ -88,6 +88,8 @@ TABLE = [
     Row("no PES packet is read", [], TOO_FEW), Row("a row without PES packets", [[]], TOO_FEW),
     Row("one PES packet", [[7]], TOO_FEW), Row("99 intervals, one too few", [range(100)], TOO_FEW),
     make_regular_pace_row("100 intervals", range(101)),
+    Row("two PES packets between two others", [sorted({*range(0, 3000, 10), 1003, 1006})], REGULAR,
+        22, hidden=3),
     make_regular_pace_row("nine rows, between eight losses",
                           *[range(50 * at, 50 * at + 40) for at in range(9)]),
     Row("rows of three PES packets", [range(50 * at, 50 * at + 3) for at in range(99)], TOO_FEW),

@@ -268,7 +268,7 @@ class StepsBack(Case):
             "forward": ([(10, 3, 1), (13, 2, 5)], None),
             "to the same frame": ([(10, 3, 1), (12, 1, 0)], None),
             "by two frames": ([(10, 3, 1), (10, 2, 1)], (3, 12, 2 * TICKS)),
-            "within a run": ([(12, 2, 1), (20, 3, -4)], (3, 20, 4 * TICKS)),
+            "within a run": ([(12, 2, 1), (20, 2, -4)], (3, 20, 4 * TICKS)),
             "before the programme": ([(5, 2, 1), (4, 1, 0), (30, 1, 0)], None),
             "from its last frame": ([(39, 1, 0), (20, 1, 0)], (1, 39, 19 * TICKS)),
             "after the programme": ([(40, 1, 0), (20, 1, 0)], None),
