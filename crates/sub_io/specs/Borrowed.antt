@@ -6,8 +6,8 @@ use Rattle.std.specs.Prelude.{◌≡◌, ◌≢◌, ℕ, List, [], ◌++◌, len
 abbrev pub no_borrowed_bytes : {D : Type 0} → D → List ℕ
 no_borrowed_bytes device = []
 
--- If bytes can be borrowed from the source, a pull returns the first of these bytes and does not
--- fail.
+-- If bytes can be borrowed from the source, a pull does not fail and returns a prefix of these
+-- bytes, possibly empty. The others can be borrowed after it.
 abbrev pub PullsBorrowed : {E : Type 0} → List ℕ → List ℕ → List ℕ → Result ℕ E → Type 0
 PullsBorrowed old new buffer result =
     old ≢ [] → MatchResult result (λ n. old ≡ take n buffer ++ new) (λ _. ⊥)

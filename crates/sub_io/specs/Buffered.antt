@@ -22,7 +22,7 @@ pub record BufferedSinkValue (D : Type 0) : Type 0 where
 abbrev pub failures_with_refused_calls : ℕ → ℕ → ℕ
 failures_with_refused_calls failures refused = min (failures + refused) 0xFFFF_FFFF_FFFF_FFFF
 
--- The buffer is empty in the new state, and no failure was counted since the old state. This does
+-- The buffer is empty in the new state, and the failure count is that of the old state. This does
 -- not say that the buffered bytes were written.
 pub record Flushes
     {D : Type 0} (failure_count : D → ℕ) (old new : BufferedSinkValue D)

@@ -14,7 +14,7 @@ pub record WriterValue (D : Type 0) : Type 0 where
   pub failure_count : ℕ
 
 -- The model of an output file: the writer (`None` after the file is closed), the bytes reported as
--- written, whether the system has stored them, and the number of failed calls.
+-- written, whether the system has reported them as stored, and the number of failed calls.
 pub record FileValue (D : Type 0) : Type 0 where
   pub device : Option D
   pub taken : List ℕ

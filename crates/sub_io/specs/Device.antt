@@ -1,15 +1,15 @@
 -- Specifies how a call changes the known bytes of a device and its failure count.
 --
 -- The known bytes are an `Option (List ℕ)`: the remaining bytes of a source, or the bytes written
--- to a sink. They are `None` if the contents of the device are unknown, as for a file. `Consumes`,
+-- to a sink. They are `None` if they are unknown, like the remaining bytes of a file. `Consumes`,
 -- `Appends`, `Keeps` and `IsAtEnd` are relations of std on such options; they are true for every
 -- call if the bytes are unknown.
 use Rattle.std.specs.Prelude.{◌≡◌, ℕ, ◌+◌, ◌<◌, ◌≤◌, List, [], ◌++◌, length, take, Option, Some}
 use Rattle.std.specs.Prelude.{Bool, false, Result, Ok, Err, MatchResult, is_ok, if◌then◌else◌}
 use Rattle.std.specs.Io.KnownBytes.{Appends, Consumes, IsAtEnd, Keeps}
 
--- The failure count of a device is below 2^64 - 1, so it can rise. Each call that may fail requires
--- this.
+-- The failure count of a device is below 2^64 - 1, so it can rise. Each call of a source or sink
+-- that may fail requires this.
 abbrev pub CanFail : ℕ → Type 0
 CanFail count = count < 0xFFFF_FFFF_FFFF_FFFF
 
@@ -33,8 +33,8 @@ abbrev pub CountsFailureIf : {D : Type 0} → (D → ℕ) → D → Bool → D �
 CountsFailureIf failure_count old has_failed new =
     CountRisesIf (failure_count old) has_failed (failure_count new)
 
--- The effect of a pull. `Ok n`: n bytes of the source were consumed and are at the front of the
--- buffer. `Ok 0` with a nonempty buffer: the source is at its end. `Err`: no bytes were consumed.
+-- The effect of a pull. `Ok n`: the first n bytes of the buffer were consumed from the source.
+-- `Ok 0` with a nonempty buffer: the source is at its end. `Err`: no bytes were consumed.
 abbrev pub Pulls : {E : Type 0}
     → Option (List ℕ) → Option (List ℕ) → List ℕ → Result ℕ E → Type 0
 Pulls old new buffer result =
@@ -63,8 +63,8 @@ pub record Fills
   pub bytes : Consumes old new (take n buffer)
   pub end : n < length buffer → IsAtEnd new
 
--- The first n of the known bytes of a source are at the front of the buffer, and the other bytes
--- remain in the source.
+-- The known bytes of a source are the first n bytes of the buffer and the bytes that remain in the
+-- source. If n is less than the size of the buffer, no bytes remain.
 pub record FillsFromKnown
     (bytes : List ℕ) (n : ℕ) (new : Option (List ℕ)) (buffer : List ℕ) : Type 0 where
   pub rest : List ℕ

@@ -3,8 +3,8 @@ use Rattle.std.specs.Prelude.{◌≡◌, ◌⊎◌, ℕ, List, Bool, true, false
 use Rattle.sub_io.specs.Reporting.{Reports}
 
 -- The law of a report sink that can flush. After a pending report is flushed, its item still counts
--- as reported. Flushing fails exactly if the sink has stopped. After each report, the sink buffers
--- bytes only if reports are pending.
+-- as reported. Flushing fails exactly if the sink has stopped after it. After each report, the sink
+-- buffers bytes only if reports are pending.
 pub record FlushKeepsReports
     {A D : Type 0} (IsReported : D → A → D → Type 0) (has_stopped has_pending_reports : D → Bool)
     (buffered : D → ℕ)

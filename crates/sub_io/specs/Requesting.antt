@@ -1,4 +1,5 @@
--- Limits how far a reader may read ahead: it requests no byte that it does not need.
+-- Limits how far a reader may read ahead: it requests no byte that it does not need, unless the
+-- source has buffered that byte.
 --
 -- The predicate `is_enough` is true for a list of the next bytes if the reader needs no more bytes
 -- than these.
@@ -18,10 +19,10 @@ abbrev pub IsEnoughAfterReading : List ℕ → (List ℕ → Bool) → (List ℕ
 IsEnoughAfterReading taken old new =
     (bytes : List ℕ) → old (taken ++ bytes) ≡ true → new bytes ≡ true
 
--- Calls of a source that request no more bytes than the reader needs. The arguments are the
--- predicate `is_enough` and the source before the calls, whether all calls succeeded, and the
--- predicate and the source after them. A failed call is the last call. After the end of the source,
--- any call is allowed.
+-- Calls of a source that request no more bytes than the reader needs or the source has buffered.
+-- The arguments are the predicate `is_enough` and the source before the calls, whether all calls
+-- succeeded, and the predicate and the source after them. A failed call is the last call. If a call
+-- finds the end of the source, any calls, results and state may follow it.
 pub data Requests {D : Type 0} (IsPull : D → ℕ → Option ℕ → D → Type 0) (borrowed : D → List ℕ)
     (remaining : D → Option (List ℕ))
     : (List ℕ → Bool) → D → Bool → (List ℕ → Bool) → D → Type 0 where
@@ -44,7 +45,7 @@ pub data Requests {D : Type 0} (IsPull : D → ℕ → Option ℕ → D → Type
       → MayRequest old (borrowed before) count
       → IsPull before count None after
       → Requests IsPull borrowed remaining old before false new after
-  -- The first call found the end of the source. Any calls may follow it.
+  -- The first call found the end of the source. Any calls may follow it, with any result.
   asks_at_end :
       (old new : List ℕ → Bool) (before mid after : D) (count : ℕ) (ok : Bool)
       → 0 < count

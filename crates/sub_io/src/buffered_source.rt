@@ -64,7 +64,7 @@ impl<'a, S: Source> BufferedSource<'a, S> {
         inner
     }
 
-    // Fills the empty buffer by one call of the inner source.
+    // Reads bytes into the empty buffer by one call of the inner source.
     #[tactic(auto, using(crate::proofs::BufferLemmas::empty_range_stays_empty))]
     fn refill(&mut self) -> Result<(), Failed>
         requires empty { self.old.buffered ≡ [] }
@@ -146,8 +146,8 @@ impl<S: Source> Source for BufferedSource<'_, S> {
             (S.remaining self.old.device) (S.remaining self.new.device)
             (take n to.new ++ self.new.buffered)) }
         ensures err { OnErr result ((self.old.buffered ≡ []) × (self.new.buffered ≡ [])) }
-        // A pull of at least the buffer's size bypasses the buffer. After a pull, bytes are left in
-        // the buffer only if `to` was filled.
+        // If the buffer is empty, a pull of at least its size bypasses it. After a pull, bytes are
+        // left in the buffer only if `to` was filled.
         ensures reads_device_directly { self.old.buffered ≡ [] → self.old.room ≤ length to.old →
             self.new.buffered ≡ [] }
         ensures full { IfOk result (λ n. n < length to.old → self.new.buffered ≡ []) }

@@ -1,4 +1,4 @@
-//! Sinks whose bytes can be stored permanently, and that are closed before they are dropped.
+//! Sinks whose bytes can be stored permanently, and that can be closed before they are dropped.
 //!
 //! A network disk may report that a file is lost only when the file is closed, and std ignores the
 //! result of closing a file. So a command stores and closes its output file before it prints its
@@ -68,11 +68,12 @@ impl<T: Drop> Release for T {
     fn release(self) {}
 }
 
-/// A sink, such as a file, whose bytes can be stored permanently, and that is closed before it is
-/// dropped.
+/// A sink, such as a file, whose bytes can be stored permanently, and that can be closed before it
+/// is dropped.
 pub trait Close: Flush {
-    // Whether the system has stored all bytes written so far. Always true for sinks that need no
-    // storing, such as memory.
+    // Whether the system has reported that all bytes that reached the device are stored. Bytes in a
+    // buffer of the sink are not counted. Always true for sinks that need no storing, such as
+    // memory.
     ghost is_stored: { Self → Bool };
 
     // Whether the sink is closed. Always true for sinks that need no closing, such as memory.
@@ -97,8 +98,8 @@ pub trait Close: Flush {
         ensures count { CountsFailure (Self.failure_count self.old) result
             (Self.failure_count self.new) };
 
-    /// Closes the sink: drops the underlying writer in its current state and writes nothing more.
-    /// Errors of closing are ignored.
+    /// Closes the sink: drops its writer, if it has one, in the current state, and writes nothing
+    /// more. Errors of closing are ignored.
     fn close(&mut self)
         ensures call { is_close self.old self.new }
         ensures closed { is_closed self.new ≡ true }

@@ -89,7 +89,8 @@ impl<S: Source> Source for FailAt<S> {
         requires { CanFail (failures_with_injected self.old.left
             (S.failure_count self.old.device)) }
 
-        // The failing call does nothing, every other call is forwarded, and all calls are counted.
+        // The failing call does nothing, and every other call is forwarded. The countdown includes
+        // each call up to the failing call.
         ensures fails { fails_next self.old.left ≡ true →
             IsErr result × (self.new.device ≡ self.old.device) × (to.new ≡ to.old) }
         ensures forwarded { fails_next self.old.left ≡ false → CountsFailure
@@ -140,7 +141,8 @@ impl<K: Sink> Sink for FailAt<K> {
         requires count { CanFail
             (failures_with_injected self.old.left (K.failure_count self.old.device)) }
 
-        // The failing call does nothing, every other call is forwarded, and all calls are counted.
+        // The failing call does nothing, and every other call is forwarded. The countdown includes
+        // each call up to the failing call.
         ensures fails { fails_next self.old.left ≡ true →
             IsErr result × (self.new.device ≡ self.old.device) }
         ensures forwarded { fails_next self.old.left ≡ false → CountsFailure
@@ -182,7 +184,8 @@ impl<K: Flush> Flush for FailAt<K> {
         requires { CanFail (failures_with_injected self.old.left
             (K.failure_count self.old.device)) }
 
-        // The failing call does nothing, every other call is forwarded, and all calls are counted.
+        // The failing call does nothing, and every other call is forwarded. The countdown includes
+        // each call up to the failing call.
         ensures fails { fails_next self.old.left ≡ true →
             IsErr result × (self.new.device ≡ self.old.device) }
         ensures forwarded { fails_next self.old.left ≡ false → CountsFailure
@@ -220,7 +223,8 @@ impl<K: Close> Close for FailAt<K> {
         requires { CanFail (failures_with_injected self.old.left
             (K.failure_count self.old.device)) }
 
-        // The failing call does nothing, every other call is forwarded, and all calls are counted.
+        // The failing call does nothing, and every other call is forwarded. The countdown includes
+        // each call up to the failing call.
         ensures fails { fails_next self.old.left ≡ true →
             IsErr result × (self.new.device ≡ self.old.device) }
         ensures forwarded { fails_next self.old.left ≡ false → CountsFailure

@@ -4,8 +4,8 @@ ghost use Rattle.sub_io.specs.FaultCode.{fault_code};
 
 use std::marker::Model;
 
-/// The number and the name of a fault in reports. Each fault type returns the code of a fault by
-/// its method `code`.
+/// The number and the name of a fault in reports. The types of reported faults return it by a
+/// method `code`.
 ///
 /// Its model is a `FaultCodeValue`.
 #[derive(Drop)]
@@ -22,12 +22,12 @@ impl Model for FaultCode {
 
     ghost view = { λ c. record { number = c.number; name = c.name.now } };
 
-    // A name has at most 16 characters, which limits the length of fault lines.
+    // A name has at most 16 bytes, which limits the length of fault lines.
     ghost invariant = { λ c. length c.name.now ≤ 16 };
 }
 
 impl FaultCode {
-    /// Creates a code with this number and a name of at most 16 characters.
+    /// Creates a code with this number and a name of at most 16 bytes.
     pub fn new(number: u8, name: &'static str) -> FaultCode
         requires { length name.now ≤ 16 }
         ensures { result ≡ fault_code number name.now }
@@ -42,7 +42,7 @@ impl FaultCode {
         self.number
     }
 
-    /// Returns the name of the fault, at most 16 characters.
+    /// Returns the name of the fault, at most 16 bytes.
     pub fn name(&self) -> &'static str
         ensures value { result.now ≡ self.now.name }
         ensures len { length result.now ≤ 16 }

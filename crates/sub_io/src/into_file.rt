@@ -1,4 +1,4 @@
-//! An output file that can be stored permanently, and is closed before it is dropped.
+//! An output file that can be stored permanently, and closed before it is dropped.
 
 ghost use Rattle.std.specs.Prelude.{◌≡◌, ◌+◌, ◌<◌, ◌≤◌, IfOk, IfSome, IsErr, None, OnOk, Option};
 ghost use Rattle.std.specs.Prelude.{Some, [], false, is_none, length, true};
@@ -13,13 +13,13 @@ use std::io::Write;
 use std::marker::Model;
 
 /// A sink over a std writer, such as a file, whose bytes can be stored permanently, and that can be
-/// closed. Each push calls `write` once.
+/// closed. Each push before `close` calls `write` once.
 ///
 /// Every error of the writer is a failure, including `Interrupted`. A write of 0 bytes, a `store`
 /// that loses bytes, and each push, flush and store after `close` are failures too.
 ///
 /// Its model has the writer (until it is closed), the bytes that the writer reported as written,
-/// whether they are stored, and the failure count.
+/// whether they were reported as stored, and the failure count.
 #[derive(Drop)]
 pub struct IntoFile<W> {
     inner: Option<W>,

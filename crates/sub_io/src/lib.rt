@@ -1,8 +1,8 @@
 //! Devices that read and write bytes, and count their failures.
 //!
-//! The lowest crate of `subttx`. All other crates read and write files only through these traits.
-//! Their contracts state which bytes a device read or wrote if its contents are known, and how many
-//! of its calls failed.
+//! Uses no other crate of `subttx`. The other crates read and write files only through these
+//! traits. Their contracts state which bytes a device read or wrote if its contents are known, and
+//! how many of its calls failed.
 //!
 //! ```
 //! let mut source = MemSource::new(b"EBU STL");
@@ -15,7 +15,7 @@
 //!
 //! - `Source` and `Sink` are the traits of input and output devices; use `fill` and `put_all` to
 //!   read and write. `Flush` is a sink that may buffer bytes. `Close` is a sink whose bytes can be
-//!   stored (`Store`), and that is closed by dropping (`Release`) the underlying writer.
+//!   stored (`Store`), and that can be closed: this drops (`Release`) its writer, if it has one.
 //! - `MemSource` and `MemSink` are devices over memory; `FromRead`, `IntoWrite` and `IntoFile` are
 //!   devices over std.
 //! - `BufferedSource` and `BufferedSink` add a buffer to another device, so that fewer calls reach

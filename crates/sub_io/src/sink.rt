@@ -43,7 +43,7 @@ pub trait Sink {
 
 /// A sink that may buffer written bytes, such as `BufferedSink`.
 ///
-/// So a write error may be reported only by a later push, or by `flush`.
+/// So a write error may be reported only by a later call.
 pub trait Flush: Sink {
     // The number of bytes that are still buffered.
     ghost buffered: { Self → ℕ };

@@ -10,9 +10,9 @@ ghost use Rattle.sub_io.specs.Device.{FillsFromKnown};
 ghost use Rattle.sub_io.specs.Borrowed.{AreBorrowedPrefix, PullsBorrowed, no_borrowed_bytes};
 ghost use Rattle.sub_io.specs.Reading.{AreBytes, AreNextBytes, IfKnown};
 
-/// The error of a failed call of a source or sink. A failed `pull` or `push` has transferred no
-/// bytes. A failed `fill`, `put_all`, `flush` or `store` may have transferred some bytes before its
-/// failure.
+/// The error of a failed call of a source or sink. A failed `pull` has returned no bytes, and a
+/// failed `push` has taken none. A failed `fill`, `put_all`, `flush` or `store` may have
+/// transferred some bytes before its failure.
 #[derive(Clone, Copy, Debug, PartialEq, Eq)]
 pub struct Failed;
 
