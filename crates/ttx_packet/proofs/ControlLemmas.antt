@@ -24,7 +24,7 @@ join_bits n =
     + 0x80 * nibble (is_bit_set_in n 0x80) (is_bit_set_in n 0x100) (is_bit_set_in n 0x200)
     (is_bit_set_in n 0x400)
 
--- Each number below 2048 equals the sum of its eleven bits, checked by computation.
+-- Each number below 2048 equals the sum of the values of its eleven bits, checked by computation.
 pub joined_bits_restore_control : (n : ℕ) → n < 0x800 → join_bits n ≡ n
 joined_bits_restore_control n small =
     eqb-true _ _ (agree_below_at (λ n. join_bits n == n) (λ n. true) 0x800 n refl small)

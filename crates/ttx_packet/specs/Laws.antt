@@ -59,9 +59,9 @@ pub record IsEncodedHeader (magazine : ℕ) (h : Header) (packet : List ℕ) : T
   pub exact : HasExactCodeWords packet
   pub odd : HasOddParityHeaderText packet
 
--- Decoding a packet that was created from a header returns that header, if a page header can carry
--- all its bits (`IsEncodableHeader`). The coded bytes are code words, and the text bytes have odd
--- parity.
+-- Decoding a packet that was created from a magazine, 0 to 7, and a header returns both, if a page
+-- header can carry all bits of the header (`IsEncodableHeader`). The coded bytes are code words,
+-- and the text bytes have odd parity.
 abbrev pub LawOfHeaderPacket : Type 0
 LawOfHeaderPacket =
     (magazine : ℕ) (h : Header)
@@ -81,7 +81,8 @@ pub record IsEncodedRow (magazine row : ℕ) (codes packet : List ℕ) : Type 0 
       → character_code (text_byte packet column) ≡ slice_index codes column
   pub odd : HasOddParityText packet
 
--- Decoding a created row packet returns the original row number and character codes.
+-- Decoding a packet that was created from a magazine, 0 to 7, a row number, 1 to 31, and 40
+-- character codes below 128 returns all of them, and its text bytes have odd parity.
 abbrev pub LawOfRowPacket : Type 0
 LawOfRowPacket =
     (magazine row : ℕ) (codes : List ℕ)

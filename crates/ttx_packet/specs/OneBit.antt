@@ -1,5 +1,5 @@
--- The noise model of all laws in this product: at most one wrong bit in each byte (not defined by a
--- standard).
+-- The noise model of the laws about wrong bits: at most one wrong bit in each byte (not defined by
+-- a standard).
 use Rattle.std.specs.Prelude.{◌≡◌, ℕ, zero, suc, ◌^◌, ◌<◌, ◌⊎◌, Bool, ◌||◌, List, Option, Some}
 use Rattle.std.specs.Prelude.{None, is_some, ◌==◌, if◌then◌else◌, bit_xor}
 use Rattle.std.specs.List.{AllZip}

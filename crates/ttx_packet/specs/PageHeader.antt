@@ -171,7 +171,7 @@ encodable_header h = record {
 }
 
 -- A packet X/0 can carry the page header: the page number has two hexadecimal digits, the sub-code
--- has no bit outside 3F7F, and only the control bits C4 to C14 are set.
+-- has no bit outside 3F7F, and no control bit other than C4 to C14 is set.
 pub record IsEncodableHeader (h : Header) : Type 0 where
   pub page : h.page < 0x100
   pub subcode : h.subcode < 0x4000

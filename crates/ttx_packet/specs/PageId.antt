@@ -1,5 +1,5 @@
 -- Page numbers as users type them (EN 300 706, page number): a magazine digit 1 to 8 and two
--- hexadecimal digits, 100 to 8FE.
+-- hexadecimal digits other than FF, such as 888.
 use Rattle.std.specs.Prelude.{ℕ, ◌+◌, ◌-◌, ◌*◌, ◌%◌, Bool, ◌&&◌, List, [], ◌∷◌, Option, Some, None}
 use Rattle.std.specs.Prelude.{◌==◌, nat_le, if◌then◌else◌, not}
 use Rattle.ttx_packet.specs.PacketAddress.{◌>>=◌}

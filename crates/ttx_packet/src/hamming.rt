@@ -38,8 +38,8 @@ const DECODED: [u8; 256] = [
 
 /// Decodes a Hamming 8/4 byte and corrects one wrong bit (EN 300 706, 8.2).
 ///
-/// Returns `None` for the 112 bytes that differ in two bits from the nearest code words. `is_word`
-/// tells whether a bit was corrected.
+/// Returns `None` for the 112 bytes that differ in two bits from the nearest code words. For any
+/// other byte, a bit was corrected unless `is_word` is true.
 pub fn unham(byte: u8) -> Option<u8>
     ensures value { result ≡ decoded_nibble byte }
     ensures decodes { (n : ℕ) → (result ≡ Some n) ↔ Decodes byte n }

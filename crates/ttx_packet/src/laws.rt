@@ -35,14 +35,15 @@ pub fn law_of_mirror()
     ensures { LawOfMirror }
 {}
 
-/// Decoding a packet that was created from a header returns that header, if a page header can carry
-/// all its bits. The coded bytes are code words, and the text bytes have odd parity.
+/// Decoding a packet that was created from a magazine, 0 to 7, and a header returns both, if a page
+/// header can carry all bits of the header. The coded bytes are code words, and the text bytes have
+/// odd parity.
 pub fn law_of_header_packet()
     ensures { LawOfHeaderPacket }
 {}
 
-/// Decoding a created row packet returns the original row number and character codes, and its text
-/// bytes have odd parity.
+/// Decoding a packet that was created from a magazine, 0 to 7, a row number, 1 to 31, and 40
+/// character codes below 128 returns all of them, and its text bytes have odd parity.
 pub fn law_of_row_packet()
     ensures { LawOfRowPacket }
 {}

@@ -60,7 +60,7 @@ impl Packet {
     }
 
     /// Returns the 40 data bytes, which follow the address. In a row packet, each data byte is the
-    /// character of one column.
+    /// text byte of one column.
     pub fn data(&self) -> &[u8; 40]
         ensures { result.now ≡ drop 2 self.now }
     {

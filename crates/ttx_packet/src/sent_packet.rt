@@ -14,8 +14,8 @@ use std::marker::Model;
 const NO_CODE_WORD: u32 = 256;
 
 /// The number that each byte encodes as a Hamming 8/4 code word, if the bit that is sent first is
-/// the highest bit of the byte. The table was generated from the code words; the proof compares it
-/// with the definition for all 256 bytes.
+/// the highest bit of the byte; `NO_CODE_WORD` if the byte is no code word. The table was generated
+/// from the code words; the proof compares it with the definition for all 256 bytes.
 #[rattlefmt::skip]
 const SENT_WORDS: [u16; 256] = [
     256, 256, 256, 256, 256, 256, 256, 256, 256, 256, 256,   8, 256, 256, 256, 256,
@@ -67,8 +67,8 @@ fn decode_sent_byte(byte: u8) -> Option<u8>
 /// is the highest bit of a byte (EN 300 472, data field syntax).
 ///
 /// Its model is the packet in Teletext bit order. Most packets of a service belong to other pages,
-/// which their first bytes show. So only the first bytes are decoded, by a table, and the bits of
-/// the other bytes are not reversed.
+/// which their first bytes show. So the methods other than `packet` decode only the first bytes, by
+/// a table, and do not reverse the bits of the other bytes.
 #[derive(Drop)]
 pub struct SentPacket<'a> {
     bytes: &'a [u8; 42],
