@@ -1,5 +1,5 @@
--- Receivers that drop rows with a byte of even parity. A dropped row has the same effect as a lost
--- row.
+-- Receivers that drop rows with a data byte of even parity. A dropped row has the same effect as a
+-- lost row.
 use Rattle.std.specs.Prelude.{◌↔◌, ℕ, ◌<◌, not, List}
 use Rattle.std.specs.List.{filter}
 use Rattle.ttx_packet.specs.PageId.{PageIdValue}
@@ -7,8 +7,8 @@ use Rattle.ttx_page.specs.Receiver.{HearsBy, ReceiverClass, State, Hears, is_row
 use Rattle.ttx_page.specs.Receiver.ReceiverClass.{Dropping, Storing}
 use Rattle.ttx_page.specs.Screen.{Display, Shows, ShowsBy}
 
--- The packets of a list, without the rows that a receiver of page w drops because of a byte of even
--- parity.
+-- The packets of a list, without the rows that a receiver of page w drops because of a data byte of
+-- even parity.
 abbrev pub without_dropped_packets : PageIdValue → List (List ℕ) → List (List ℕ)
 without_dropped_packets w packets =
     filter (λ packet. not (is_row_with_even_parity w packet)) packets

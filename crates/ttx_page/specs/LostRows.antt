@@ -15,11 +15,12 @@ use Rattle.ttx_page.specs.Receiver.{HearsBy, ReceiverClass, State}
 use Rattle.ttx_page.specs.Shown.{IsHit}
 use Rattle.ttx_page.specs.Span.{span}
 
--- The packet is not a page header, X/0, so the laws allow that it is lost.
+-- The packet's address does not decode to that of a page header, X/0, so the laws allow that the
+-- packet is lost.
 abbrev pub MayBeLost : List ℕ → Type 0
 MayBeLost packet = (a : PacketAddress) → address packet ≡ Some a → a.packet_number ≢ 0
 
--- If the packet did not arrive, it is not a page header. `arrives` is true if the packet arrived.
+-- If the packet did not arrive, `MayBeLost` is true for it. `arrives` is true if it arrived.
 abbrev pub LosesNoHeader : List ℕ → Bool → Type 0
 LosesNoHeader sent arrives = IsFalse arrives → MayBeLost sent
 
@@ -47,7 +48,7 @@ IsHitOrLost w sent arrivals row column =
 -- The law of noise if packets other than page headers may be lost, and the packets that arrive have
 -- at most one wrong bit in each byte. A cell of a lost row counts as hit. In receivers that drop
 -- rows, one hit byte counts as a hit of all cells of its row. So noise never puts a wrong character
--- into the decoded page, even if packets are lost.
+-- other than a space into the decoded page, even if packets are lost.
 abbrev pub LawOfLostRows : Type 0
 LawOfLostRows =
     (class : ReceiverClass) (w : PageIdValue) (sent : List (List ℕ)) (arrived : List Bool)

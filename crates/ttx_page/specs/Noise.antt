@@ -39,13 +39,13 @@ HaveSameCodesIfSameRow w first second =
 
 -- The sent packets are well-formed, as the law of noise requires.
 pub record IsSound (w : PageIdValue) (sent : List (List ℕ)) : Type 0 where
-  -- Addresses and page headers consist of code words.
+  -- The address bytes and the coded bytes of page headers are code words.
   pub exact : All HasExactCodeWords sent
   -- Each header of the page has C4, erase page, set.
   pub erases : All (ErasesPageIfHeader w) sent
-  -- Each row packet in the last transmission of the page has 40 bytes of odd parity.
+  -- Each packet of a row of the page in its last transmission has 40 data bytes of odd parity.
   pub odd : All (HasOddParityTextIfRow w) (span (kind w) sent)
-  -- Two packets of the same row in the last transmission of the page have the same character codes.
+  -- Two packets of the same row of the page in its last transmission have the same character codes.
   pub same : All (λ first. All (HaveSameCodesIfSameRow w first) (span (kind w) sent))
       (span (kind w) sent)
 
@@ -56,8 +56,8 @@ pub record EndsWithShownText
     : Type 0 where
   -- The receiver has received a header of the page exactly if the packets contain one.
   pub heard : new.heard ≡ has_page_header (kind w) sent
-  -- The page is open exactly if the packets contain a header of the page and no later header ends
-  -- it.
+  -- The page is open exactly if the packets contain a header of the page and no header after the
+  -- last one ends it.
   pub is_open : new.is_open ≡ is_open_after (kind w) sent
   -- If a header of the page was received, each cell has the code that the packets show, or it is a
   -- space and `IsExcused` is true for it.
@@ -71,7 +71,7 @@ pub record EndsWithShownText
 -- The law of noise, for well-formed packets with at most one wrong bit in each byte and every
 -- receiver that had received no header of the page before and whose page was not open. If a header
 -- of the page was sent, each cell has the code that the packets show, or it is a space and noise
--- hit it. So noise never puts a wrong character into the decoded page.
+-- hit it. So noise never puts a wrong character other than a space into the decoded page.
 abbrev pub LawOfNoise : Type 0
 LawOfNoise =
     (w : PageIdValue) (sent got : List (List ℕ)) (old new : State)

@@ -19,7 +19,7 @@ blank_row = replicate 40 space
 unfoldable pub blank : Rows
 blank = replicate 24 blank_row
 
--- The 40 codes of a row, 1 to 24.
+-- The codes of a row, 1 to 24. Empty if the list has no such row.
 abbrev pub row_at : Rows → ℕ → List ℕ
 row_at page row = slice_index_or page (row - 1) []
 

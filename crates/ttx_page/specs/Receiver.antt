@@ -32,7 +32,8 @@ StoresByte byte old new =
     (IsTrue (is_odd byte) → new ≡ character_code byte)
     × (IsFalse (is_odd byte) → (new ≡ old) ⊎ (new ≡ space))
 
--- The text of the packet is stored in row y of the page; the other rows do not change.
+-- Each text byte of the packet is stored in row y of the page as `StoresByte` allows; the other
+-- rows do not change.
 abbrev pub StoresRow : List ℕ → ℕ → Rows → Rows → Type 0
 StoresRow packet y old new =
     (row column : ℕ)
@@ -102,8 +103,8 @@ HearsLeaving leaves w old packets new = RunsBy (StepLeaving leaves w) old packet
 
 -- ---- two classes of receivers
 
--- The two classes of receivers in the laws: receivers that store the bytes of odd parity of each
--- row, and receivers that drop a row with a byte of even parity.
+-- The two classes of receivers in the laws: receivers that store the data bytes of odd parity of
+-- each row, and receivers that drop a row with a data byte of even parity.
 pub data ReceiverClass : Type 0 where
   Storing : ReceiverClass
   Dropping : ReceiverClass

@@ -103,19 +103,19 @@ HasCodesIfRow w text packet =
 pub record SendsOnlyRowsOfText
     (keeps : Bool) (w : PageIdValue) (sent : List (List ℕ)) (text : ℕ → ℕ → ℕ)
     : Type 0 where
-  -- Addresses and page headers consist of code words.
+  -- The address bytes and the coded bytes of page headers are code words.
   pub exact : All HasExactCodeWords sent
   -- If repeats must not keep earlier text, each header of the page has C4, erase page, set.
   pub erases : IsFalse keeps → All (ErasesPageIfHeader w) sent
-  -- Each row packet in the transmissions of the current text has 40 bytes of odd parity, and the
-  -- codes of the text.
+  -- Each packet of a row of the page in the transmissions of the current text has 40 data bytes of
+  -- odd parity, and the codes of the text.
   pub odd : All (HasOddParityTextIfRow w) (text_span keeps (kind w) sent)
   pub codes : All (HasCodesIfRow w text) (text_span keeps (kind w) sent)
 
--- The packet may follow the earlier packets `before` (not defined by a standard). Its address and
--- page header are code words. If repeats must not keep earlier text, a header of the page has C4
--- set. A row sent while the page is open has bytes of odd parity and, if the current text sent this
--- row before, the codes that it had the first time.
+-- The packet may follow the earlier packets `before` (not defined by a standard). Its address bytes
+-- and the coded bytes of its page header are code words. If repeats must not keep earlier text, a
+-- header of the page has C4 set. A row of the page sent while the page is open has data bytes of
+-- odd parity and, if the current text sent this row before, the codes that it had the first time.
 pub record MayFollow
     (keeps : Bool) (w : PageIdValue) (before : List (List ℕ)) (packet : List ℕ)
     : Type 0 where
@@ -129,9 +129,10 @@ pub record MayFollow
       → column < 40
       → character_code (text_byte first column) ≡ character_code (text_byte packet column)
 
--- If a header of the page was sent, the page does not depend on its contents before these packets:
--- the receiver blanks it at each header, or the packets contain a header that starts a new text, or
--- it was blank and not open.
+-- The receiver blanks the page at each header of the page, or the packets contain a header that
+-- starts a new text, or the page was blank and not open. So, if the packets have the form that the
+-- law of repeats requires and a header of the page was sent, the page does not depend on its
+-- earlier contents.
 abbrev pub IsFresh : Bool → Bool → PageIdValue → List (List ℕ) → State → Type 0
 IsFresh keeps anew w sent old =
     IsTrue anew
@@ -152,7 +153,7 @@ pub record EndsAfterRepeats
   -- header of the page was sent.
   pub heard : new.heard ≡ (old.heard || has_page_header (kind w) sent)
   -- If a header of the page was sent, or the page was not open, the page is open exactly if a
-  -- header of the page was sent and no later header ended it.
+  -- header of the page was sent and no header after the last one ended it.
   pub is_open :
       IsTrue (has_page_header (kind w) sent || not old.is_open)
       → new.is_open ≡ is_open_after (kind w) sent
@@ -169,8 +170,9 @@ pub record EndsAfterRepeats
 
 -- The law of repeats: the final state of every receiver that may blank cells at a repeat, if
 -- packets other than page headers may be lost, and the packets that arrive have at most one wrong
--- bit in each byte. So, if the page does not depend on its earlier contents, it has no wrong
--- character, and a row that a repeat sends without loss or wrong bits is correct after the repeat.
+-- bit in each byte. So, if a header of the page was sent and the page does not depend on its
+-- earlier contents, it has no wrong character other than spaces, and a row that a repeat sends
+-- without loss or wrong bits is correct after the repeat.
 abbrev pub LawOfRepeats : Type 0
 LawOfRepeats =
     (keeps anew : Bool) (class : ReceiverClass) (w : PageIdValue) (sent : List (List ℕ))

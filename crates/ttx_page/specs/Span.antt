@@ -33,13 +33,14 @@ before_page_end kind_of (x ∷ xs) = if ends_page (kind_of x) then [] else x ∷
 abbrev pub span : {A : Type 0} → (A → PacketKind) → List A → List A
 span kind_of items = before_page_end kind_of (after_last_header kind_of items)
 
--- No header after the last header of the page ends the page.
+-- No header after the last header of the page ends the page. True if the list has no header of the
+-- page.
 abbrev pub has_no_page_end : {A : Type 0} → (A → PacketKind) → List A → Bool
 has_no_page_end kind_of items =
     not (list_any (λ x. ends_page (kind_of x)) (after_last_header kind_of items))
 
--- The items contain a header of the page, and no later header ends the page. So the page is open
--- after them, whatever was before.
+-- The items contain a header of the page, and no header after the last one ends the page. So the
+-- page is open after them, whatever was before.
 abbrev pub is_open_after : {A : Type 0} → (A → PacketKind) → List A → Bool
 is_open_after kind_of items = has_page_header kind_of items && has_no_page_end kind_of items
 

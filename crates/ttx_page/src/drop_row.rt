@@ -1,4 +1,4 @@
-//! A receiver that drops a row if one of its bytes has even parity.
+//! A receiver that drops a row if one of its 40 data bytes has even parity.
 ghost use Rattle.std.specs.Prelude.{◌≡◌, false};
 ghost use Rattle.ttx_page.specs.Receiver.{HearsBy, StepBy, is_row_with_even_parity};
 ghost use Rattle.ttx_page.specs.Receiver.ReceiverClass.{Dropping};
@@ -57,7 +57,7 @@ impl DropRow {
     }
 
     /// Returns whether the page is open, so that rows of its magazine are stored: a header of the
-    /// page was received, and no later header has ended it.
+    /// page was received, and no header after the last one has ended it.
     pub fn is_page_open(&self) -> bool
         ensures { result ≡ self.now.state.is_open }
     {
@@ -71,7 +71,8 @@ impl DropRow {
         &self.memory.page
     }
 
-    /// Receives a packet, unless it is a row of the page's magazine with a byte of even parity.
+    /// Receives a packet, unless it is a row of the page's magazine with a data byte of even
+    /// parity.
     pub fn hear(&mut self, packet: &Packet)
         ensures step { StepBy Dropping self.old.watched self.old.state packet.now self.new.state }
         ensures tuned { self.new.watched ≡ self.old.watched }
@@ -81,7 +82,7 @@ impl DropRow {
         }
     }
 
-    /// Receives all packets of the list, in order.
+    /// Passes each packet of the list to `hear`, in order.
     #[tactic(auto, using(crate::proofs::RunLemmas::run_extends_by_packet))]
     pub fn hear_all(&mut self, packets: &[Packet])
         ensures run { HearsBy Dropping self.old.watched self.old.state packets.now self.new.state }

@@ -12,7 +12,8 @@ ghost use Rattle.ttx_page.specs.Screen.{LawOfScreen};
 ghost use Rattle.ttx_page.specs.Span.{LawOfSpan};
 
 /// The span of a list is the last transmission of the page: all items after the last header of the
-/// page, in order, up to the first later header that ends the page, or to the end of the list.
+/// page, in order, up to the first later header that ends the page, or to the end of the list. It
+/// is empty if the list has no header of the page.
 ///
 /// The items `T` are packets, or packets with additional data.
 #[tactic(auto, using(crate::proofs::SpanPlaceLemmas::law_of_span))]
@@ -75,7 +76,8 @@ pub fn law_of_screen()
 /// The law of repeats, for well-formed packets of a page that is repeated without C4, erase page.
 /// At such a header a receiver may keep or blank each cell. After a header of the page, if no cell
 /// depends on the earlier contents of the page, each cell has the code of the text, or it is a
-/// space and noise or loss hit it, or the last transmission has no packet of its row.
+/// space, and noise or loss hit it (in a receiver that drops rows: any cell of its row) or the last
+/// transmission has no packet of its row.
 pub fn law_of_repeats()
     ensures { LawOfRepeats }
 {}

@@ -38,7 +38,7 @@ pub trait Receiver: Sized {
         ensures { result ≡ (state self.now).heard };
 
     /// Returns whether the page is open, so that rows of its magazine are stored: a header of the
-    /// page was received, and no later header has ended it.
+    /// page was received, and no header after the last one has ended it.
     fn is_page_open(&self) -> bool
         ensures { result ≡ (state self.now).is_open };
 

@@ -1,4 +1,4 @@
-//! The screen of a receiver, which displays a page when it is complete.
+//! The screen of a receiver, which displays a page when a later header has ended it.
 ghost use Rattle.std.specs.Prelude.{◌≡◌, Some};
 ghost use Rattle.ttx_page.specs.Receiver.{StoresForEvenParity, Step};
 ghost use Rattle.ttx_page.specs.Screen.{Shows, ShowsAt, ShowsWaiting, display, screen_after};
@@ -30,7 +30,7 @@ pub fn hear_and_show<R: Receiver>(receiver: &mut R, screen: &mut Option<Page>, p
     }
 }
 
-// Replaces the page on the screen.
+// Copies the page to the screen.
 fn copy_to_screen(screen: &mut Option<Page>, page: &Page)
     ensures { screen.new ≡ Some page.now }
 {
