@@ -57,7 +57,7 @@ HaveSameUnitHeaders a b =
     → HasSameUnitHeader a b (data_unit_size * k + 1)
 
 -- The number is the size of the data field, bytes 45 to the end, of a PES packet of n times 184
--- bytes, for any n from 1 on.
+-- bytes, for some n from 1 on.
 pub record IsDataFieldSize (count : ℕ) : Type 0 where
   pub long : 139 ≤ count
   pub whole : (count + 45) % payload_size ≡ 0
@@ -82,7 +82,8 @@ data_field_in_buffer count room = take count (drop 45 room)
 abbrev pub buffered_frame : List ℕ → BufferedPacketValue → PesValue
 buffered_frame field h = record { pts = h.pts; units = sent_units field h.places }
 
--- The parsed fields are those of the PES packet with this data field.
+-- The parsed fields agree with this data field, which may be empty: they have its size and the
+-- offsets of all its Teletext units. The units and the PTS fit in a `PesFrame`.
 pub record ArePacketFields (field : List ℕ) (h : BufferedPacketValue) : Type 0 where
   pub count : length field ≡ h.count
   pub short : h.count + 45 ≤ max_pes_packet_size

@@ -10,8 +10,8 @@ abbrev pub is_enough_for_size : ℕ → Result ℕ PesFault → Bool
 is_enough_for_size count (Ok size) = nat_le size count
 is_enough_for_size count (Err f) = true
 
--- The bytes suffice to read the PES packet at their front: they contain as many bytes as its length
--- field states, or six bytes with a wrong start code or length.
+-- The bytes suffice to read the PES packet at their front: they contain the complete packet, or six
+-- bytes with a wrong start code or length.
 unfoldable pub has_enough_for_packet : List ℕ → Bool
 has_enough_for_packet bytes = nat_le 6 (length bytes) && is_enough_for_size (length bytes)
     (size_at (take 6 bytes))

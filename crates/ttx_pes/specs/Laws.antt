@@ -20,7 +20,7 @@ use Rattle.ttx_pes.specs.declared.fault.PesFault.{PesFault}
 use Rattle.ttx_pes.specs.declared.fault.PesFault.TheVariants.{TooMany}
 
 -- A valid PES packet has only one value, and no valid packet is a proper prefix of another. So a
--- file splits into PES packets in only one way.
+-- file splits into valid PES packets in at most one way.
 abbrev pub LawOfOneValue : Type 0
 LawOfOneValue =
     (a b x y : List ℕ) (v w : PesValue)
@@ -38,7 +38,7 @@ LawOfPacketValue = (v : PesValue) (b : List ℕ) → IsValidPesPacket v b → Is
 abbrev pub LawOfCanonicalPacket : Type 0
 LawOfCanonicalPacket = (v : PesValue) → IsPesValue v → IsValidPesPacket v (canonical_packet v)
 
--- Reading a valid PES packet returns its value, whatever bytes follow. So a reader rejects nothing
+-- Reading a valid PES packet returns its value, whatever bytes follow. So parsing rejects nothing
 -- that matches the grammar.
 abbrev pub LawOfReading : Type 0
 LawOfReading =
@@ -81,7 +81,8 @@ LawOfReaderAnswers =
     × (answer_at given bytes ≡ Err TooMany → 0 < length bytes)
 
 -- Reading the bytes written for a frame returns that frame, and leaves the bytes that follow,
--- unless 2,160,000 packets were read before. So a schedule is read as it was written.
+-- unless 2,160,000 packets were read before. So a schedule of at most so many packets is read as it
+-- was written.
 abbrev pub LawOfReadingBack : Type 0
 LawOfReadingBack =
     (given : ℕ) (v : PesValue) (rest : List ℕ)

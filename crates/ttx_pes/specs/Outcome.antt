@@ -15,8 +15,8 @@ pub data PesOutcome : Type 0 where
   fails : PesFault → PesOutcome
   gives : PesValue → PesOutcome → PesOutcome
 
--- The result of reading up to the first rejected PES packet. If no packet is rejected, `left` is
--- the fault of the bytes after the last packet, or `None`.
+-- The result of reading up to the first rejected PES packet. If no packet is rejected, it ends with
+-- `left`, the fault of the bytes after the last packet, or, for `None`, with the end of the file.
 abbrev pub outcome_until_refusal : List (Result PesValue PesFault) → Option PesFault → PesOutcome
 outcome_until_refusal [] None = ends
 outcome_until_refusal [] (Some f) = fails f
@@ -29,7 +29,8 @@ outcome_after given bytes =
     let value = pes_packets_after given bytes in outcome_until_refusal value.pes_packets value.left
 
 -- The PES packets of the result were consumed from a source. If the source failed, it failed within
--- the next packet. If the next packet has a format fault, the consumed bytes have that fault.
+-- the next packet. If the result ends with a format fault, the bytes consumed after the packets
+-- have that fault.
 abbrev pub ReadsPackets : Bool → Option (List ℕ) → PesOutcome → Option (List ℕ) → Type 0
 ReadsPackets failed known ends left = failed ≡ false
 ReadsPackets failed known (fails f) left =

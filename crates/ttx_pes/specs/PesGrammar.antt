@@ -128,8 +128,8 @@ canonical_packet v =
     ++ (flat_map teletext_unit v.units
     ++ repeated (4 * n - 1 - length v.units) stuffing_unit)
 
--- The value fits in a `PesFrame`: the PTS has 33 bits, and at most 35 valid units are in line
--- order.
+-- The value fits in a `PesFrame`: the PTS is below 2^33, and there are at most 35 units, all valid
+-- and in line order.
 pub record IsPesValue (v : PesValue) : Type 0 where
   pub pts : v.pts < 2 ^ 33
   pub few : length v.units ≤ max_units

@@ -40,7 +40,7 @@ pub record PesPacketsValue : Type 0 where
   pub pes_packets : List (Result PesValue PesFault)
   pub left : Option PesFault
 
--- The results of reading bytes without a PES packet, which may have a fault.
+-- The results if no PES packet is read: only the fault of the bytes, if they have one.
 abbrev pub without_pes_packets : Option PesFault → PesPacketsValue
 without_pes_packets f = record { pes_packets = []; left = f }
 
@@ -85,7 +85,7 @@ abbrev pub IsPesPacketOf : List ℕ → Result PesValue PesFault → Type 0
 IsPesPacketOf b (Ok v) = IsValidPesPacket v b
 IsPesPacketOf b (Err f) = (is_packet_content_fault f ≡ true) × (packet_at b ≡ Err f)
 
--- The result of a reader for which no PES packet remains: the end of the file, or a fault.
+-- The result of a reader after its last PES packet: the end of the file, or a fault.
 abbrev pub rest_fault_answer : Option PesFault → Result (Option PesValue) PesFault
 rest_fault_answer None = Ok None
 rest_fault_answer (Some f) = Err f

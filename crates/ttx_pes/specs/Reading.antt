@@ -1,5 +1,5 @@
--- Parsing a PES packet at the front of a list of bytes. A function NAME_at returns the parsed
--- value, or the first fault in the order of the fields.
+-- Parsing a PES packet at the front of a list of bytes. A function NAME_at that returns a `Result`
+-- gives the parsed value, or the fault of the first check that fails.
 use Rattle.std.specs.Prelude.{ℕ, zero, suc, ◌+◌, ◌-◌, ◌*◌, ◌/◌, ◌%◌, ◌^◌, Bool, true, false}
 use Rattle.std.specs.Prelude.{not, ◌==◌, ◌&&◌, nat_lt, nat_le, if◌then◌else◌, List, [], ◌∷◌, ◌++◌}
 use Rattle.std.specs.Prelude.{length, take, drop, map, slice_index, Option, Some, None, Result, Ok}
@@ -54,7 +54,7 @@ units_at (suc n) units b = do
   more ← unit_at units (take data_unit_size b)
   units_at n more (drop data_unit_size b)
 
--- Byte number `place` of a PES packet. The list begins with byte 6 of the packet.
+-- Byte number `place`, 6 or more, of a PES packet. The list begins with byte 6 of the packet.
 abbrev pub byte_at : List ℕ → ℕ → ℕ
 byte_at b place = slice_index b (place - 6)
 

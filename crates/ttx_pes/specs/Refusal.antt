@@ -27,7 +27,7 @@ use Rattle.ttx_pes.specs.DataUnit.{data_unit_size}
 use Rattle.ttx_pes.specs.PesGrammar.{PesValue, IsValidPesPacket, header_size, max_units}
 use Rattle.ttx_pes.specs.Reading.{flags_fault}
 
--- The bytes of a PES packet from byte 6 on, as many as PES_packet_length states.
+-- The bytes of a PES packet from byte 6 on, at most as many as PES_packet_length states.
 abbrev pub stated_body : List ℕ → List ℕ
 stated_body b = take (0x100 * slice_index b 4 + slice_index b 5) (drop 6 b)
 
@@ -46,8 +46,8 @@ abbrev pub fault_of_check : List ℕ → ℕ → PesFault
 fault_of_check b i =
     slice_index_or (packet_faults b) i (slice_index_or unit_faults (i % 3) fault.Truncated)
 
--- A number that is greater than the number of any check. Bytes that may have any value have at
--- least this check number.
+-- A number that is greater than the number of any check. Bytes that no check concerns have at least
+-- this check number.
 abbrev pub check_of_unchecked_bytes : ℕ
 check_of_unchecked_bytes = 9 + 3 * max_units
 
@@ -69,8 +69,8 @@ check_of_byte place =
     (slice_index_or unit_byte_checks (within % data_unit_size) check_of_unchecked_bytes
     + 3 * (within / data_unit_size))
 
--- The bytes agree with a valid packet in all checks before check number `check_number`: enough
--- bytes are available, and each checked byte equals that of the packet.
+-- The bytes agree with `packet` in all checks before check number `check_number`: they are as many
+-- as these checks need, and each byte that these checks concern equals that of `packet`.
 pub record AgreeBeforeCheck (check_number : ℕ) (bytes packet : List ℕ) : Type 0 where
   pub has_six_bytes : 0 < check_number → 6 ≤ length bytes
   pub all : 3 < check_number → length packet ≤ length bytes

@@ -27,7 +27,7 @@ pub fn has_enough_for_packet(borrowed: &[u8]) -> bool
 ///
 /// # Errors
 ///
-/// Returns `Stopped` if flushing fails.
+/// Returns `Stopped` if `flush_pending` returns it.
 #[inline(always)]
 pub fn flush_first<P: PesPackets, A: Live>(pes_packets: &P, device: &mut A) -> Result<(), Stopped>
     ensures call { FlushesOnlyIfPending A.has_pending_reports A.is_flushed device.old (is_ok result)

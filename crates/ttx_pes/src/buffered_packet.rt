@@ -71,8 +71,8 @@ fn find_places(places: &mut UnitPlaces, kept: &[u8], field: &[u8]) -> Result<(),
     append_unit_places(places, field)
 }
 
-// Returns whether a data field equals the stored one. For speed, compares first the bytes in which
-// different data fields usually differ.
+// Returns whether a data field equals the stored one. For speed, compares their lengths and first
+// eight bytes before the other bytes.
 #[inline(always)]
 fn equals_stored_field(kept: &[u8], field: &[u8]) -> bool
     requires { IsDataFieldSize (length field.now) }

@@ -8,7 +8,7 @@ use sub_io::{Failed, FaultCode};
 /// `PesReader::next` documents.
 #[derive(Clone, Copy, Debug, PartialEq, Eq)]
 pub enum PesFault {
-    /// The bytes end within a PES packet.
+    /// The bytes end within a PES packet, or fewer than six bytes remain.
     Truncated,
     /// Bytes 0 to 3 are not 00 00 01 BD: packet_start_code_prefix, and stream_id for
     /// private_stream_1.

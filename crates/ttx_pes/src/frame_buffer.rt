@@ -16,7 +16,8 @@ use std::marker::Model;
 /// The last PES packet: its PTS, and its data field (bytes 45 to the end) with the Teletext units.
 #[derive(Drop)]
 pub(crate) struct FrameBuffer {
-    // A buffer for the bytes of the stored packet.
+    // A buffer for the bytes of the stored packet. A repeat is not copied, so bytes 0 to 44 may be
+    // those of an earlier packet.
     room: PacketBuffer,
     known: BufferedPacket,
 }

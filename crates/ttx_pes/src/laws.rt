@@ -5,7 +5,7 @@ ghost use Rattle.ttx_pes.specs.Laws.{LawOfLineOrder, LawOfOneValue, LawOfPacketV
 ghost use Rattle.ttx_pes.specs.Laws.{LawOfRanges, LawOfReadingBack, LawOfRefusal};
 
 /// A valid PES packet has only one value, and no valid packet is a proper prefix of another. So a
-/// file splits into PES packets in only one way.
+/// file splits into valid PES packets in at most one way.
 pub fn law_of_one_value()
     ensures { LawOfOneValue }
 {}
@@ -22,7 +22,7 @@ pub fn law_of_canonical_packet()
     ensures { LawOfCanonicalPacket }
 {}
 
-/// Reading a valid PES packet returns its value, whatever bytes follow. So a reader rejects nothing
+/// Reading a valid PES packet returns its value, whatever bytes follow. So parsing rejects nothing
 /// that matches the grammar.
 pub fn law_of_reading()
     ensures { LawOfReading }

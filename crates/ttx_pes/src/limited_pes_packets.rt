@@ -31,7 +31,8 @@ impl<'a, P: PesPackets> LimitedPesPackets<'a, P> {
     }
 
     /// Skips the first `n` PES packets, or all if the file has fewer. They do not count towards the
-    /// limit. Returns the number of skipped packets, and whether the device failed.
+    /// limit. Stops if the device fails. Returns the number of skipped packets, and whether the
+    /// device failed.
     pub(crate) fn skip_first(&mut self, n: u64) -> (u64, Result<(), Failed>)
         requires failures { CanFail (P.failure_count self.old.inner.now) }
         ensures most { result.0 ≤ n }

@@ -1,4 +1,4 @@
-//! Readers of PES packets that know the index of their first packet in the file.
+//! Readers of PES packets that find the index of their first packet in the file.
 ghost use Rattle.std.specs.Prelude.{◌≡◌, ◌≤◌, ℕ, IfErr, IfOk, OnErr, Option, Some};
 ghost use Rattle.std.specs.Io.KnownBytes.{Keeps};
 ghost use Rattle.sub_io.specs.Device.{CanFail, CountsFailure};

@@ -13,7 +13,7 @@ use crate::pes_packets_ahead::PesPacketsAhead;
 use sub_io::Failed;
 
 /// A reader of a range of the PES packets of another reader. If the file ends before the range
-/// does, both readers end in the same way. Nothing after the last packet of the range is read.
+/// does, both readers end in the same way. No PES packet after the last one of the range is read.
 ///
 /// Callers construct the value in place, because the prover does not track borrows in nested
 /// structs that a function returns.

@@ -1,4 +1,4 @@
-//! Skips PES packets without reading their contents.
+//! Skips PES packets without parsing their contents.
 ghost use Rattle.std.specs.Prelude.{◌≡◌, ◌<◌, ◌≤◌, ⊤, Err, IfErr, None, Ok, OnErr, OnOk, false};
 ghost use Rattle.std.specs.Prelude.{true};
 ghost use Rattle.sub_io.specs.Device.{CanFail, CountsFailure, CountsFailureIf, failed};
@@ -28,8 +28,8 @@ impl TakePesPacket for SkipPesPacket {
     fn take(&mut self, _pes_packet: &[u8]) {}
 }
 
-/// Skips the first `n` PES packets, or all if the file has fewer. Returns the number of skipped
-/// packets, and whether the device failed.
+/// Skips the first `n` PES packets, or all if the file has fewer. Stops if the device fails.
+/// Returns the number of skipped packets, and whether the device failed.
 pub fn skip_pes_packets<P: PesPackets>(n: u64, pes_packets: &mut P) -> (u64, Result<(), Failed>)
     requires failures { CanFail (P.failure_count pes_packets.old) }
     ensures most { result.0 ≤ n }

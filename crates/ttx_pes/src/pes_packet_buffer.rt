@@ -44,8 +44,8 @@ impl Model for PesPacketBuffer {
 }
 
 // Pulls into `room`, which already has `buffered` bytes, until it has at least `least` bytes, or
-// the source ends or fails. Requests at most `most` bytes in total. Returns the number of bytes in
-// `room`, and whether the source failed.
+// the source ends or fails. Pulls only into the first `most` bytes of `room`. Returns the number of
+// bytes in `room`, and whether the source failed.
 fn fill_buffer<S: Source>(
     source: &mut S,
     room: &mut [u8],
@@ -83,9 +83,10 @@ fn fill_buffer<S: Source>(
     (at, false)
 }
 
-// Reads the rest of the PES packet whose first bytes are in the buffer: at least up to byte 5 and
-// at most up to byte 183, then, if the first six bytes have no fault, up to the size that its
-// length field states. Returns the number of bytes in the buffer, and the result.
+// Reads the rest of the PES packet whose first bytes, if any, are in the buffer: at least up to
+// byte 5 and at most up to byte 183, then, if the first six bytes have no fault, up to the size
+// that its length field states. Stops if the source ends or fails. Returns the number of bytes in
+// the buffer, and the result.
 fn read_pes_packet<S: Source>(
     source: &mut S,
     room: &mut PacketBuffer,
@@ -173,8 +174,8 @@ impl PesPacketBuffer {
         buffered
     }
 
-    // Reads the rest of the PES packet in the buffer, and lets `taker` process the packet. Not
-    // inlined, for speed: few packets are read in this way.
+    // Reads the rest of the PES packet in the buffer and, if it is complete then, lets `taker`
+    // process it. Not inlined, for speed: few packets are read in this way.
     #[inline(never)]
     pub(crate) fn next<S: Source, T: TakePesPacket>(
         &mut self,

@@ -23,7 +23,7 @@ pub const REST_BUFFER_SIZE: usize = 2048;
 /// packet follows.
 #[derive(Clone, Copy, Debug, PartialEq, Eq)]
 pub enum Received<A> {
-    /// The end of the file or recording.
+    /// The end of the file or recording, or of the range of PES packets to read.
     End,
     /// A PES packet, with the taker's answer.
     PesPacket(A),
@@ -40,7 +40,7 @@ pub trait TakePesPacket {
     // How processing a packet changes the taker. Arguments: old state, packet, answer, new state.
     ghost is_take: { Self → List ℕ → Self.Answer → Self → Type 0 };
 
-    /// Processes a PES packet, which is borrowed from the source.
+    /// Processes a PES packet, which is borrowed from the source or from the reader.
     fn take(&mut self, pes_packet: &[u8]) -> Self::Answer
         requires { IsPesPacket pes_packet.now }
         ensures { is_take self.old pes_packet.now result self.new };
@@ -60,11 +60,11 @@ pub trait PesPackets {
     // The number of failed calls of the reader's device.
     ghost failure_count: { Self → ℕ };
 
-    // Whether `read_rest` may be called. It is true after `next` has returned `Rest`, and may be
-    // true before.
+    // Whether `read_rest` may be called. It is true if the last call of `next` returned `Rest`, and
+    // may be true otherwise.
     ghost may_read_rest: { Self → Bool };
 
-    // Whether the next call uses no device.
+    // If true, the next call uses no device.
     ghost ready: { Self → Bool } = { is_never_ready };
 
     // The references by which the reader borrows its device, outermost first.

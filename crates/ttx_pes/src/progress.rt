@@ -5,7 +5,7 @@
 pub enum Progress {
     /// The number of PES packets read so far, 0 to `MAX_PES_PACKETS`.
     Reading(u32),
-    /// The source has ended.
+    /// The reader has reached the end.
     AtEnd,
     /// The reader has reported a fault.
     Broken,

@@ -30,7 +30,7 @@ impl Model for Unit {
 }
 
 impl Default for Unit {
-    /// Returns the unit in unused array elements of a frame: data_unit_id 02, line 0 of the first
+    /// Returns the unit that fills the array of a new frame: data_unit_id 02, line 0 of the first
     /// field, and zero bytes.
     fn default() -> Self
         ensures { result ≡ record { id = 2; field = 1; line = 0; packet = replicate 42 0 } }

@@ -88,9 +88,9 @@ fn line_place_after(last: u8, block: &[u8]) -> Option<u8>
     if last < place { Some(place) } else { None }
 }
 
-// Appends the offset of a data unit if it carries a Teletext packet. Its unit must follow the line
-// order position `last`; returns the position that the next unit must follow, or the fault of the
-// data unit.
+// Appends the offset of a data unit if it carries a Teletext packet. Its unit must be in line order
+// after the position `last`; returns the position that the next unit must follow, or the fault of
+// the data unit.
 #[inline(always)]
 #[tactic(auto, using(crate::proofs::SentUnitLemmas::one_more))]
 fn append_unit_place(
