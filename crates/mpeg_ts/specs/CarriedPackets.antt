@@ -1,5 +1,5 @@
 -- The PES packets that the transport packets of a PID carry, in the form of a PES file, with a gap
--- marker where data is missing (not defined by a standard).
+-- marker after each PES packet that a gap follows (not defined by a standard).
 use Rattle.std.specs.Prelude.{ℕ, ◌&&◌, Bool, true, false, List, [], ◌∷◌, ◌++◌, replicate}
 use Rattle.std.specs.Int.{bytes_high_first}
 use Rattle.ttx_pes.specs.PesGrammar.{packet_start, packet_length}
@@ -21,10 +21,10 @@ abbrev pub gap_marker_where : Bool → List ℕ
 gap_marker_where true = gap_marker
 gap_marker_where false = []
 
--- The bytes for the outcomes of parts: PES packets and gap markers, up to the first `Other` bytes.
--- `given`: a PES packet came before; `gap`: a gap came after it. One gap marker stands for all gaps
--- from one PES packet to the next, or after the last. Gaps before the first PES packet have no
--- marker, since a recording may begin anywhere.
+-- The bytes for the outcomes of parts: PES packets and gap markers, up to and including the first
+-- `Other` bytes. `given`: a PES packet came before; `gap`: a gap came after it, or before the first
+-- PES packet. One gap marker stands for all gaps from one PES packet to the next, or after the
+-- last. Gaps before the first PES packet have no marker, since a recording may begin anywhere.
 unfoldable pub with_gap_markers : Bool → Bool → List PartOutcome → List ℕ
 with_gap_markers given gap [] = gap_marker_where (given && gap)
 with_gap_markers given gap (Gap ∷ more) = with_gap_markers given true more
@@ -32,9 +32,9 @@ with_gap_markers given gap (Pes bytes ∷ more) =
     gap_marker_where (given && gap) ++ (bytes ++ with_gap_markers true false more)
 with_gap_markers given gap (Other bytes ∷ more) = gap_marker_where (given && gap) ++ bytes
 
--- The complete PES packets that the transport packets of a PID carry in a recording with this
--- packet size, with a gap marker after each one that a gap follows. Of a part with a wrong start
--- code or length, the first payloads come last.
+-- The complete PES packets that the transport packets of a PID carry in the first 2^48 bytes of a
+-- recording with this packet size, with a gap marker after each one that a gap follows. The first
+-- part that begins with a wrong start code or length ends the output: its first payloads come last.
 unfoldable pub carried_bytes : ℕ → ℕ → List ℕ → List ℕ
 carried_bytes number distance recording =
     with_gap_markers false false

@@ -5,8 +5,8 @@ use Rattle.ttx_pes.specs.Reader.{FailsAfterValidPackets}
 use Rattle.mpeg_ts.specs.CarriedPackets.{carried_bytes}
 use Rattle.mpeg_ts.specs.Stream.{StreamValue, output_of, start_of_stream}
 
--- Bytes of a source were consumed. `old` and `new` map the remaining bytes of the source to the
--- output still to be returned, before and after that. The output is the same before and after,
+-- Bytes of a source were consumed. `old` and `new` map the remaining bytes of the source, before
+-- and after that, to other bytes, such as the output still to be returned. Both results are equal,
 -- whatever bytes follow.
 pub data TakesPrefix : (List ℕ → List ℕ) → (List ℕ → List ℕ) → Option (List ℕ) → Option (List ℕ)
     → Type 0 where
@@ -24,7 +24,8 @@ pub record OutputsBetween (old new : StreamValue) (before after : Option (List �
 
 -- ---- laws of consecutive calls
 
--- The output of consecutive calls is the joined output of these calls.
+-- If `OutputsBetween` holds for each of two consecutive calls, it also holds for both together, as
+-- for one call.
 abbrev pub LawOfStreamCalls : Type 0
 LawOfStreamCalls =
     (u v w : StreamValue) (before mid after : Option (List ℕ))
@@ -43,8 +44,8 @@ pub record SplitsOutput (number distance : ℕ) (v : StreamValue) (recording res
   pub carries :
       carried_bytes number distance recording ≡ carried_bytes number distance taken ++ output_of v
       rest
-  -- If a read fails within PES packet number `index` of the recording, and all items before it are
-  -- valid PES packets, the consumed bytes carry these packets and no further complete one.
+  -- If a read fails within item number `index` of the output (counted from 0), and all items before
+  -- it are valid PES packets, the consumed bytes carry these packets and no further complete one.
   pub place :
       (index : ℕ)
       → FailsAfterValidPackets index (Some (carried_bytes number distance recording))

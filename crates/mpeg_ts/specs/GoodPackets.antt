@@ -18,8 +18,8 @@ pub data PidEvent : Type 0 where
   Wrong : PidEvent
   Loss : PidEvent
 
--- The number of skipped bytes that counts as a loss: the size of 15 transport packets. After 15
--- lost packets of a PID, its continuity_counter has the same value again, as in a repeat.
+-- The number of skipped bytes that counts as a loss: 15 times the packet distance. After 15 lost
+-- packets of a PID, its continuity_counter has the same value again, as in a repeat.
 abbrev pub loss_size : ℕ → ℕ
 loss_size distance = 15 * distance
 
@@ -41,8 +41,9 @@ pid_events distance number run (Skipped ∷ items) =
 -- ---- good transport packets
 
 -- The link of a good transport packet to the good packet before it: there is none before it
--- (`First`); it follows that packet directly; a discontinuity was announced between them or by the
--- packet itself, and no data is known to be lost (`Seam`); or data counts as lost (`Break`).
+-- (`First`); by its continuity_counter, it follows that packet directly; it, or a packet without a
+-- payload between them, announced a discontinuity, and no data is known to be lost (`Seam`); or
+-- data counts as lost (`Break`).
 pub data PacketLink : Type 0 where
   First : PacketLink
   Follows : PacketLink
@@ -55,7 +56,8 @@ pub record GoodPacket : Type 0 where
   pub packet : List ℕ
 
 -- The last good transport packet (`None` before the first), and the events since then: it was
--- repeated, a discontinuity was announced, an unusable packet came, or a loss.
+-- repeated, a usable packet without a payload announced a discontinuity, an unusable packet came,
+-- or a loss.
 pub record PacketHistory : Type 0 where
   pub good : Option (List ℕ)
   pub has_repeat : Bool
@@ -87,7 +89,7 @@ is_repeat_of (Some q) history p =
     has_same_header_and_payload q p && not history.has_repeat && not history.has_jump
     && (not (announces_jump p) || announces_jump q)
 
--- The transport packet repeats the last good packet.
+-- The transport packet is the first repeat of the last good packet (`is_repeat_of`).
 abbrev pub is_repeat : PacketHistory → List ℕ → Bool
 is_repeat history p = is_repeat_of history.good history p
 

@@ -28,10 +28,12 @@ use Rattle.mpeg_ts.specs.declared.pending_item.PendingItem.{PendingItem}
 use Rattle.mpeg_ts.specs.declared.pending_item.PendingItem.TheVariants as pending_item
 
 -- The state of reassembly. Of the last good transport packet: its bytes 0 to 3, whether it
--- announced a discontinuity, and its payload (empty before the first good packet). Since then:
--- whether it was repeated, a discontinuity was announced, or data was lost. The progress of the
--- current part; the bytes of the part, or only the last payload if no more of the part will be
--- returned; whether a PES packet or a gap marker became pending last; and the pending bytes.
+-- announced a discontinuity, and its payload (empty before the first good packet, and after the
+-- collected bytes were cleared). Since then: whether it was repeated, a usable packet without a
+-- payload announced a discontinuity, or an unusable packet or a loss came. The progress of the
+-- current part; the bytes of the part, or only its last payload if that is not part of a PES packet
+-- to be returned, or none after they were cleared; whether a PES packet or a gap marker became
+-- pending last; and the pending bytes.
 pub record JoiningValue : Type 0 where
   pub header : List ℕ
   pub announced : Bool
@@ -59,7 +61,8 @@ initial_joining = record {
   pending = [];
 }
 
--- The current part has ended the stream, so no output follows the pending bytes.
+-- The current part has ended the stream: no more packets are processed, so no output follows the
+-- pending bytes.
 abbrev pub has_ended : PartState → Bool
 has_ended Ended = true
 has_ended _ = false
@@ -74,7 +77,8 @@ abbrev pub gave_pes_packet : Given → Bool
 gave_pes_packet given.Packet = true
 gave_pes_packet _ = false
 
--- The transport packet p repeats the last good packet.
+-- The transport packet p is the first repeat of the last good packet, whose payload is still
+-- stored.
 abbrev pub repeats : JoiningValue → List ℕ → Bool
 repeats v p =
     not v.has_repeat && (not v.has_jump && ((not (announces_jump p) || v.announced)
@@ -86,6 +90,7 @@ abbrev pub counter_continues : List ℕ → List ℕ → Bool
 counter_continues head p = counter p == (slice_index head 3 % 0x10 + 1) % 0x10
 
 -- The link of a good transport packet p to the good packet before it, from the state of reassembly.
+-- It is `First` if no payload of an earlier good packet is stored.
 abbrev pub link_after : JoiningValue → List ℕ → List ℕ → PacketLink
 link_after v [] p = First
 link_after v (x ∷ xs) p =
@@ -109,8 +114,8 @@ with_remembered_packet v p = record v {
 abbrev pub last_output_after : Bool → Given → Given
 last_output_after gap g = if gap && gave_pes_packet g then given.GapMarker else g
 
--- The state of reassembly after a possible gap. A gap marker is pending if the gap follows a PES
--- packet directly; otherwise nothing is pending.
+-- The state of reassembly after a possible gap. A gap marker is pending if the gap is the first
+-- after a PES packet; otherwise nothing is pending.
 abbrev pub with_gap : Bool → JoiningValue → JoiningValue
 with_gap gap v = record v {
   given = last_output_after gap v.given;
@@ -123,8 +128,8 @@ found_by_size count (Ok size) = if nat_le size count then found.CompletePesPacke
     else found.IncompletePesPacket
 found_by_size count (Err f) = found.Other f
 
--- Classifies the collected bytes: a complete PES packet, an incomplete PES packet, or a wrong start
--- code or length.
+-- Classifies the collected bytes: they begin with a complete PES packet, with an incomplete PES
+-- packet, or with a wrong start code or length. Fewer than six bytes count as incomplete.
 unfoldable pub found_in : List ℕ → Found
 found_in bytes =
     if nat_lt (length bytes) 6 then found.IncompletePesPacket
@@ -140,7 +145,8 @@ settle_found (found.CompletePesPacket size) v = record v {
   pending = v.pending ++ (take size v.bytes ++ gap_marker_where (nat_lt size (length v.bytes)));
 }
 
--- The state of reassembly after bytes were appended to an incomplete PES packet.
+-- The state of reassembly after a payload was appended to the bytes of an incomplete PES packet, or
+-- after the first payload of a PES packet was stored.
 abbrev pub grow_part : Bool → JoiningValue → List ℕ → JoiningValue
 grow_part gap v more =
     settle_found (found_in (v.bytes ++ more))
@@ -151,8 +157,8 @@ grow_part gap v more =
 abbrev pub with_buffered_payload : Bool → JoiningValue → List ℕ → JoiningValue
 with_buffered_payload gap v more = with_gap gap (record v { bytes = more; last = more })
 
--- The state of reassembly after a payload starts a new part, the transport packets of one PES
--- packet. A gap comes before it if data was lost or the part before is incomplete.
+-- The state of reassembly after a payload starts a new part. A gap comes before it, unless the part
+-- before is complete and no data was lost.
 abbrev pub begun : Bool → Bool → JoiningValue → List ℕ → JoiningValue
 begun breaks true v more =
     grow_part (breaks || not (is_complete v.part)) (record v { bytes = [] }) more
@@ -219,7 +225,8 @@ pending_item_bytes (pending_item.Packet gap_marker_before size gap_marker_after)
 pending_item_bytes (pending_item.Rest gap_marker_before fault) bytes = gap_marker_where
     gap_marker_before ++ bytes
 
--- The bytes do not begin with a PES packet, because of this fault.
+-- There are at least six bytes, and the first six have this fault, so the bytes do not begin with a
+-- PES packet.
 abbrev pub IsRefusedAtStart : List ℕ → PesFault → Type 0
 IsRefusedAtStart bytes fault = (6 ≤ length bytes) × (size_at (take 6 bytes) ≡ Err fault)
 
@@ -249,7 +256,7 @@ taken_bytes next.GapMarker bytes = gap_marker
 taken_bytes (next.Packet size) bytes = take size bytes
 taken_bytes (next.Rest fault) bytes = bytes
 
--- The bytes of the taken item are within the stored bytes.
+-- If the taken item is a PES packet, its bytes are within the stored bytes.
 abbrev pub IsNextWithin : Next → List ℕ → Type 0
 IsNextWithin next.Nothing bytes = ⊤
 IsNextWithin next.GapMarker bytes = ⊤

@@ -35,7 +35,7 @@ items distance in_step (suc room) bytes =
     Packet (take packet_size bytes) ∷ items distance true room (drop distance bytes)
     else Skipped ∷ items distance false room (drop 1 bytes)
 
--- The number of bytes before the first transport packet: 4 bytes of a time stamp if the packet
+-- The number of bytes before the first item of a recording: 4 bytes of a time stamp if the packet
 -- distance is 192, otherwise 0.
 abbrev pub lead_size : ℕ → ℕ
 lead_size distance = if distance == 192 then 4 else 0
@@ -44,11 +44,11 @@ lead_size distance = if distance == 192 then 4 else 0
 unfoldable pub max_stream_bytes : ℕ
 max_stream_bytes = 2 ^ 48
 
--- The bytes of a recording that are read, from its first transport packet on.
+-- The bytes of a recording that are read, from its first item on.
 abbrev pub read_bytes : ℕ → List ℕ → List ℕ
 read_bytes distance recording = drop (lead_size distance) (take max_stream_bytes recording)
 
--- The items of a recording. There are at most as many items as bytes.
+-- The items of the bytes of a recording that are read. There are at most as many items as bytes.
 abbrev pub items_of : ℕ → List ℕ → List Item
 items_of distance recording =
     items distance true (length (read_bytes distance recording)) (read_bytes distance recording)

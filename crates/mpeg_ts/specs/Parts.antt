@@ -1,6 +1,6 @@
 -- Splits the good transport packets of a PID into parts with at most one PES packet each. A
--- complete part gives a PES packet; one with a wrong start code or length ends the stream; any
--- other gives a gap, unless the recording may end within it (ISO/IEC 13818-1,
+-- complete part gives a PES packet; one that begins a PES packet with a wrong start code or length
+-- ends the stream; any other gives a gap, unless the recording may end within it (ISO/IEC 13818-1,
 -- payload_unit_start_indicator; EN 300 472: the length of a PES packet).
 use Rattle.std.specs.Prelude.{ℕ, ◌-◌, ◌&&◌, ◌||◌, not, nat_lt, nat_le, Bool, true, false}
 use Rattle.std.specs.Prelude.{if◌then◌else◌, List, [], ◌∷◌, ◌++◌, length, take, Result, Ok, Err}
@@ -22,8 +22,8 @@ abbrev pub is_break : PacketLink → Bool
 is_break Break = true
 is_break _ = false
 
--- A discontinuity was announced by a good transport packet, or between it and the good packet
--- before it, and no data is known to be lost.
+-- A good transport packet that has a good packet before it, or a packet without a payload between
+-- the two, announced a discontinuity, and no data is known to be lost.
 abbrev pub is_seam : PacketLink → Bool
 is_seam Seam = true
 is_seam _ = false
@@ -72,7 +72,7 @@ pub data PartOutcome : Type 0 where
   Gap : PartOutcome
   Other : List ℕ → PartOutcome
 
--- A gap as the outcome if data is missing, otherwise no outcome.
+-- A gap if the argument is true, otherwise no outcome.
 abbrev pub gap_where : Bool → List PartOutcome
 gap_where true = Gap ∷ []
 gap_where false = []
@@ -81,8 +81,8 @@ gap_where false = []
 abbrev pub part_bytes : Part → List ℕ
 part_bytes part = concat part.payloads
 
--- The joined bytes of the first payloads that together have at least `count` bytes, or of all
--- payloads if they have fewer.
+-- The joined bytes of the first payloads, up to the one with which they have at least `count`
+-- bytes, or of all payloads if they have fewer.
 unfoldable pub payloads_up_to : ℕ → List (List ℕ) → List ℕ
 payloads_up_to count [] = []
 payloads_up_to count (first ∷ more) =
@@ -100,7 +100,8 @@ outcome_of_size cut_off part (Err f) = Other (payloads_up_to 6 part.payloads) �
 
 -- The outcomes of a part. A part is complete if it begins a PES packet and has at least as many
 -- bytes as that PES packet. Bytes after the PES packet count as a gap. So does an incomplete part,
--- unless the recording may end within it (`cut_off`).
+-- unless it begins a PES packet whose first six bytes have a fault, or the recording may end within
+-- it (`cut_off`).
 unfoldable pub outcome : Bool → Part → List PartOutcome
 outcome cut_off part =
     if part.begins && nat_le 6 (length (part_bytes part)) then

@@ -74,7 +74,8 @@ after_packet number p j = if pid p == number then after_pid_event j (event_of_pa
 abbrev pub after_skipped : ℕ → ℕ → JoiningValue → JoiningValue
 after_skipped distance run j = if run + 1 == loss_size distance then after_pid_event j Loss else j
 
--- The bytes begin with a transport packet of the PID.
+-- The bytes begin like a transport packet of the PID: with the sync byte, and with this PID in
+-- bytes 1 and 2. (A byte after the end counts as 0.)
 abbrev pub BeginsPacket : ℕ → List ℕ → Type 0
 BeginsPacket number p = (slice_index p 0 ≡ sync_byte) × (pid p ≡ number)
 

@@ -40,8 +40,8 @@ has_adaptation_field p = slice_index p 3 / 0x20 % 2 == 1
 abbrev pub has_payload : List ℕ → Bool
 has_payload p = slice_index p 3 / 0x10 % 2 == 1
 
--- The discontinuity_indicator of a transport packet is set: it announces a discontinuity of the
--- continuity_counter.
+-- The discontinuity_indicator of a transport packet is set: it announces a discontinuity, so the
+-- continuity_counter may jump.
 abbrev pub announces_jump : List ℕ → Bool
 announces_jump p =
     has_adaptation_field p && not (slice_index p 4 == 0) && (slice_index p 5 / 0x80 % 2 == 1)

@@ -23,7 +23,8 @@ use crate::transport_packet::{
 use std::marker::Model;
 use ttx_pes::PesFault;
 
-/// The progress of the current PES packet, to which the last good transport packet belongs.
+/// The progress of the current part (`specs/Parts.antt`), to which the last good transport packet
+/// belongs.
 #[derive(Drop)]
 pub(crate) enum PartState {
     /// No PES packet has begun, or its first bytes are missing. Payloads give no output.
@@ -51,7 +52,7 @@ pub(crate) enum Given {
 /// A classification of the bytes collected for a PES packet.
 #[derive(Drop)]
 pub(crate) enum Found {
-    /// An incomplete PES packet.
+    /// An incomplete PES packet, or fewer than six bytes.
     IncompletePesPacket,
     /// A complete PES packet of this size in bytes.
     CompletePesPacket(usize),
@@ -65,16 +66,17 @@ pub(crate) enum Found {
 /// Its model has the state of reassembly and the pending bytes.
 #[derive(Drop)]
 pub struct Joining {
-    // The payloads collected for the current PES packet, or only the last payload if no more output
-    // follows from them.
+    // The payloads collected for the current PES packet, or only the last payload if that is not
+    // part of a PES packet to be returned.
     bytes: PartBytes,
     // The last good transport packet: its bytes 0 to 3, the size of its payload at the end of
-    // `bytes` (0 before the first good packet), and whether it announced a discontinuity.
+    // `bytes` (0 before the first good packet, and after `bytes` was cleared), and whether it
+    // announced a discontinuity.
     header: [u8; 4],
     payload_size: usize,
     announced: bool,
-    // Events since the last good transport packet: it was repeated, a discontinuity was announced,
-    // or data was lost.
+    // Events since the last good transport packet: it was repeated, a usable packet without a
+    // payload announced a discontinuity, or an unusable packet or a loss came.
     has_repeat: bool,
     has_jump: bool,
     has_break: bool,
@@ -136,7 +138,8 @@ impl Joining {
         }
     }
 
-    /// Returns whether the current part has ended the stream: no output follows the pending bytes.
+    /// Returns whether the current part has ended the stream: the caller passes no more packets, so
+    /// no output follows the pending bytes.
     #[inline(always)]
     pub fn has_ended(&self) -> bool
         ensures { result ≡ has_ended self.now.part }
@@ -202,7 +205,8 @@ impl Joining {
         }
     }
 
-    // Returns the stored payload of the last good transport packet; it is empty before the first.
+    // Returns the stored payload of the last good transport packet. It is empty before the first,
+    // and after the collected bytes were cleared.
     fn last_payload(&self) -> &[u8]
         ensures { result.now ≡ self.now.last }
     {
@@ -211,7 +215,8 @@ impl Joining {
         last
     }
 
-    /// Returns whether a transport packet is a repeat of the last good one.
+    /// Returns whether a transport packet is the first repeat of the last good one, whose payload
+    /// is still stored.
     pub fn is_repeat(&self, packet: &[u8; PACKET]) -> bool
         requires payload { has_payload packet.now ≡ true }
         requires valid { is_unusable packet.now ≡ false }
@@ -226,8 +231,9 @@ impl Joining {
     }
 
     // Returns whether data was lost between the last good transport packet and `packet`. Returns
-    // `false` for the first packet. If no loss was recorded, also returns `false` after an
-    // announced discontinuity, where a loss cannot be detected.
+    // `false` for the first packet. Unless a loss or an unusable packet was recorded, also returns
+    // `false` if `packet`, or a packet without a payload between them, announced a discontinuity,
+    // where a loss cannot be detected.
     fn is_break(&self, packet: &[u8; PACKET]) -> bool
         ensures { result ≡ is_break (link_after self.now self.now.last packet.now) }
     {
@@ -244,7 +250,8 @@ impl Joining {
     }
 
     // Returns whether `packet` does not continue the last good transport packet: it is the first
-    // packet, data was lost before it, or a discontinuity was announced.
+    // packet, data was lost before it, or it, or a packet without a payload between them, announced
+    // a discontinuity.
     fn is_unlinked(&self, packet: &[u8; PACKET]) -> bool
         ensures { result ≡ is_unlinked (link_after self.now self.now.last packet.now) }
     {
@@ -257,8 +264,9 @@ impl Joining {
         counter_of(packet) != (self.header[3] % 0x10 + 1) % 0x10
     }
 
-    /// Returns whether a discontinuity was announced after the last good transport packet, at the
-    /// latest by `packet` (discontinuity_indicator), and no data is known to be lost.
+    /// Returns whether `packet`, or a packet without a payload since the last good transport
+    /// packet, announced a discontinuity (discontinuity_indicator), and no data is known to be
+    /// lost. Returns `false` for the first packet.
     pub fn is_after_seam(&self, packet: &[u8; PACKET]) -> bool
         ensures { result ≡ is_seam (link_after self.now self.now.last packet.now) }
     {
@@ -352,8 +360,9 @@ impl Joining {
         self.pending_item = gap_marker_item(record_gap(gap, &mut self.given));
     }
 
-    // Appends a payload to an incomplete PES packet. If the PES packet is now complete, it becomes
-    // pending; if its start code or length is wrong, all collected bytes do.
+    // Appends a payload to an incomplete PES packet, or stores its first payload. If the PES packet
+    // is now complete, it becomes pending; if its first six bytes are there and have a wrong start
+    // code or length, all collected bytes do.
     #[tactic(auto, using(crate::proofs::ReadyLemmas::growing))]
     #[inline(always)]
     fn append_payload(&mut self, gap: bool, payload: &[u8])
@@ -457,7 +466,7 @@ impl Joining {
         }
     }
 
-    // Returns the collected bytes: those of the current PES packet, or only the last payload.
+    // Returns the collected bytes.
     pub(crate) fn bytes(&self) -> &[u8]
         ensures bytes { result.now ≡ self.now.bytes }
         ensures most { length result.now ≤ 1840 }
@@ -489,8 +498,8 @@ impl Joining {
     }
 }
 
-// Records a gap in `given`, and returns whether it needs a gap marker: only the first gap after a
-// PES packet does.
+// Records a gap in `given` if `gap` is true. Returns whether it needs a gap marker: only the first
+// gap after a PES packet does.
 #[inline(always)]
 fn record_gap(gap: bool, given: &mut Given) -> bool
     ensures given { given.new ≡ last_output_after gap given.old }

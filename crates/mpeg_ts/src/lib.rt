@@ -1,9 +1,8 @@
 //! Transport streams (ISO/IEC 13818-1): the PES packets of one PID.
 //!
 //! Reads the Teletext PES packets that the transport packets of a PID carry, in the form of a PES
-//! file, with a gap marker where data is missing between two of them or after the last. So every
-//! reader of PES files can also read recordings. Uses `sub_io` for devices and `ttx_pes` for PES
-//! packets.
+//! file, with a gap marker after each PES packet that a gap follows. So every reader of PES files
+//! can also read recordings. Uses `sub_io` for devices and `ttx_pes` for PES packets.
 //!
 //! ```text
 //! let pid = Pid::new(0x101).ok_or(..)?;

@@ -25,10 +25,10 @@ use ttx_pes::{
     FailedAt, NumberedPesPackets, PesPackets, REST_BUFFER_SIZE, Received, TakePesPacket,
 };
 
-/// A reader of the PES packets that the transport packets of one PID carry (ISO/IEC 13818-1). If
-/// data is missing between two PES packets or after the last, it returns a gap marker: 184 bytes
-/// that begin like a PES packet and are FF from byte 6 on (not defined by a standard). It returns
-/// none if the recording merely ends within a PES packet.
+/// A reader of the PES packets that the transport packets of one PID carry (ISO/IEC 13818-1). If it
+/// detects that data is missing between two PES packets or after the last, it returns a gap marker:
+/// 184 bytes that begin like a PES packet and are FF from byte 6 on (not defined by a standard). It
+/// returns none if the recording merely ends within a PES packet.
 ///
 /// The reader returns a PES packet before it reads any byte after the last transport packet of that
 /// PES packet, with two exceptions: bytes up to the next transport packet that the source has
@@ -65,7 +65,7 @@ impl<S: Source> RecordingPesPackets<S> {
     pub fn new(source: S, pid: Pid, packet_size: PacketSize) -> Self
         ensures start { result ≡ recording_at_start source pid (bytes_of packet_size) }
         // The output of the reader is what `carried_bytes` defines: the PES packets of the PID,
-        // with gap markers where data is missing after the first of them.
+        // with a gap marker after each one that a gap follows.
         ensures carried_bytes { remaining_output result.stream (S.remaining result.device)
             ≡ option_map (carried_bytes pid (bytes_of packet_size)) (S.remaining source) }
     {
@@ -97,8 +97,8 @@ impl<S: Source> PesPackets for RecordingPesPackets<S> {
 
     ghost ready = { λ r. is_output_ready r.stream };
 
-    /// Lets `taker` process the next PES packet or gap marker, if there is one. Reads more bytes if
-    /// no item is pending.
+    /// Lets `taker` process the next PES packet or gap marker, if there is one. Reads more bytes
+    /// only if no item is pending.
     ///
     /// # Errors
     ///
@@ -119,7 +119,8 @@ impl<S: Source> PesPackets for RecordingPesPackets<S> {
             (S.remaining self.old.device) (S.remaining self.new.device) }
         // If a read failed, the consumed bytes give no more output than what was returned.
         ensures cut { is_ok result ≡ false → output_of self.new.stream [] ≡ [] }
-        // The reader reads only the bytes that it needs for the next PES packet or gap marker.
+        // Before the end of the source, the reader requests only bytes that it needs for its next
+        // output, or that the source has buffered.
         ensures requests { (read : StreamValue) × Requests S.is_pull S.borrowed S.remaining
             (has_output self.old.stream) self.old.device (is_ok result)
             (has_output read) self.new.device }

@@ -7,7 +7,7 @@ use ttx_packet::PageId;
 /// The maximum number of pages that a survey follows.
 pub const MAX_SURVEY_PAGES: usize = 8;
 
-/// The Teletext pages that a survey follows, each once. `None` follows the last page.
+/// The Teletext pages that a survey follows. All entries after the last page are `None`.
 pub type SurveyPages = [Option<PageId>; MAX_SURVEY_PAGES];
 
 /// The options of a survey. They are defined in this crate rather than in `ts_survey`, so that a
@@ -16,8 +16,8 @@ pub type SurveyPages = [Option<PageId>; MAX_SURVEY_PAGES];
 pub struct SurveyOptions {
     /// The Teletext pages to follow.
     pub pages: SurveyPages,
-    /// The only PID to follow. `None` follows every PID with Teletext.
+    /// The only PID to follow. If it is `None`, the survey searches for PIDs with Teletext.
     pub pid: Option<Pid>,
-    /// The packet size of the recording. `None` detects it.
+    /// The packet size of the recording. If it is `None`, the survey detects it.
     pub packet_size: Option<PacketSize>,
 }

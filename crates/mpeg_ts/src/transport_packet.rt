@@ -51,7 +51,7 @@ pub fn has_payload(packet: &[u8; PACKET]) -> bool
 }
 
 /// Returns whether the discontinuity_indicator of a transport packet is set: it announces a
-/// discontinuity of the continuity_counter.
+/// discontinuity, so the continuity_counter may jump.
 #[inline(always)]
 pub fn announces_jump(packet: &[u8; PACKET]) -> bool
     ensures { result ≡ announces_jump packet.now }

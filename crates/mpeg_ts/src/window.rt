@@ -11,8 +11,8 @@ use arrayvec::ArrayVec;
 use std::marker::Model;
 use sub_io::{Failed, Source};
 
-/// The size of the buffer in bytes: a transport packet fits in it with the bytes before it, or, at
-/// the greatest packet size, with the first byte after it.
+/// The size of the buffer in bytes: a transport packet fits in it with the bytes before it, or with
+/// all bytes up to the first byte of the next transport packet, whatever the packet size.
 pub(crate) const WINDOW: usize = 205;
 
 /// The buffered bytes of a recording, and the number of bytes that may still be read.
@@ -119,8 +119,8 @@ impl Window {
         Ok(n)
     }
 
-    // Reads until the buffer has `count` bytes. Returns `false` if the recording ends, or no more
-    // bytes may be read, before that.
+    // Reads until the buffer has at least `count` bytes. Returns `false` if the recording ends, or
+    // no more bytes may be read, before that.
     #[tactic(auto, using(crate::proofs::WindowLemmas::filling))]
     pub(crate) fn fill_window_to<S: Source>(
         &mut self,
