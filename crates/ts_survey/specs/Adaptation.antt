@@ -51,8 +51,8 @@ timestamp_at pes n =
     + slice_index pes (n + 2) / 2 * 0x8000 + slice_index pes (n + 3) * 0x80
     + slice_index pes (n + 4) / 2
 
--- The PTS of a PES packet. `None` if it has no PTS, or if fewer than 14 bytes are available. A gap
--- marker, whose byte 6 is FF, has no PTS.
+-- The PTS of a PES packet. `None` if PTS_DTS_flags announce no PTS, if byte 6 is FF, as in a gap
+-- marker, or if fewer than 14 bytes are available.
 abbrev pub pts_of_pes_packet : List ℕ → Option ℕ
 pts_of_pes_packet pes =
     if nat_lt (length pes) 14 || nat_lt (slice_index pes 7) 0x80 || (slice_index pes 6 == 0xFF)

@@ -10,7 +10,7 @@ character_set_number None = 128
 character_set_number (Some set) = set % 128
 
 -- The index of the line of a character set, by the packet number 28 or 29, the designation 0 or 4,
--- and the set. Each line is reported once.
+-- and the set. Each line is reported at most once.
 abbrev pub set_line_index : ℕ → ℕ → Option ℕ → ℕ
 set_line_index number designation set =
     (if number == 28 then 0 else 512) + (if designation == 0 then 0 else 256) + character_set_number
@@ -19,7 +19,7 @@ set_line_index number designation set =
 -- ---- Hamming 24/18 (EN 300 706, 8.3): 24 bits, counted from 1, the lowest of the first byte
 
 -- The digit of a Hamming 24/18 test: 0 if the number of ones among the tested bits is odd, so that
--- the test passes. If the test fails, the place of the wrong bit has this digit.
+-- the test passes. If the test fails, the place of a single wrong bit has this digit.
 abbrev pub digit_of_failed_test : ℕ → ℕ → ℕ → ℕ
 digit_of_failed_test word bits digit = if count_ones (bit_and word bits) % 2 == 1 then 0 else digit
 
@@ -43,8 +43,8 @@ data_bits word =
     + word / 0x1_0000 % 0x80 * 0x800
 
 -- The data bits of a Hamming 24/18 word, with a single wrong bit corrected. Test F, of all bits,
--- passes if no bit is wrong or two bits are. `None` if two bits are wrong, or if test F fails and
--- the other tests give a place above 23.
+-- passes if no bit is wrong or two bits are. `None` if test F passes but another test fails, as
+-- with two wrong bits, or if test F fails and the other tests give a place above 23.
 abbrev pub corrected_data_bits : ℕ → Option ℕ
 corrected_data_bits word =
     if count_ones word % 2 == 1
@@ -83,7 +83,7 @@ set_with_designation (Some designation) number p =
     else None
 
 -- The designation and the character set of a packet X/28 or M/29 of the page's magazine, if it has
--- them. A packet X/28 counts only after a header of the page.
+-- them. A packet X/28 counts only if the last decoded header of the magazine is one of the page.
 abbrev pub set_of_packet : ℕ → Bool → List ℕ → Option (ℕ × Option ℕ)
 set_of_packet number is_requested_page p =
     if (number == 29) || ((number == 28) && is_requested_page) then set_with_designation

@@ -28,7 +28,7 @@ IsAtStreamStart skipped_before (Stream packets multiplex) = BeginsAfterSkipping 
     packets
 IsAtStreamStart skipped_before _ = ⊤
 
--- The transport packets in these bytes were processed by some receiver.
+-- The transport packets in these bytes were processed by some receiver, as `TakesAll` states.
 abbrev pub SomeReceiverTakes : PacketsInStep → List ℕ → Bool → ℕ → PacketsInStep → Type 0
 SomeReceiverTakes old bytes is_end used new =
     TakesAll {T = Unit {0}} accepts_any_state old (tt {0}) bytes is_end used new (tt {0})
@@ -80,9 +80,9 @@ ReadsNoMoreOfStream _ _ = ⊤
 -- ---- the counts at the end of the stream
 
 -- All packets of the stream were counted, each once, and all bytes that belong to no packet: those
--- before the stream, between packets, and after the last packet. A packet takes up its whole
--- distance of 188, 192 or 204 bytes; a time stamp before the first packet is not counted. Counts
--- saturate at 64 bits.
+-- before the stream, and those before, between and after its packets. A packet takes up its whole
+-- distance of 188, 192 or 204 bytes. If that is 192, the first 4 bytes of the stream, the place of
+-- a time stamp, are not counted. Counts saturate at 64 bits.
 pub record CountsStream (received : List ℕ) (packets : PacketsInStep) : Type 0 where
   pub skipped_before : ℕ
   pub within : skipped_before ≤ length received

@@ -54,8 +54,8 @@ kind_texts Nothing = codes "nothing\n" ∷ []
 -- ---- when the first lines are printed
 
 -- The recording begins like a file of PES packets: with packet_start_code_prefix and the stream_id
--- of private_stream_1 (EN 300 472). A time stamp before the first transport packet may have the
--- same bytes, but then the sync byte follows.
+-- of private_stream_1 (EN 300 472), not followed by the sync byte, before which the same bytes may
+-- be a time stamp.
 abbrev pub begins_with_pes_packet : List ℕ → Bool
 begins_with_pes_packet head =
     nat_le 4 (length head) && (slice_index head 0 == 0) && (slice_index head 1 == 0)
@@ -67,19 +67,22 @@ abbrev pub is_pes : Kind → Bool
 is_pes (Pes file) = true
 is_pes _ = false
 
--- The lines `survey 1` and `head`, once the first bytes of the recording are received.
+-- The lines `survey 1` and `head`, once the first bytes of the recording are received or the
+-- recording has ended.
 abbrev pub head_texts_if_received : Bool → List ℕ → List (List ℕ)
 head_texts_if_received has_head head = if has_head then head_texts head else []
 
--- The lines `survey 1` and `head`, once the first bytes of the recording are received, unless they
--- were printed before.
+-- The lines `survey 1` and `head`, once the first bytes of the recording are received or the
+-- recording has ended, unless they were printed before.
 abbrev pub newly_reported_head : Bool → List ℕ → Bool → List (List ℕ)
 newly_reported_head before bytes after = if before then [] else head_texts_if_received after
     (take head_size bytes)
 
 -- Bytes of a recording of unknown kind were examined; the kind may still be unknown afterwards. If
 -- memory did not run out, exactly these lines were printed: `survey 1` and `head`, once the first
--- bytes are received and unless they were printed before, and the lines of the kind.
+-- bytes are received or the recording has ended and unless they were printed before, and the lines
+-- of the kind. The recording is then known as a file of PES packets exactly if `head` was printed
+-- now and the recording begins like one.
 pub record FindsKind (old : Recording) (bytes : List ℕ) (before after : Text) (new : Recording)
     : Type 0 where
   pub reported :

@@ -29,7 +29,7 @@ skipped_byte_count (Packet p ∷ more) = skipped_byte_count more
 skipped_byte_count (Skipped ∷ more) = suc (skipped_byte_count more)
 
 -- The number of bytes skipped in a row at the end of these items, if `run` bytes were skipped
--- directly before them.
+-- directly before them. It saturates at 64 bits.
 unfoldable pub trailing_skipped_count : ℕ → List Item → ℕ
 trailing_skipped_count run [] = run
 trailing_skipped_count run (Packet p ∷ more) = trailing_skipped_count 0 more
@@ -57,9 +57,9 @@ abbrev pub unprocessed_at_end : Bool → List ℕ → ℕ → ℕ
 unprocessed_at_end is_end bytes place = if is_end then length bytes - place else 0
 
 -- Items were found in the bytes, from the start of the search up to `place`: whatever bytes follow,
--- the bytes begin with these items, followed by those from `place` on. The packets and gaps among
--- them were processed, and counted together with the bytes that belong to no packet and `rest` more
--- bytes after them.
+-- the bytes begin with these items, followed by those from `place` on. At the end no bytes follow.
+-- The packets and gaps among the items were processed. The packets were counted, and so were the
+-- bytes that belong to no packet, together with `rest` more bytes after them.
 pub record ItemsFound
     {T : Type 0} (IsTaken : T → List ℕ → T → Type 0) (old : PacketsInStep) (before : T)
     (bytes : List ℕ) (is_end : Bool) (place rest : ℕ) (new : PacketsInStep) (after : T)
@@ -78,8 +78,8 @@ pub record ItemsFound
   pub skipped : new.skipped ≡ saturating_count old.skipped (skipped_byte_count found + rest)
   pub size : new.size ≡ old.size
 
--- The packets in the bytes were processed, and `used` bytes are no longer needed. Too few bytes are
--- left to find the next item; at the end no packet is left.
+-- The packets and gaps in the bytes were processed, and `used` bytes are no longer needed. Fewer
+-- bytes are left than show whether a packet begins (`bytes_needed`); at the end no packet is left.
 pub record TakesAll
     {T : Type 0} (IsTaken : T → List ℕ → T → Type 0) (old : PacketsInStep) (before : T)
     (bytes : List ℕ) (is_end : Bool) (used : ℕ) (new : PacketsInStep) (after : T)

@@ -1,6 +1,7 @@
--- The output of `survey` begins with the first bytes and the kind of the recording and with the
--- requested options. It ends with the numbers of its packets and of the bytes that belong to no
--- packet.
+-- The first lines of the output of `survey` report the first bytes and the kind of the recording
+-- and, if it is a transport stream, the requested PID, if any. The last line has the numbers of the
+-- bytes that belong to no packet and of the transport packets; both are 0 for a file of PES
+-- packets.
 use Rattle.std.specs.Prelude.{◌≡◌, ⊤, true, false, ℕ, List, [], ◌∷◌, ◌++◌, Option, IfSome}
 use Rattle.std.specs.Prelude.{codes, take}
 use Rattle.std.specs.Io.KnownBytes.{Appends}
@@ -24,7 +25,7 @@ use Rattle.ts_survey.specs.declared.text.Text.{Text}
 
 -- If the recording is a transport stream, it has the requested packet size, if any; its state
 -- contains the requested PID, if any, and the requested pages; and if a PID is requested, no other
--- PID is followed.
+-- PID is followed for Teletext.
 abbrev pub IsAsRequested : SurveyOptions → Kind → Type 0
 IsAsRequested options (Stream packets multiplex) =
     (IfSome options.packet_size (λ size. packets.size ≡ size))
@@ -33,8 +34,8 @@ IsAsRequested options (Stream packets multiplex) =
     × (unrequested_followed_pids multiplex ≡ [])
 IsAsRequested options _ = ⊤
 
--- Two states of reading a stream have the same packet size and the same requested options, and
--- follow the same PIDs that were not requested.
+-- Two states of reading a stream have the same packet size, the same requested PID and pages, and
+-- the same PIDs that are followed for Teletext although they are not requested.
 pub record KeepsSizeAndOptions (packets : PacketsInStep) (multiplex : Multiplex)
     (after : PacketsInStep)
     (reported : Multiplex) : Type 0 where
@@ -53,7 +54,8 @@ KeepsKind _ _ = ⊥
 
 -- ---- the last line of the output
 
--- The number of packets of a recording, or 0 if the recording is no transport stream.
+-- The number of transport packets found so far in a recording, or 0 if the recording is no
+-- transport stream.
 abbrev pub stream_packet_count : Kind → ℕ
 stream_packet_count (Stream packets multiplex) = packets.number
 stream_packet_count _ = 0
@@ -70,11 +72,12 @@ abbrev pub counts_line : ℕ → ℕ → List (List ℕ)
 counts_line skipped number =
     codes "over" ∷ space_and_number skipped ∷ space_and_number number ∷ line_end ∷ []
 
--- The number of bytes of a recording that belong to no packet; 0 for a file of PES packets.
+-- The number of bytes found so far in a recording that belong to no packet; 0 for a file of PES
+-- packets.
 abbrev pub skipped_count_of_recording : Recording → ℕ
 skipped_count_of_recording r = skipped_count_for_kind r.kind r.skipped
 
--- The last line of the output is `over` with the counts of the recording.
+-- The last line of the output is `over` with the counts of the recording, unless the text is lost.
 pub record ReportsEnd (r : Recording) (new : Text) : Type 0 where
   pub before : Text
   pub over : AddsTexts before
@@ -83,7 +86,7 @@ pub record ReportsEnd (r : Recording) (new : Text) : Type 0 where
 -- ---- the lines of a recording
 
 -- The output for a recording after the bytes received: the first lines, if they were printed, and
--- the lines of its kind, followed by other lines once the kind is known.
+-- the lines of its kind; once the kind is known, other text may follow.
 pub record IsReported (recording : Recording) (received listing : List ℕ) : Type 0 where
   pub more : List ℕ
   pub reported :
@@ -96,8 +99,8 @@ pub record IsReported (recording : Recording) (received listing : List ℕ) : Ty
       (take head_size received)
 
 -- The output for a complete recording: the first lines; the lines of its kind, with the requested
--- options; other lines; and a last line with the number of bytes that belong to no packet and the
--- number of packets.
+-- options; other text; and the last line `over`, with the counts of `CountsStream` for a transport
+-- stream, and with two zeros for a file of PES packets.
 pub record IsSurveyOutput
     (options : SurveyOptions) (recording : Option (List ℕ)) (listing : List ℕ) : Type 0 where
   pub received : List ℕ

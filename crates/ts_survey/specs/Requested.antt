@@ -20,11 +20,12 @@ unrequested_pids requested (pid ∷ pids) =
 abbrev pub followed_pid : Carrier → ℕ
 followed_pid carrier = carrier.pid
 
--- The PIDs that are followed although they are not requested.
+-- The PIDs that are followed for Teletext although they are not requested.
 abbrev pub unrequested_followed_pids : Multiplex → List ℕ
 unrequested_followed_pids m = unrequested_pids m.requested (map followed_pid m.carriers.items)
 
--- The requested PID and pages stay the same, and no further PID that is not requested is followed.
+-- The requested PID and pages stay the same, and so do the PIDs that are followed for Teletext
+-- although they are not requested.
 abbrev pub KeepsRequested : Multiplex → Multiplex → Type 0
 KeepsRequested old new =
     (new.requested ≡ old.requested)
@@ -32,6 +33,6 @@ KeepsRequested old new =
     × (unrequested_followed_pids new ≡ unrequested_followed_pids old)
 
 -- Processing a packet, or a loss of packets, changes neither the requested PID nor the requested
--- pages, and follows no further PID that is not requested.
+-- pages, and no further PID that is not requested is followed for Teletext.
 abbrev pub packet_keeps_requested : Multiplex → List ℕ → Multiplex → Type 0
 packet_keeps_requested old packet new = KeepsRequested old new

@@ -64,8 +64,8 @@ pub fn payload_if_usable(packet: &[u8; PACKET]) -> &[u8]
 }
 
 /// Returns the PTS in the first bytes of a PES packet (ISO/IEC 13818-1, PES_packet). Returns `None`
-/// if the header has no PTS, if fewer than 14 bytes are given, and for a gap marker. Marker bits
-/// are not checked.
+/// if PTS_DTS_flags announce no PTS, if fewer than 14 bytes are given, and if byte 6 is FF, as in a
+/// gap marker. Marker bits are not checked.
 pub fn pts_of_pes_packet(pes: &[u8]) -> Option<u64>
     ensures value { result ≡ pts_of_pes_packet pes.now }
     ensures range { IfSome result (λ pts. pts < 2 ^ 33) }
@@ -90,7 +90,7 @@ fn timestamp_at(pes: &[u8], place: usize) -> u64
 }
 
 /// Returns when the first picture of a PES packet is decoded: its DTS, or its PTS if it has no DTS.
-/// Returns `None` if the first bytes do not contain that time.
+/// Returns `None` if `pts_of_pes_packet` does, or if the bytes end before the end of the DTS.
 pub fn decoding_time(pes: &[u8]) -> Option<u64>
     ensures value { result ≡ decoding_time pes.now }
     ensures range { IfSome result (λ time. time < 2 ^ 33) }

@@ -6,8 +6,9 @@ use crate::clock::Clock;
 use crate::lead::Picture;
 use crate::text::Text;
 
-/// Compares a PTS of a PID with the last picture of its programme and with the PCR of its clock, if
-/// they are known and a comparison is due. The PTS was received in transport packet `number`.
+/// Records a PTS of a PID, and compares it with the last picture of its programme and with the last
+/// PCR of its clock, if they are known and a comparison is due. The PTS was received in transport
+/// packet `number`.
 pub fn process_new_pts(
     carrier: &mut Carrier,
     picture: Option<Picture>,
@@ -26,7 +27,8 @@ pub fn process_new_pts(
     carrier.note_pts(pts, pcr, text);
 }
 
-// Returns the PCR close to a PTS of a PID, if the two are to be compared.
+// Returns the last PCR of the clock with index `place`, if there is one, the PCR is recent and a
+// comparison with the PTS is due.
 fn pcr_to_compare(
     carrier: &Carrier,
     clocks: &[Clock],

@@ -13,17 +13,17 @@ use sub_io::{Failed, Source};
 /// for the bytes of one read.
 const BUFFER_SIZE: usize = 135_168;
 
-/// The number of bytes that are requested at once; a feed may return fewer. A source that reads
-/// ahead at most this many bytes writes them from its device directly into the buffer.
+/// The number of bytes that are requested at once; a feed may return fewer. A buffered source reads
+/// from its device directly into this buffer if its own buffer is empty and not larger than this.
 const READ_SIZE: usize = 65_536;
 
 /// The result of reading from the source.
 #[derive(Clone, Copy)]
 pub struct Received {
-    /// Whether no byte was read, which means that the recording is at its end.
+    /// Whether no byte was read: the recording is at its end, unless the buffer was full.
     pub is_end: bool,
-    /// Whether fewer bytes than requested were read, which means that no more data is available for
-    /// now.
+    /// Whether fewer bytes than requested were read, which is taken to mean that no more data is
+    /// available for now.
     pub has_no_more: bool,
 }
 

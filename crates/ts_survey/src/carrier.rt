@@ -16,14 +16,15 @@ use mpeg_ts::{
 };
 use std::alloc::Global;
 
-/// The maximum number of irregular PCRs that wait for more data.
+/// The maximum number of irregular PCRs of a PID that wait for more data.
 const MAX_PENDING_PCRS: usize = 4;
 
 /// The number of packets after an irregular PCR in which counter breaks of other PIDs are looked
 /// for.
 pub const INSPECTED_PACKETS: u64 = 5000;
 
-/// An irregular PCR, and the PTS before and after it.
+/// An irregular PCR, the last PTS received before the PCR that precedes it, and the first PTS
+/// received after it.
 #[derive(Clone, Copy, Default)]
 struct Pending {
     irregular_pcr: IrregularPcr,
@@ -31,19 +32,21 @@ struct Pending {
     after: Option<u64>,
 }
 
-/// A PID with Teletext that is followed.
+/// A PID that is followed, because it carries Teletext, a PMT announces Teletext in it, or it is
+/// requested.
 #[derive(Drop)]
 pub struct Carrier {
     pid: u16,
     pid_packets_state: PidPackets<Given>,
-    // The counter of the last good packet, and whether a jump was announced after that packet.
+    // The counter of the last good packet, and whether a usable packet without a payload announced
+    // a jump after it.
     counter: Option<u8>,
     has_jump: bool,
     packets: u64,
     scrambled: u64,
     header: PesHeader,
-    // The last PTS that began, the last PTS that was compared with the clock, and the last PTS that
-    // began before the last PCR.
+    // The last PTS received, the last PTS that was compared with the clock, and the last PTS
+    // received before the last PCR.
     begun: Option<u64>,
     last_sampled_pts: Option<u64>,
     pts_before_pcr: Option<u64>,
@@ -102,8 +105,8 @@ impl Carrier {
     }
 
     // Counts the packets lost before a packet, and records an announced jump of the counter.
-    // Returns the PTS if the packet completes a PES header of private_stream_1 with a PTS. A repeat
-    // of the last good packet has no effect.
+    // Returns the PTS if the packet completes a PES header of private_stream_1 with a PTS. An
+    // unusable packet has no effect, nor has a repeat that `is_repeat` finds.
     fn note(&mut self, packet: &[u8; PACKET]) -> Option<u64>
         ensures { self.new.pid ≡ self.old.pid }
     {
@@ -131,7 +134,8 @@ impl Carrier {
         }
     }
 
-    // Returns the PTS of the PES packet that began, if it has a PTS and is of private_stream_1.
+    // Records and returns the PTS of the PES packet that began, if it has a PTS and is of
+    // private_stream_1.
     fn begin(&mut self) -> Option<u64>
         ensures { self.new.pid ≡ self.old.pid }
     {
@@ -163,7 +167,7 @@ impl Carrier {
         self.pid_packets_state.record_loss();
     }
 
-    /// Stores a PCR of the PID's programme if it is irregular, and records the PTS that began
+    /// Stores a PCR of the PID's programme if it is irregular, and records the last PTS received
     /// before the PCR.
     pub fn note_pcr(&mut self, irregular_pcr: Option<IrregularPcr>, pids: &Pids, text: &mut Text)
         ensures { self.new.pid ≡ self.old.pid }
@@ -205,8 +209,9 @@ impl Carrier {
         }
     }
 
-    /// Returns whether no data is missing before a PTS, and the PTS is a second or more after the
-    /// last PTS that was compared with the clock, or before it, or none was compared yet.
+    /// Returns whether no gap marker was the last data received before the last transport packet or
+    /// came with it, and the PTS is a second or more after the last PTS that was compared with the
+    /// clock, or before it, or none was compared yet.
     pub fn is_report_due(&self, pts: u64) -> bool {
         if self.pid_packets_state.to.is_broken() {
             return false;
@@ -291,8 +296,9 @@ impl Carrier {
         self.report_end(text);
     }
 
-    // Prints the line `end`: the numbers of PES packets and gap markers, of gap markers, of packets
-    // and of scrambled packets, the fault, whether the last PES packet is cut, and the last PTS.
+    // Prints the line `end`: the PID, the number of PES packets and gap markers together, that of
+    // gap markers, of transport packets and of scrambled transport packets, the number of the fault
+    // after which nothing more was received, the word of `cut_word`, and the last PTS.
     fn report_end(&self, text: &mut Text) {
         let given = &self.pid_packets_state.to;
         text.put(b"end");
@@ -346,7 +352,8 @@ fn report_clock(pid: u16, one: &Pending, reported: &[u8], text: &mut Text) {
     text.put(b"\n");
 }
 
-// Returns ` 1` if the PES packet that began last is incomplete, and otherwise ` 0`.
+// Returns ` 1` if the PES packet that began last in a usable transport packet is incomplete, was
+// refused, or began after a refusal, and otherwise ` 0`.
 fn cut_word(is_cut: bool) -> &'static [u8] {
     if is_cut { b" 1" } else { b" 0" }
 }

@@ -6,8 +6,9 @@ ghost use Rattle.ts_survey.specs.CharacterSets as specs;
 use crate::text::Text;
 use ttx_packet::{Packet, PageId, unham};
 
-/// The number of indices of lines, each of which is printed once: packet 28 or 29, designation 0 or
-/// 4, and 256 numbers, of which 129 are used: 128 character sets and an unreadable one.
+/// The number of indices of lines, each of which is printed at most once: packet 28 or 29,
+/// designation 0 or 4, and 256 numbers, of which 129 are used: 128 character sets and an unreadable
+/// one.
 const LINE_INDEX_COUNT: usize = 1024;
 
 /// The lines of character sets that were printed.
@@ -79,8 +80,8 @@ fn with_bit_flipped(word: u32, place: u32) -> u32
     }
 }
 
-// Returns the data bits of a Hamming 24/18 word: those at places that are no powers of two, counted
-// from 1.
+// Returns the data bits of a Hamming 24/18 word: those at the places 1 to 23 that are no powers of
+// two.
 fn data_bits(word: u32) -> u32
     ensures { result ≡ specs.data_bits word }
 {
@@ -104,9 +105,10 @@ fn set_from_triplet(number: u8, bits: Option<u32>) -> Option<Option<u32>>
     }
 }
 
-// Returns the designation and the character set of a packet 29, or of a packet 28 after a header of
-// the page. Returns `None` for other packets, if the designation cannot be decoded or is neither 0
-// nor 4, and for a packet 28 with another page function.
+// Returns the designation and the character set of a packet 29, or of a packet 28 if
+// `is_requested_page` is set. Returns `None` for other packets, if the designation cannot be
+// decoded or is neither 0 nor 4, and for a packet 28 whose page function is not that of pages that
+// are shown.
 fn set_of_packet(packet: &Packet, number: u8, is_requested_page: bool) -> Option<(u8, Option<u32>)>
     ensures { result ≡ specs.set_of_packet number is_requested_page packet.now }
 {
@@ -168,8 +170,8 @@ impl CharacterSets {
         }
     }
 
-    /// Processes a packet of the page's magazine that is no header. `is_requested_page`: the last
-    /// header of the magazine is a header of the page.
+    /// Processes a packet of the page's magazine that has no header, or a header that cannot be
+    /// decoded. `is_requested_page`: the last decoded header of the magazine is one of the page.
     pub fn hear(
         &mut self,
         packet: &Packet,

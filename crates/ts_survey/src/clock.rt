@@ -9,8 +9,8 @@ pub const CLOCK_TICKS_PER_SECOND: u64 = 90_000;
 /// The longest interval in ticks after which no PCR counts as late: 0.1 s (ISO/IEC 13818-1).
 const MAX_USUAL_INTERVAL: u64 = 9_000;
 
-/// The number of last intervals whose median is the usual interval, and the least number of
-/// intervals that determines a median.
+/// The maximum number of last usual intervals whose median is the usual interval, and the least
+/// number of them for which a PCR can count as late.
 const MEDIAN_INTERVALS: usize = 100;
 
 const MIN_INTERVALS: usize = 5;
@@ -58,7 +58,8 @@ fn store_number_at(kept: &mut [u64; MEDIAN_INTERVALS], place: usize, number: u64
     }
 }
 
-// Returns the median of numbers, which it sorts; 0 if the slice is empty.
+// Returns the median of numbers, which it sorts, or the upper median if their count is even; 0 if
+// the slice is empty.
 fn median_of(numbers: &mut [u64]) -> u64 {
     numbers.sort_unstable();
     match numbers.get(numbers.len() / 2) {
@@ -78,7 +79,7 @@ fn is_usual_interval(ticks: u64, count: usize, median_interval: u64) -> bool {
         || ticks <= median_interval.saturating_mul(3)
 }
 
-/// An irregular PCR, which is late or smaller than the PCR before it: the numbers of the packets
+/// An irregular PCR, which is late or earlier than the PCR before it: the numbers of the packets
 /// with the two PCRs, their interval in ticks, and the usual interval in ticks and in packets.
 #[derive(Clone, Copy, Default)]
 pub struct IrregularPcr {

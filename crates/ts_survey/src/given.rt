@@ -10,18 +10,19 @@ use ttx_pes::{decode_packet_size, is_gap_marker};
 #[derive(Drop)]
 pub struct Given {
     lines: PesLines,
-    // Whether a gap marker followed the last PES packet, and whether data is missing before the
-    // contents of the last transport packet.
+    // Whether a gap marker was the last data received, and whether one was the last data received
+    // before the last transport packet or came with it.
     is_after_gap: bool,
     is_broken: bool,
-    // After the last PES packet: whether a gap marker for missing packets is pending, and the
-    // numbers of packets that were lost or scrambled.
+    // Since the last PES packet or gap marker that the PID carries: whether a gap marker for
+    // missing packets is pending, and the numbers of packets that were lost or scrambled.
     has_gap_marker: bool,
     lost: u64,
     scrambled: u64,
-    // Whether a jump of the counter was announced after the last PES packet.
+    // Whether a jump of the counter was announced since then, and no loss of data is known there.
     has_seam: bool,
-    // Whether the PES packet that began last is incomplete.
+    // Whether the PES packet that began last in a usable transport packet is incomplete, was
+    // refused, or began after a refusal.
     is_cut: bool,
     // The number of the fault after which nothing more is received; 0 if no fault was found.
     refusal: u16,
@@ -48,7 +49,7 @@ impl Given {
         self.lost = self.lost.saturating_add(count);
     }
 
-    /// Records that a jump of the counter was announced before a packet, if `is_seam` is set.
+    /// Records an announced jump of the counter before a packet, if `is_seam` is set.
     pub fn note_seam(&mut self, is_seam: bool) {
         self.has_seam = self.has_seam || is_seam;
     }
@@ -58,7 +59,8 @@ impl Given {
         self.is_cut = self.is_cut || begins;
     }
 
-    /// Returns whether the PES packet that began last is incomplete.
+    /// Returns whether the PES packet that began last in a usable transport packet is incomplete,
+    /// was refused, or began after a refusal.
     pub fn is_cut(&self) -> bool {
         self.is_cut
     }
@@ -79,7 +81,8 @@ impl Given {
         self.is_broken = self.is_after_gap;
     }
 
-    /// Returns whether data is missing before the contents of the last packet.
+    /// Returns whether a gap marker was the last data received before the last transport packet, or
+    /// came with it.
     pub fn is_broken(&self) -> bool {
         self.is_broken
     }
@@ -93,7 +96,7 @@ impl Given {
         self.lines.gap_marker(self.lost, self.scrambled, text);
     }
 
-    // Prints that a jump of the counter was announced before a PES packet, if one was announced.
+    // Prints an announced jump of the counter before a PES packet or gap marker, if there is one.
     fn report_seam(&mut self, text: &mut Text) {
         if !self.has_seam {
             return;
@@ -102,7 +105,8 @@ impl Given {
         self.lines.report_seam(text);
     }
 
-    // Processes a gap marker for missing packets, which is printed before the next PES packet.
+    // Processes a gap marker for missing packets, which stays pending until other data is received,
+    // or to the end of the recording.
     fn take_missing_packets(&mut self) {
         self.has_gap_marker = true;
         self.is_after_gap = true;
@@ -131,7 +135,7 @@ impl Given {
         self.lines.flush(text);
     }
 
-    /// Ends the recording: prints the remaining lines of the PID.
+    /// Ends the recording: prints the remaining lines about the data of the PID.
     pub fn end(&self, text: &mut Text) {
         if self.has_gap_marker {
             self.lines
@@ -175,8 +179,8 @@ impl TakesPesPackets for Given {
 }
 
 // Returns the number of the fault if the start code or the length of a PES packet is not that of a
-// PES packet with Teletext (EN 300 472). Returns `None` for other bytes, such as a gap marker, and
-// if there are too few bytes to decide.
+// PES packet with Teletext (EN 300 472). Returns `None` if both are correct, as in a gap marker,
+// and if there are too few bytes to decide.
 fn fault_number_of(bytes: &[u8]) -> Option<u16> {
     let head = bytes.first_chunk()?;
     match decode_packet_size(head) {

@@ -9,11 +9,12 @@ use ttx_packet::unham;
 /// The events of a PES packet, which are compared with the events of the previous PES packet.
 #[derive(Drop)]
 pub struct Heard {
-    /// The characters of the events: `h` for each header of the page, `e` after it if the header
-    /// has C4 (erase page), and `c` for each packet that ends the open page; then `o` (the page is
-    /// open), `b` (the page is blank) and `s` (rows after the end of the page).
+    /// The characters of the events, at most 160: `h` for each header of the page, `e` after it if
+    /// the header has C4 (erase page), and `c` for each packet that ends the open page; then `o`
+    /// (the page is open), `b` (the page is blank) and `s` (rows after the end of the page, if the
+    /// PES packet has a header of the page).
     characters: ArrayVec<u8, 160>,
-    /// The eight numbers of each header of the page in the PES packet.
+    /// The eight numbers of each header of the page in the PES packet, as far as there is room.
     control: ArrayVec<u8, 640>,
     /// The number of Teletext packets in the PES packet; 0 if it has no PTS.
     units: u64,
@@ -60,12 +61,12 @@ impl Heard {
         }
     }
 
-    /// Adds the character of an event.
+    /// Adds the character of an event, if there is room.
     pub fn add(&mut self, character: u8) {
         let _ = self.characters.try_push(character);
     }
 
-    /// Adds the character of an event if `condition` is set.
+    /// Adds the character of an event if `condition` is set and there is room.
     pub fn add_if(&mut self, condition: bool, character: u8) {
         if condition {
             self.add(character);
@@ -84,14 +85,15 @@ impl Heard {
         }
     }
 
-    /// Adds the numbers of a header of the page, from its coded bytes.
+    /// Adds the numbers of a header of the page, from those of its coded bytes that can be decoded,
+    /// as far as there is room.
     pub fn add_numbers(&mut self, bytes: &[u8]) {
         for byte in bytes {
             self.add_number(unham(*byte));
         }
     }
 
-    // Adds the next number of a header, if its byte can be decoded.
+    // Adds the next number of a header, if its byte can be decoded and there is room.
     fn add_number(&mut self, number: Option<u8>)
         requires { IfSome number (λ n. n < 16) }
     {
@@ -100,12 +102,12 @@ impl Heard {
         }
     }
 
-    // Adds a hexadecimal digit of a number.
+    // Adds a number of a header, as a hexadecimal digit, if there is room.
     fn add_digit(&mut self, digit: u8) {
         let _ = self.control.try_push(digit);
     }
 
-    /// Returns whether two PES packets have the same events.
+    /// Returns whether two PES packets have the same events, as far as these are stored.
     pub fn is_same(&self, other: &Heard) -> bool {
         self.units == other.units
             && self.fault == other.fault

@@ -11,14 +11,15 @@ use crate::packets_in_step::TakesPackets;
 use crate::pid_packets::TakesPesPackets;
 
 /// The data received part by part from the packets of a PID is the data that they carry in the
-/// recording: PES packets, and gap markers for missing data.
+/// recording: PES packets, gap markers for missing data, and at the end perhaps bytes that are
+/// neither.
 #[tactic(auto, using(crate::proofs::FollowingLemmas::law_of_received_data))]
 pub fn law_of_received_data<T: TakesPesPackets>()
     ensures { LawOfReceivedData T.is_taken }
 {}
 
 /// The packets and gaps in bytes that arrive in two calls are processed like those in bytes that
-/// arrive in one call: each once, in order, to the end.
+/// arrive in one call: each once, in order.
 pub fn law_of_two_calls<M: TakesPackets>()
     ensures { LawOfTwoCalls M.is_taken }
 {}

@@ -1,6 +1,6 @@
-//! Lists the contents of a recording of a transport stream (ISO/IEC 13818-1) line by line: tables,
-//! PIDs with Teletext, their PES packets and up to eight decoded pages, clocks, and the first
-//! pictures.
+//! Lists the contents of a recording, a transport stream (ISO/IEC 13818-1) or a file of PES
+//! packets, line by line: tables, PIDs with Teletext, their PES packets and up to eight decoded
+//! pages, clocks, and the first pictures.
 //!
 //! `mpeg_ts` defines the data that the packets of a PID carry, `ttx_pes` the faults of a PES
 //! packet, and `ttx_page` the page that a receiver decodes.

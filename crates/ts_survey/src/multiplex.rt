@@ -31,8 +31,8 @@ const CAPACITY: usize = 64;
 pub struct Multiplex {
     alloc: Global,
     pages: SurveyPages,
-    // The number of the requested PID, which is the only one followed. `None` follows every PID
-    // with Teletext.
+    // The number of the requested PID, the only one that is followed for Teletext, even if it has
+    // none. If it is `None`, up to `CAPACITY` PIDs with Teletext are followed.
     requested: Option<u16>,
     // The number of the last transport packet.
     number: u64,
@@ -48,7 +48,7 @@ pub struct Multiplex {
 
 impl Multiplex {
     /// Creates the state before the first packet of a transport stream. Returns `None` if memory
-    /// runs out.
+    /// runs out for the states of the PIDs or for the requested PID.
     pub fn new(
         alloc: Global,
         pages: SurveyPages,
@@ -82,7 +82,8 @@ impl Multiplex {
         Some(all)
     }
 
-    /// Returns whether memory ran out.
+    /// Returns whether memory ran out for a PID with Teletext, a clock or a video PID. Tables for
+    /// which it ran out are not read.
     pub fn out_of_memory(&self) -> bool
         ensures { result ≡ self.now.out_of_memory }
     {
@@ -90,7 +91,7 @@ impl Multiplex {
     }
 
     // Starts to read the sections of a PID with tables, unless they are read already or there is no
-    // room for them.
+    // room or no memory for them.
     fn add_table(&mut self, pid: u16)
         ensures requested { KeepsRequested self.old self.new }
     {
@@ -104,8 +105,8 @@ impl Multiplex {
         }
     }
 
-    // Follows a PID with Teletext, unless the PID is followed already, another PID is requested, or
-    // `CAPACITY` PIDs are followed already.
+    // Follows a PID with Teletext, unless the PID is followed already, another PID is requested,
+    // `CAPACITY` PIDs are followed already, or memory runs out, which is recorded.
     fn follow(&mut self, pid: u16, text: &mut Text)
         ensures requested { KeepsRequested self.old self.new }
     {
@@ -122,8 +123,8 @@ impl Multiplex {
         }
     }
 
-    // Starts to follow a PID with Teletext, and prints its line `teletext`. Returns `None` if
-    // memory runs out.
+    // Starts to follow a PID that has Teletext or is requested, and prints its line `teletext`.
+    // Returns `None` if memory runs out.
     fn add_carrier(&mut self, pid: u16, text: &mut Text) -> Option<()>
         requires { length self.old.carriers.items < 64 }
         ensures requested { is_requested self.old.requested pid ≡ true → KeepsRequested self.old
@@ -144,8 +145,8 @@ impl Multiplex {
         Some(())
     }
 
-    // Follows the clock of a PID, unless the PID is 1FFF, its clock is followed already, or
-    // `CAPACITY` clocks are followed already.
+    // Follows the clock of a PID, unless the PID is 1FFF, its clock is followed already, `CAPACITY`
+    // clocks are followed already, or memory runs out, which is recorded.
     fn add_clock(&mut self, pid: u16)
         ensures requested { KeepsRequested self.old self.new }
     {
@@ -162,8 +163,8 @@ impl Multiplex {
         self.pids.set(pid, state);
     }
 
-    // Follows the pictures of a PID, unless they are followed already or the pictures of `CAPACITY`
-    // PIDs are.
+    // Follows the pictures of a PID, unless they are followed already, the pictures of `CAPACITY`
+    // PIDs are, or memory runs out, which is recorded.
     fn add_video(&mut self, pid: u16)
         ensures requested { KeepsRequested self.old self.new }
     {
@@ -180,7 +181,7 @@ impl Multiplex {
         self.pids.set(pid, state);
     }
 
-    // Processes a packet of a PID with Teletext.
+    // Processes a packet of a PID that is followed for Teletext.
     #[tactic(auto, using(crate::proofs::RequestedLemmas::one_changed))]
     fn process_teletext_packet(&mut self, state: &PidState, packet: &[u8; PACKET], text: &mut Text)
         ensures requested { KeepsRequested self.old self.new }
@@ -194,7 +195,8 @@ impl Multiplex {
         self.process_begun_pts(state, pts, text);
     }
 
-    // Processes a PTS that began in a packet of a PID with Teletext.
+    // Processes a PTS whose PES header became complete in a packet of a PID that is followed for
+    // Teletext.
     #[tactic(auto, using(crate::proofs::RequestedLemmas::one_changed))]
     fn process_begun_pts(&mut self, state: &PidState, pts: u64, text: &mut Text)
         ensures requested { KeepsRequested self.old self.new }
@@ -224,7 +226,8 @@ impl Multiplex {
         let Some(pictures) = self.videos.get(state.video as usize) else {
             return;
         };
-        // A packet with the counter of the packet before it is needed: a repeat after it is none.
+        // A packet with the counter of the packet before it is needed: after it, no packet counts
+        // as a repeat of an earlier packet.
         let is_same_counter = state.before % 0x10 == state.counter;
         if begins(packet) || pictures.needs_every_packet() || is_same_counter {
             self.process_needed_packet(
@@ -256,8 +259,8 @@ impl Multiplex {
         pictures.take(packet, kind, link, text);
     }
 
-    // Returns the last picture of the programme of a PID with Teletext, from the video PID of the
-    // programme that began first.
+    // Returns the last picture with a decoding time, from the video PID that was followed first in
+    // the programme of a PID with Teletext.
     fn last_picture(&self, teletext: &PidState) -> Option<Picture> {
         for video in self.videos.iter() {
             if shares_programme(&self.pids.get(video.pid()), teletext) {
@@ -290,7 +293,7 @@ impl Multiplex {
         self.note_pcr(pid, irregular_pcr, text);
     }
 
-    // Passes a PCR of this PCR_PID to each followed PID of the programme.
+    // Passes a PCR of this PCR_PID to each followed PID of a programme with this PCR_PID.
     fn note_pcr(&mut self, clock_pid: u16, irregular_pcr: Option<IrregularPcr>, text: &mut Text)
         ensures requested { KeepsRequested self.old self.new }
     {
@@ -372,8 +375,8 @@ impl Multiplex {
         }
     }
 
-    // Examines which data begins in a PID with unknown contents. If a PES packet does not show its
-    // data_identifier, a later PES packet may.
+    // Examines which data begins in a PID without followed tables, pictures or Teletext. If a PES
+    // packet does not show its data_identifier, a later PES packet may.
     fn inspect(&mut self, pid: u16, packet: &[u8; PACKET], text: &mut Text)
         ensures requested { KeepsRequested self.old self.new }
     {
@@ -397,7 +400,8 @@ impl Multiplex {
         }
     }
 
-    // Reads the sections that a packet carries.
+    // Adds the bytes of sections in a packet to those received before, and reads the complete
+    // sections that `store_if_new` stores.
     fn read_sections(&mut self, table: u8, packet: &[u8; PACKET], text: &mut Text)
         ensures requested { KeepsRequested self.old self.new }
     {
@@ -410,7 +414,7 @@ impl Multiplex {
         }
     }
 
-    // Reads all complete sections of a PID.
+    // Takes all complete sections of a PID, and reads those that `store_if_new` stores.
     fn read_complete_sections(&mut self, table: u8, text: &mut Text)
         ensures requested { KeepsRequested self.old self.new }
     {
@@ -421,7 +425,8 @@ impl Multiplex {
         }
     }
 
-    // Reads the next complete section of a PID, and returns whether one was found.
+    // Takes the next complete section of a PID, and reads it if `store_if_new` stores it. Returns
+    // whether a section was found.
     fn read_next_section(&mut self, table: u8, text: &mut Text) -> bool
         ensures requested { KeepsRequested self.old self.new }
     {
@@ -435,7 +440,8 @@ impl Multiplex {
         true
     }
 
-    // Reads a new section of the PAT or of a PMT. The PID of the PAT has the index 0.
+    // Reads a section of a PAT, only on the PID with index 0, or of a PMT, on any PID, by its
+    // table_id. Ignores other sections. The PID of the PAT has the index 0.
     fn read_section(&mut self, table: u8, section: &[u8], text: &mut Text)
         ensures requested { KeepsRequested self.old self.new }
     {
@@ -449,7 +455,8 @@ impl Multiplex {
         }
     }
 
-    // Starts to read the PMT of each programme in a PAT.
+    // Starts to read the PMTs that a section of a PAT names, except on PID 1FFF, as far as there is
+    // room and memory.
     fn read_pat(&mut self, section: &[u8])
         ensures requested { KeepsRequested self.old self.new }
     {
@@ -507,8 +514,9 @@ impl Multiplex {
         }
     }
 
-    /// Prints the final lines of the recording: the pictures, each PID with Teletext, and the
-    /// clocks. No irregular PCR is pending afterwards.
+    /// Prints the final lines of the stream: the pending irregular PCRs, the pictures, each PID
+    /// that is followed for Teletext except 1FFF, and the clocks. No irregular PCR is pending
+    /// afterwards.
     pub fn end(&mut self, text: &mut Text)
         ensures requested { KeepsRequested self.old self.new }
     {
@@ -524,7 +532,8 @@ impl Multiplex {
         }
     }
 
-    // Prints the final lines of the followed PIDs except 1FFF, one PID after another.
+    // Prints the final lines of the PIDs that are followed for Teletext except 1FFF, one PID after
+    // another.
     fn report_end_of_pids(&self, text: &mut Text) {
         for pid in 0..NULL_PID {
             self.report_end_of_pid(pid, text);
@@ -547,7 +556,7 @@ impl Multiplex {
 
 impl TakesPackets for Multiplex {
     // The requested PID and pages stay the same, and no further PID that is not requested is
-    // followed.
+    // followed for Teletext.
     ghost is_taken = { packet_keeps_requested };
 
     /// Processes transport packet number `number`.
@@ -571,7 +580,8 @@ impl TakesPackets for Multiplex {
         }
     }
 
-    /// Records that packets of any PID may be missing, since many bytes were skipped.
+    /// Records for each PID followed for Teletext that packets may be missing, since many bytes
+    /// were skipped.
     fn record_loss(&mut self)
         ensures taken { packet_keeps_requested self.old [] self.new }
     {
@@ -603,8 +613,8 @@ fn may_be_followed(state: &PidState) -> bool {
 }
 
 // Returns whether a PID with pictures belongs to the programme of a PID with Teletext: the last PMT
-// that names the pictures is the last that names the Teletext, or a later one, and has the same
-// PCR_PID. A later one belongs to it only if its PCR_PID is not 1FFF.
+// that names the pictures ended in the same packet as the last that names the Teletext, or later,
+// and has the same PCR_PID. A later one belongs to it only if its PCR_PID is not 1FFF.
 fn shares_programme(video: &PidState, teletext: &PidState) -> bool {
     let is_same_pmt = video.named == teletext.named && teletext.named != 0;
     let is_later_pmt = video.named > teletext.named && teletext.clock_pid != NULL_PID;
@@ -618,7 +628,7 @@ fn has_data_identifier(payload: &[u8]) -> bool {
 }
 
 // Returns whether a payload begins with a PES packet of Teletext: private_stream_1, whose first
-// data byte is a data_identifier of EBU data, 10 to 1F (EN 300 472).
+// data byte is in the payload and is a data_identifier of EBU data, 10 to 1F (EN 300 472).
 fn begins_with_teletext(payload: &[u8]) -> bool
     ensures { result ≡ specs.begins_with_teletext payload.now }
 {

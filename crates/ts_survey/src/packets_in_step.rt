@@ -60,7 +60,7 @@ enum Begins {
     Unknown,
 }
 
-// Returns the transport packet at an offset, if it is complete.
+// Returns the 188 bytes from an offset on, which may be a transport packet, if there are as many.
 #[inline(always)]
 fn packet_at(bytes: &[u8], place: usize) -> Option<&[u8; PACKET]>
     ensures some { IfSome result (λ packet. (place + 188 ≤ length bytes.now)
@@ -104,7 +104,7 @@ impl PacketsInStep {
         self.number
     }
 
-    /// Returns the number of bytes that belong to no packet.
+    /// Returns the number of bytes skipped so far, which belong to no packet.
     pub fn skipped(&self) -> u64
         ensures { result ≡ self.now.skipped }
     {
@@ -177,7 +177,8 @@ impl PacketsInStep {
         used
     }
 
-    // Processes the packets in the bytes, and returns the offset after them.
+    // Processes the packets in the bytes, and returns the offset after them and after the skipped
+    // bytes, which may be after the end of the bytes.
     #[inline(always)]
     fn find_and_process<M: TakesPackets>(
         &mut self,
@@ -299,8 +300,8 @@ fn next_packet_start(bytes: &[u8], place: usize, distance: usize) -> usize
     limit
 }
 
-// Returns whether a packet may begin at an offset out of step: at a sync byte with another sync
-// byte at the distance after it, or if that byte has not arrived yet.
+// Returns whether a packet may begin at an offset out of step: at a sync byte, if the byte at the
+// distance after it is another sync byte or has not arrived yet.
 #[inline(always)]
 #[tactic(auto, using(crate::proofs::InStepLemmas::starts))]
 fn may_begin_packet(bytes: &[u8], place: usize, distance: usize) -> bool

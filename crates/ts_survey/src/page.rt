@@ -32,8 +32,8 @@ impl Following {
         self.packet_notes.begin();
     }
 
-    /// Passes a Teletext packet to the receiver. Returns the packet's header of any page, if it has
-    /// one.
+    /// Passes a Teletext packet to the receiver. Returns the packet's header of any page, if one
+    /// can be decoded.
     pub fn hear(
         &mut self,
         packet: &Packet,
@@ -48,7 +48,8 @@ impl Following {
         header
     }
 
-    /// Ends a PES packet, and adds the state of the receiver after this packet to the events.
+    /// Ends a PES packet, and adds to its events whether the page is open, whether it is blank, and
+    /// whether rows came after the end of the page, in a PES packet with a header of the page.
     pub fn end(&self, heard: &mut Heard) {
         self.packet_notes.end(&self.receiver, heard);
     }

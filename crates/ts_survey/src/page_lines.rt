@@ -53,7 +53,7 @@ impl PageLines {
     }
 
     /// Passes a Teletext packet of the PES packet to the receiver of the page. Returns the packet's
-    /// header of any page, if it has one.
+    /// header of any page, if one can be decoded.
     pub fn hear(&mut self, packet: &Packet, text: &mut Text) -> Option<Header> {
         self.page.hear(packet, self.pid, &mut self.heard, text)
     }

@@ -20,7 +20,7 @@ pub struct PesFile {
     is_damaged: bool,
 }
 
-// Returns whether the bytes, six or more, begin with the start of a PES packet with private data.
+// Returns whether the bytes, six or more, begin like a PES packet of private_stream_1.
 fn is_start(bytes: &[u8]) -> bool
     requires { 6 ≤ length bytes.now }
     ensures { result ≡ reading.is_start bytes.now }
@@ -140,14 +140,14 @@ impl PesFile {
         self.lines.flush(text);
     }
 
-    /// Ends the file: prints all remaining lines.
+    /// Ends the file: prints all remaining lines except `over`.
     pub fn end(&self, text: &mut Text) {
         self.lines.end(text);
         self.report_end(text);
     }
 
-    // Prints the line `end`: the number of PES packets and gap markers, that of gap markers, four
-    // zeros for counts that a file does not have, and the last PTS.
+    // Prints the line `end`: 0 for the PID, the number of PES packets and gap markers, that of gap
+    // markers, four zeros for values that a file does not have, and the last PTS.
     fn report_end(&self, text: &mut Text) {
         text.put(b"end 0");
         text.number(self.lines.count());

@@ -35,7 +35,8 @@ impl PesHeader {
         self.bytes.len()
     }
 
-    /// Drops the header, because its bytes cannot be read or the rest of them is lost.
+    /// Drops the header, because its bytes cannot be read, the rest of them may be lost, or the
+    /// next header begins.
     pub fn clear(&mut self) {
         self.bytes.clear();
         self.is_open = false;
@@ -56,17 +57,19 @@ impl PesHeader {
         !self.is_open
     }
 
-    /// Returns stream_id of the PES packet, or `None` if the bytes begin no PES packet.
+    /// Returns stream_id of the PES packet, or `None` if fewer than four bytes are stored or they
+    /// begin no PES packet.
     pub fn stream_id(&self) -> Option<u8> {
         stream_id_in(self.bytes.as_slice())
     }
 
-    /// Returns the PTS of the PES packet, if it has one.
+    /// Returns the PTS that `pts_of_pes_packet` finds in the stored bytes, if any.
     pub fn pts(&self) -> Option<u64> {
         pts_of_pes_packet(self.bytes.as_slice())
     }
 
-    /// Returns the DTS of the PES packet, or its PTS if it has no DTS; `None` if it has no PTS.
+    /// Returns the DTS of the PES packet, or its PTS if it has no DTS. Returns `None` if `pts`
+    /// does, or if the stored bytes end before the end of the DTS.
     pub fn decoding_time(&self) -> Option<u64> {
         decoding_time(self.bytes.as_slice())
     }
@@ -88,7 +91,8 @@ fn add_prefix(bytes: &mut ArrayVec<u8, CAPACITY>, payload: &[u8]) {
     let _ = bytes.try_extend_from_slice(prefix);
 }
 
-// Returns how many bytes a header needs up to its times, by PTS_DTS_flags if these were received.
+// Returns how many bytes of a header are needed, up to the end of its times: by PTS_DTS_flags if at
+// least nine bytes were received, and otherwise 9.
 fn needed(bytes: &[u8]) -> usize {
     if bytes.len() < 9 || bytes[7] < 0x80 {
         9

@@ -137,7 +137,7 @@ impl PesLines {
         flush_pages(&mut self.pages, text);
     }
 
-    /// Prints that a jump of the counter was announced before the next PES packet.
+    /// Prints an announced jump of the counter before the next PES packet or gap marker.
     pub fn report_seam(&self, text: &mut Text) {
         text.put(b"seam");
         text.number(self.pid as u64);
@@ -186,7 +186,7 @@ fn begin_packet(pages: &mut Vec<PageLines>, fault: u16, has_pts: bool) {
 }
 
 // Passes a Teletext packet to the receivers of all pages. Returns the packet's header, which may be
-// of any page. Returns `None` if the packet has no header or if no page is followed.
+// of any page. Returns `None` if no header can be decoded or if no page is followed.
 fn hear_packet(pages: &mut Vec<PageLines>, packet: &Packet, text: &mut Text) -> Option<Header> {
     let mut header = None;
     for page in pages.iter_mut() {

@@ -26,9 +26,10 @@ pub enum Form {
 #[derive(Clone, Copy, Drop)]
 pub struct FormReader {
     kind: u8,
-    // The last eight bytes of the picture that were read before the form was known.
+    // The last eight bytes of the picture that were read until the form was determined; FF in place
+    // of bytes that were not read.
     window: [u8; 8],
-    // The form of the group, once it is known.
+    // The form of the group, once it is determined, perhaps as unknown.
     form: Option<Form>,
 }
 
@@ -69,7 +70,7 @@ fn form_of_stream_type(kind: u8) -> Option<Form> {
     }
 }
 
-// Returns the reader after one more byte. Once the form is known, the reader does not change.
+// Returns the reader after one more byte. Once the form is determined, the reader does not change.
 fn reader_after(reader: &FormReader, byte: u8) -> FormReader {
     if reader.form.is_some() {
         return *reader;

@@ -42,8 +42,8 @@ pub struct Pictures {
     count: u64,
     last: Option<Picture>,
     steps: Steps,
-    // Whether the next payload continues the picture at the random access point, and how many bytes
-    // of its PES header are still missing.
+    // Whether the PES packet that began last is the picture at the random access point, and how
+    // many more bytes of its PES header are skipped before the bytes of the picture.
     is_first: bool,
     header_bytes_left: usize,
     skipped_before: u64,
@@ -276,7 +276,7 @@ impl Pictures {
         text.put(b"\n");
     }
 
-    // Stores the least PTS, and ends the group more than ten seconds after it.
+    // Stores the least PTS, and ends the group if this PTS is more than ten seconds after it.
     fn note_group_pts(&mut self, now: u64, text: &mut Text) {
         let first = earlier_of(self.first, now);
         self.first = Some(first);
@@ -310,8 +310,8 @@ impl Pictures {
         text.put(form_word(self.reader.form()));
     }
 
-    /// Ends the recording: prints the last steps. If the first group of pictures has not ended,
-    /// also prints its line `group`, if it has begun, and its counts.
+    /// Ends the recording: ends the steps (`Steps::end`). If the first group of pictures has not
+    /// ended, also prints its line `group`, if it has begun, and its counts.
     pub fn end(&self, text: &mut Text) {
         self.steps.end(self.pid, text);
         match self.group_progress {
@@ -338,7 +338,8 @@ fn is_finished(group_progress: GroupProgress) -> bool {
     }
 }
 
-// Returns whether a packet's continuity_counter goes on, or the packet is the first of its PID.
+// Returns whether a packet's continuity_counter goes on without an announced jump, or the packet is
+// the first of its PID.
 fn follows(link: PacketLink) -> bool {
     match link {
         PacketLink::Next => true,
@@ -384,7 +385,8 @@ fn increment_if(condition: bool, number: u64) -> u64 {
 }
 
 // Returns the earlier of the least PTS so far and a new PTS. A PTS is earlier than another if it
-// precedes the other by less than half the 33-bit range.
+// precedes the other by less than half the 33-bit range. If they are half the range apart, the new
+// PTS counts as earlier.
 fn earlier_of(first: Option<u64>, now: u64) -> u64 {
     match first {
         Some(first) => {

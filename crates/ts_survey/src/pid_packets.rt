@@ -46,7 +46,8 @@ impl<T: TakesPesPackets> PidPackets<T> {
         }
     }
 
-    /// Returns whether a packet repeats the last good packet.
+    /// Returns whether a packet is the first repeat of the last good packet. Packets that came
+    /// before it but after the end of the data do not count.
     pub fn is_repeat(&self, packet: &[u8; PACKET]) -> bool
         requires payload { has_payload packet.now ≡ true }
         requires valid { is_unusable packet.now ≡ false }
@@ -55,8 +56,9 @@ impl<T: TakesPesPackets> PidPackets<T> {
         self.joining.is_repeat(packet)
     }
 
-    /// Returns whether a jump of the counter was announced between the last good packet and this
-    /// packet, and no loss of data is known.
+    /// Returns whether a jump of the counter was announced after the last good packet, at the
+    /// latest by this packet, and no loss of data is known. Once the data has ended, packets
+    /// between the two do not count.
     pub fn is_after_seam(&self, packet: &[u8; PACKET]) -> bool
         ensures { result ≡ is_seam (link_after self.now.joining self.now.joining.last packet.now) }
     {

@@ -24,8 +24,8 @@ pub enum PacketLink {
     /// A jump of the counter is announced after the packet before, or in this packet, whose counter
     /// is another.
     Announced,
-    /// The counter is the same: the packet is a repeat, 15 packets are missing, or the packet
-    /// announces a jump.
+    /// The counter is the same, and no packet in between announces a jump: the packet is a repeat,
+    /// 15 packets or more are missing, or the packet itself announces a jump.
     Same,
     /// Packets are missing before this packet.
     Broken,
@@ -38,7 +38,7 @@ pub struct PidState {
     /// possibly with `JUMP_FLAG`. Packets with transport_error_indicator do not count.
     pub counter: u8,
     pub before: u8,
-    /// The numbers of the first and the last packet with a payload; 0 if no packet had a payload.
+    /// The numbers of the first and the last such packet; 0 if there was none.
     pub first: u64,
     pub last: u64,
     /// The PCR_PID of the programme whose PMT named this PID last, and the stream_type in that PMT;
@@ -48,12 +48,12 @@ pub struct PidState {
     /// The number of the packet in which that PMT ended; 0 if no PMT named this PID.
     pub named: u64,
     /// The indices of the sections, the clock, the pictures and the PES packets of this PID;
-    /// `NO_INDEX` for each that the PID does not have.
+    /// `NO_INDEX` for each that is not followed.
     pub table: u8,
     pub clock: u8,
     pub video: u8,
     pub carrier: u8,
-    /// Whether data other than Teletext began in this PID.
+    /// Whether data other than Teletext was found to begin in this PID.
     pub is_other: bool,
 }
 
@@ -145,14 +145,14 @@ fn is_counted(packet: &[u8; PACKET]) -> bool {
 }
 
 // Returns whether the sections, the clock, the pictures or the PES packets of a PID are followed.
-// One test replaces four, since the function runs for each packet of a recording.
+// One test replaces four, since the function runs for each packet except null packets.
 #[inline(always)]
 fn is_followed(state: &PidState) -> bool {
     state.table & state.clock & state.video & state.carrier != NO_INDEX
 }
 
 /// Returns how far the counter of a PID went from one packet to the next: 1 if the counter
-/// continues, 0 if it is the same; otherwise packets are missing.
+/// continues, 0 if it is the same; otherwise packets are missing or a jump was announced.
 #[inline(always)]
 pub fn counter_distance(last: u8, next: u8) -> u8 {
     (next % 0x10 + 0x10 - last % 0x10) % 0x10
@@ -168,8 +168,8 @@ fn is_break(before: &PidState, packet: &[u8; PACKET]) -> bool {
         && !announces_jump(packet)
 }
 
-/// Returns how this packet, which is the last packet with a payload of its PID, follows the packet
-/// before.
+/// Returns how a packet follows the packet before it in its PID. The result is meaningful only if
+/// the packet is the last one of the PID whose counter counts.
 pub fn link_of(state: &PidState, packet: &[u8; PACKET]) -> PacketLink {
     let distance = counter_distance(state.before, state.counter);
     if state.first == state.last {
@@ -257,15 +257,16 @@ impl Pids {
         self.set(pid, state);
     }
 
-    // Stores a break, in place of the oldest stored break.
+    // Stores a break, in place of the oldest one if `MAX_STORED_BREAKS` breaks are stored.
     fn add_break(&mut self, one: Break) {
         let place = self.next % MAX_STORED_BREAKS;
         self.breaks[place] = one;
         self.next = (place + 1) % MAX_STORED_BREAKS;
     }
 
-    /// Returns whether the counters of other PIDs broke between two packet numbers: `broken`,
-    /// `whole` or `unknown`.
+    /// Returns ` broken` if a stored break of another PID may lie between two packet numbers;
+    /// otherwise ` whole` if another PID had packets with a payload both up to the first number and
+    /// after it, and ` unknown` if none had.
     pub fn break_word_between(&self, pid: u16, first: u64, second: u64) -> &'static [u8] {
         if is_broken_between(&self.breaks, pid, first, second) {
             return b" broken";
@@ -277,7 +278,7 @@ impl Pids {
     }
 }
 
-// Returns whether the counter of another PID broke between two packet numbers.
+// Returns whether a break of another PID may lie between two packet numbers.
 fn is_broken_between(breaks: &[Break], pid: u16, first: u64, second: u64) -> bool {
     breaks.iter().any(|one| one.pid != pid
         && one.before != 0
@@ -285,7 +286,7 @@ fn is_broken_between(breaks: &[Break], pid: u16, first: u64, second: u64) -> boo
         && first < one.at)
 }
 
-// Returns whether another PID had packets both up to a packet number and after it.
+// Returns whether another PID had packets with a payload both up to a packet number and after it.
 fn other_pids_span_packet(states: &[PidState], pid: usize, first: u64) -> bool {
     if pid >= states.len() {
         return spans_packet(states, first);
@@ -295,7 +296,8 @@ fn other_pids_span_packet(states: &[PidState], pid: usize, first: u64) -> bool {
     spans_packet(before, first) || spans_packet(following, first)
 }
 
-// Returns whether one of these PIDs had packets both up to a packet number and after it.
+// Returns whether one of these PIDs had packets with a payload both up to a packet number and after
+// it.
 fn spans_packet(states: &[PidState], first: u64) -> bool {
     states.iter().any(|state| state.first != 0 && state.first <= first && first < state.last)
 }

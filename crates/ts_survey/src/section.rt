@@ -88,8 +88,9 @@ fn crc_after_bit(crc: u32) -> u32
     }
 }
 
-/// The name of a section, which distinguishes it from other sections: table_id, the number after it
-/// (program_number in a PMT), and section_number. A new version of a section has another CRC_32.
+/// The name of a section, which distinguishes it from other sections: table_id, the number in bytes
+/// 3 and 4 (program_number in a PMT), and section_number. A new version of a section has another
+/// CRC_32.
 #[derive(Clone, Copy, PartialEq, Eq)]
 pub struct SectionName {
     pub table: u8,
@@ -97,7 +98,7 @@ pub struct SectionName {
     pub section: u8,
 }
 
-/// Returns the name of a section, or `None` if the section is too short to have a name and a CRC.
+/// Returns the name of a section, or `None` if the section is shorter than 12 bytes.
 pub fn section_name_of(section: &[u8]) -> Option<SectionName>
     ensures value { result ≡ section_name_of section.now }
     ensures is_long_enough { IfSome result (λ _. 12 ≤ length section.now) }
@@ -199,8 +200,8 @@ pub struct Descriptor {
     pub end: usize,
 }
 
-/// Returns the descriptor at an offset of bytes. A descriptor that extends beyond `end` is cut off
-/// there. Returns `None` if no descriptor fits.
+/// Returns the descriptor at an offset of bytes, cut off at `end` or at the end of the bytes.
+/// Returns `None` if fewer than two bytes are left there.
 pub fn descriptor_at(bytes: &[u8], place: usize, end: usize) -> Option<Descriptor>
     requires { place < 0x1_0000 }
     ensures value { result ≡ descriptor_at bytes.now place end }

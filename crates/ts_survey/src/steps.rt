@@ -1,16 +1,19 @@
-//! Prints the least and the greatest step between the decoding times of a video PID, second by
-//! second.
+//! Prints the least and the greatest step between the decoding times of a video PID, for the first
+//! second with steps, and for each second in which they differ from each other or from those
+//! printed last, by `DIFFERENT_TICKS` or more.
 
 use crate::clock::CLOCK_TICKS_PER_SECOND;
 use crate::text::{CLOCK_PERIOD, Text, forward_distance};
 
-/// Steps that differ by fewer ticks are alike. A quarter of a frame has 900 ticks.
+/// Steps that differ by fewer ticks are alike. At 25 frames per second, a quarter of a frame has
+/// 900 ticks.
 const DIFFERENT_TICKS: u64 = 900;
 
 /// A step from a decoding time to the next.
 #[derive(Clone, Copy)]
 struct Step {
-    // The ticks of the step plus half the range of the clock, so that steps back come first.
+    // The ticks of the step plus half the range of the clock, modulo that range, so that steps back
+    // come first.
     order: u64,
     // The number of the picture after the step.
     number: u64,
@@ -37,7 +40,7 @@ impl Steps {
     }
 
     /// Processes the decoding time of picture `number`, and the decoding time before it. Prints the
-    /// steps of a second if the second ends with this picture and the steps are new.
+    /// steps of a second if the second ends with this picture and `is_new` returns `true`.
     pub fn take(&mut self, pid: u16, before: Option<u64>, time: u64, number: u64, text: &mut Text) {
         if let Some(before) = before {
             self.add(Step {
@@ -76,7 +79,8 @@ impl Steps {
         }
     }
 
-    // Prints the steps of a second that has ended, if they are new, and begins the next second.
+    // Prints the steps of a second that has ended, if `is_new` returns `true`, and begins the next
+    // second.
     fn report(&mut self, pid: u16, text: &mut Text) {
         let Some(range) = self.range else {
             return;
@@ -88,8 +92,8 @@ impl Steps {
         }
     }
 
-    // Returns whether steps differ from each other, or from those that were printed last, or none
-    // were printed yet.
+    // Returns whether steps differ from each other or from those that were printed last, by
+    // `DIFFERENT_TICKS` or more, or none were printed yet.
     fn is_new(&self, range: &(Step, Step)) -> bool {
         let (least, most) = *range;
         match self.reported {
@@ -102,7 +106,8 @@ impl Steps {
         }
     }
 
-    /// Ends the recording: prints the steps since the end of the last second, if they are new.
+    /// Ends the recording: prints the steps since the end of the last second, if `is_new` returns
+    /// `true`.
     pub fn end(&self, pid: u16, text: &mut Text) {
         let Some(range) = self.range else {
             return;

@@ -15,7 +15,7 @@ const MAX_KNOWN_SECTIONS: usize = 1024;
 /// The size in bytes of a buffer for the longest section and one more payload.
 pub const SECTION_CAPACITY: usize = 4288;
 
-/// The bytes of a section.
+/// A buffer for the bytes of sections.
 pub type Section = ArrayVec<u8, SECTION_CAPACITY>;
 
 /// The sections of a PID, as far as they have been received.
@@ -25,7 +25,7 @@ struct PartialSections {
     bytes: Section,
 }
 
-/// A section that was read before.
+/// The name and the CRC_32 of a section that was stored.
 #[derive(Clone, Copy)]
 struct KnownSection {
     name: SectionName,
@@ -67,7 +67,7 @@ impl PartialSections {
         }
     }
 
-    // Ends the sections of a payload if the next byte is stuffing.
+    // Ends the sections of a payload if `has_stuffing` finds that the next byte is stuffing.
     fn end_at_stuffing(&mut self) {
         if has_stuffing(self.bytes.as_slice()) {
             self.is_open = false;
@@ -142,7 +142,8 @@ impl Tables {
         }
     }
 
-    /// Appends bytes of a PID: to the bytes received before, or at the start of a section.
+    /// Appends bytes of a PID to those received before or, if `begins` is set, begins a section
+    /// with them. Drops the bytes if no section has begun or there is no room for them.
     pub fn take(&mut self, place: u8, bytes: &[u8], begins: bool) {
         let Some(partial_section) = self.partial_sections.get_mut(place as usize) else {
             return;
@@ -162,8 +163,9 @@ impl Tables {
         }
     }
 
-    /// Stores a complete section if it is new, current (current_next_indicator) and correct by its
-    /// CRC_32, and if there is room for it. Returns whether it was stored.
+    /// Stores the name and the CRC_32 of a complete section if the section has a name, is new,
+    /// current (current_next_indicator) and correct by its CRC_32, and if there is room and memory.
+    /// Returns whether they were stored.
     pub fn store_if_new(&mut self, section: &[u8]) -> bool {
         let Some(name) = section_name_of(section) else {
             return false;
@@ -181,7 +183,8 @@ impl Tables {
         self.keep(name, *crc, was_known)
     }
 
-    // Stores a section, in place of the section with its name; returns whether it was stored.
+    // Stores the name and the CRC_32 of a section, in place of those of a section with this name,
+    // if one is known. Returns whether they were stored.
     fn keep(&mut self, name: SectionName, crc: [u8; 4], was_known: bool) -> bool {
         if was_known {
             self.replace(name, crc);
@@ -193,7 +196,7 @@ impl Tables {
         self.known.push(KnownSection { name, crc }).is_ok()
     }
 
-    // Replaces the stored section with this name.
+    // Replaces the CRC_32 of the stored section with this name.
     fn replace(&mut self, name: SectionName, crc: [u8; 4]) {
         for section in self.known.iter_mut() {
             set_crc(section, name, crc);
@@ -225,7 +228,7 @@ fn is_known_section(known: &[KnownSection], name: SectionName, crc: &[u8; 4]) ->
         .any(|one| is_same_name(one.name, name) && one.crc == *crc)
 }
 
-/// Splits a payload with sections by its pointer_field (ISO/IEC 13818-1). Returns the end of the
+/// Splits a payload with sections by its pointer_field (ISO/IEC 13818-1). Returns the bytes of
 /// sections that began in earlier payloads, and the sections that begin in this payload, if any.
 pub fn split_at_pointer_field<'a>(
     packet: &[u8; PACKET],
@@ -239,7 +242,7 @@ pub fn split_at_pointer_field<'a>(
     (before, Some(following))
 }
 
-// Splits the bytes at an offset.
+// Splits the bytes at an offset, or at their end if the offset is beyond it.
 fn split_at_length(bytes: &[u8], place: u8) -> (&[u8], &[u8]) {
     bytes.split_at((place as usize).min(bytes.len()))
 }

@@ -10,7 +10,7 @@ use ttx_packet::PageId;
 /// second (ISO/IEC 13818-1).
 pub const CLOCK_PERIOD: u64 = 1 << 33;
 
-// A space, a sign and a decimal number as characters.
+// A separator, a sign if needed, and a decimal number as characters.
 type Word = ArrayVec<u8, 32>;
 
 /// Lines of output in memory. If memory runs out, the text that was to be added is lost, and so is
@@ -25,7 +25,7 @@ pub struct Text {
 
 impl Text {
     /// Creates an empty text. `page` is the only page to which lines may belong, or `None` if there
-    /// are several.
+    /// are several or none.
     pub fn new(alloc: Global, page: Option<PageId>) -> Text
         ensures empty { length result.bytes.items ≡ 0 }
         ensures whole { result.is_lost ≡ false }
