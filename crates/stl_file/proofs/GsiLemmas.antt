@@ -28,7 +28,7 @@ passed_display_is_valid : (takes_open : Bool) (d : ℕ)
     → IsAcceptedDisplay takes_open d
 passed_display_is_valid takes_open d e = grind (arith, nat_tests)
 
--- If reading a GSI block finds no fault, the block is accepted and returned unchanged.
+-- If reading a GSI block finds no fault, the block is valid and returned unchanged.
 pub accepted_gsi_is_valid : (takes_open : Bool) (g h : List ℕ)
     → length g ≡ 1024
     → checked_gsi takes_open g ≡ Ok h

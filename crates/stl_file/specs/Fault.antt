@@ -49,7 +49,7 @@ abbrev pub is_normal_write_failure : NormalFault → Bool
 is_normal_write_failure Write = true
 is_normal_write_failure _ = false
 
--- The fault is in the bytes of a TTI block, or in the block's position among the blocks of its
+-- The fault is in the fields of a TTI block, or in the block's position among the blocks of its
 -- subtitle.
 abbrev pub is_block_fault : StlFault → Bool
 is_block_fault fault.Extension = true

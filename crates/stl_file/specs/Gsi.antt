@@ -18,7 +18,7 @@
 --   TNB  238   5   number of TTI blocks
 --   TNS  243   5   number of subtitles
 --
--- DFC, DSC and CCT decide whether a file is accepted; all other bytes are stored but not checked.
+-- DFC, DSC and CCT decide whether the block is accepted; other bytes are not checked.
 use Rattle.std.specs.Prelude.{◌≡◌, ℕ, ◌+◌, ◌/◌, ◌%◌, Bool, false, true, not, ◌&&◌, ◌||◌, ◌==◌}
 use Rattle.std.specs.Prelude.{◌⊎◌, List, [], ◌∷◌, ◌++◌, length, take, drop, slice_index}
 use Rattle.std.specs.Prelude.{bytes_eq, Result, Ok}

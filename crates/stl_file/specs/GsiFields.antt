@@ -1,5 +1,5 @@
 -- The fields of a GSI block (EBU Tech 3264) by name, with their offsets and lengths. `dfc`, `dsc`
--- and `cct`, which decide whether a file is accepted, are in Gsi.
+-- and `cct`, which decide whether the block is accepted, are in Gsi.
 use Rattle.std.specs.Prelude.{ℕ, List, slice_index}
 use Rattle.stl_file.specs.Gsi.{field}
 

@@ -68,7 +68,7 @@ normal_form g ts = gsi_with_counts g ts ++ concat (blocks_of_subtitles ts)
 abbrev pub SubtitlesOrFault : Type 0
 SubtitlesOrFault = Result (List SubtitleValue) NormalFault
 
--- Puts the subtitle s in front of the subtitles in a result.
+-- Puts the subtitle s in front of the subtitles in a result; a fault is unchanged.
 abbrev pub prepend_subtitle : SubtitleValue → SubtitlesOrFault → SubtitlesOrFault
 prepend_subtitle s (Ok ss) = Ok (s ∷ ss)
 prepend_subtitle s (Err f) = Err f

@@ -112,8 +112,8 @@ started_subtitle_of s read = record
 abbrev pub current_subtitle : SubtitleValue → BlocksRead → Option StartedSubtitle
 current_subtitle s read = if read.count == 0 then None else Some (started_subtitle_of s read)
 
--- The effect of a block, given the contents and the state that the block leaves, and whether the
--- subtitle is complete; or the block's fault.
+-- The effect of a block, given the contents and the state that the block leaves, and whether it
+-- completes a subtitle that is not skipped; or the block's fault.
 abbrev pub step_by_result : SubtitleValue → BlocksRead → Result Bool StlFault → Result BlockStep
     StlFault
 step_by_result s read (Err f) = Err f
@@ -127,7 +127,8 @@ every_block_checks b =
     ∷ (fault.CommentFlag, nat_lt comment_flag (cf b))
     ∷ []
 
--- The effect of any block. User data and comments do not change the current subtitle.
+-- The effect of any block, or its fault. User data, and comments whose EBN is not reserved, do not
+-- change the current subtitle.
 unfoldable pub tti_block_step : Scope → Option StartedSubtitle → List ℕ → Result BlockStep StlFault
 tti_block_step scope begun b =
     if ebn b == user_data_ebn then Ok (More begun)
@@ -139,11 +140,11 @@ tti_block_step scope begun b =
 -- Five faults concern fields of a subtitle's first block: CS, JC, VP, TCI and TCO. After such a
 -- fault it is still known which blocks belong to the subtitle: the first block and the next blocks
 -- up to the first with EBN FF, without comments and user data. So the subtitle is rejected, and
--- reading can continue after its blocks, in which all other faults are still reported.
+-- reading can continue after its blocks. Any other fault ends reading.
 
--- The results for the rest of a file, in order: each subtitle with the number of its last block,
--- each rejected subtitle with its fault and the number of its first block; then the end of the
--- file, or the fault that ends reading, with its block number.
+-- The results for the rest of a file, in order, without subtitles outside the scope: each subtitle
+-- with the number of its last block, each rejected subtitle with its fault and the number of its
+-- first block; then the end of the file, or the fault that ends reading, with its block number.
 pub data Findings : Type 0 where
   no_more : Findings
   breaks : StlFault → ℕ → Findings

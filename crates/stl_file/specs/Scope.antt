@@ -16,12 +16,13 @@ begins_outside scope b =
     && not (nat_le scope.from (frame_from_bytes (tci b)) && nat_lt (frame_from_bytes (tci b))
     scope.to)
 
--- The blocks of a subtitle are outside the scope: the TCI of the first block is.
+-- The blocks of a subtitle are outside the scope: the TCI of the first block is a valid time code
+-- outside the range.
 abbrev pub is_outside : Scope → List (List ℕ) → Bool
 is_outside scope [] = false
 is_outside scope (b ∷ bs) = begins_outside scope b
 
 -- The blocks of a subtitle are inside the scope: the TCI of the first block is not outside the
--- range, or is no time code.
+-- range, or is no valid time code.
 abbrev pub is_inside : Scope → List (List ℕ) → Bool
 is_inside scope group = not (is_outside scope group)

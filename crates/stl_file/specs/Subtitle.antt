@@ -25,7 +25,7 @@ pub record SubtitleValue : Type 0 where
 abbrev pub empty_subtitle : SubtitleValue
 empty_subtitle = record { sgn = 0; sn = 0; tci = 0; tco = 1; vp = 1; jc = 0; text = [] }
 
--- The maximum number of bytes of a subtitle's text: nine blocks of 112 bytes each.
+-- The maximum number of bytes of a subtitle's text: nine text fields of 112 bytes each.
 abbrev pub max_text_size : ℕ
 max_text_size = 1008
 
@@ -37,7 +37,7 @@ has_no_unused_space (x ∷ xs) = if x == unused_space then false else has_no_unu
 
 -- A valid subtitle: TCI is before TCO and both are in the day, the row is 1 to 23, the
 -- justification code 0 to 3, and the text has no unused space and at most 1008 bytes. SGN, SN and
--- the codes in the text are not restricted.
+-- the other codes in the text are not restricted.
 pub record IsSubtitle (s : SubtitleValue) : Type 0 where
   pub times : s.tci < s.tco
   pub in_day : s.tco < day

@@ -40,13 +40,13 @@ pub enum StlFault {
     Sequence,
     /// Fault code 23: a subtitle has more than nine blocks.
     TooLong,
-    /// Fault code 24: the file ends within a subtitle, before a block with EBN FF.
+    /// Fault code 24: the file ends within a subtitle, before its block with EBN FF.
     Unfinished,
     /// Fault code 25: the file continues after 99,999 TTI blocks.
     TooManyBlocks,
     /// Fault code 26: the source failed.
     Read,
-    /// Fault code 27: an `StlReader` was called again after a fault.
+    /// Fault code 27: `next` or `next_into` of an `StlReader` was called again after a fault.
     Ended,
 }
 

@@ -1,4 +1,4 @@
-//! GSI blocks (EBU Tech 3264), stored as the bytes that were read.
+//! GSI blocks (EBU Tech 3264), stored as their 1024 bytes.
 
 ghost use Rattle.std.specs.Prelude.{◌≡◌, ◌+◌, ◌<◌, ◌≤◌, IfErr, IfOk, length, true};
 ghost use Rattle.stl_file.specs.Fault.{is_file_format_fault};

@@ -12,8 +12,8 @@ ghost use Rattle.stl_file.specs.declared.scope.Scope.{Scope};
 /// Within a scope, bytes are a file with a certain GSI block and certain subtitles if and only if
 /// they begin with this block, and reading them returns exactly these subtitles and no fault.
 ///
-/// So the definition of a file determines which subtitles a reader returns, and whether it reports
-/// a fault.
+/// So the definition of a file determines whether a reader reports a fault, and if it reports none,
+/// which subtitles it returns.
 pub fn law_of_files()
     ensures { (scope : Scope)
         → (s g : List ℕ)

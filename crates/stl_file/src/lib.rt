@@ -1,6 +1,7 @@
 //! Reads and writes EBU Tech 3264 subtitle files: a GSI block and TTI blocks.
 //!
-//! A file is read block by block from any `sub_io::Source`, and rejected at its first fault:
+//! A file is read block by block from any `sub_io::Source`. `ResumingReader` continues after a
+//! rejected subtitle; `StlReader` stops at the first fault:
 //!
 //! ```text
 //! let mut reader = StlReader::open(&mut source)?;

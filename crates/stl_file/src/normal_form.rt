@@ -139,8 +139,7 @@ fn write_subtitles<K: Sink>(gsi: Gsi, body: &[u8], sink: &mut K) -> Result<(), F
                 write_subtitle(&subtitle, sink)?;
             }
             Ok(false) => return Ok(()),
-            // The first pass over the file has rejected no block, so the second pass finds no
-            // fault.
+            // The first pass over the file has found no fault, so the second pass finds none.
             Err(_) => unreachable!(),
         }
     }

@@ -3,8 +3,8 @@
 /// The progress of a reader of subtitle files: whether it can continue.
 #[derive(Clone, Copy, Debug, PartialEq, Eq)]
 pub enum Progress {
-    /// The reader can continue: the next block begins a subtitle or is skipped, or the file ends.
-    /// In a `ResumingReader` the next block may also belong to a rejected subtitle.
+    /// The reader can continue, and is not within a subtitle. Only a `ResumingReader` may be within
+    /// one: a rejected subtitle, whose later blocks may follow.
     Reading,
     /// The file has ended: each later call of `StlReader::next` returns `None`.
     AtEnd,

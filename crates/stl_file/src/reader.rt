@@ -31,11 +31,11 @@ use crate::tti::Tti;
 use std::marker::Model;
 use sub_io::{Source, fill};
 
-/// A reader of a subtitle file. The reader does not own the source: each call takes the source of
-/// the file.
+/// A reader of a subtitle file. The reader does not own the source: each call that reads takes the
+/// source of the file.
 ///
-/// The model has the GSI block, the number of the last TTI block that was read or begun, and the
-/// progress.
+/// The model has the GSI block, the number of the last TTI block that was read or begun, or at
+/// which the source failed, and the progress.
 #[derive(Drop)]
 pub struct StlReader {
     gsi: Gsi,
@@ -75,8 +75,8 @@ impl StlReader {
             IfOk result (λ reader. S.remaining source.new ≡ Some (drop 1024 bytes))) }
         ensures start { IfOk result (λ reader.
             (reader.block ≡ 0) × (reader.progress ≡ Reading)) }
-        // No subtitle file begins with the rejected bytes; after `Truncated`, a file may begin with
-        // them, but none consists of exactly these bytes.
+        // No subtitle file for Teletext begins with the rejected bytes; after `Truncated`, a file
+        // may begin with them, but none consists of exactly these bytes.
         ensures refused { IfErr result (λ fault. is_file_format_fault fault ≡ true →
             RefusesOpening (S.remaining source.old) (S.remaining source.new) fault) }
         // If the source failed, it failed within the GSI block.
@@ -285,8 +285,8 @@ pub(crate) fn read_gsi<S: Source>(source: &mut S, scope: Scope) -> Result<Gsi, S
 
 // Reads blocks after `block`, up to the last block of a subtitle that is not skipped (`true`), the
 // end of the file (`false`) or a fault. On entry, `refused` is the first block of a rejected
-// subtitle that continues here. If the fields of a subtitle's first block are rejected, `refused`
-// is then that block, or `None` if the block is also the subtitle's last.
+// subtitle that continues here, if any. If the fields of a subtitle's first block are rejected,
+// `refused` is then that block, or `None` if the block is also the subtitle's last.
 pub(crate) fn read_blocks<S: Source>(
     scope: Scope,
     block: &mut u32,
@@ -362,7 +362,7 @@ fn resume(subtitle: &mut Subtitle, refused: &Option<Tti>) -> BlocksRead
     }
 }
 
-// Returns the number of the block to report for a fault after `block` blocks.
+// Returns the number of the block to report for a fault, if the reader has counted `block` blocks.
 pub(crate) fn block_of(block: u32, fault: &StlFault) -> u32
     requires { block ≤ max_blocks }
     ensures { block_of_fault block fault.now ≡ result }

@@ -39,8 +39,9 @@ pub enum Found {
 /// A reader of the subtitles in a scope. If a subtitle is rejected (`Found::Refused`), the reader
 /// continues after the subtitle's last block. The reader does not own the source.
 ///
-/// The model has the scope, the number of the last TTI block that was read or begun, the progress,
-/// and, until reading ends, the rejected subtitle whose later blocks may follow.
+/// The model has the scope, the number of the last TTI block that was read or begun, or at which
+/// the source failed, the progress, and, until reading ends, the rejected subtitle whose later
+/// blocks may follow.
 #[derive(Drop)]
 pub struct ResumingReader {
     scope: Scope,

@@ -174,7 +174,7 @@ impl Subtitle {
     }
 
     // Replaces the contents by the subtitle that starts with `block`, with the text of that block,
-    // or returns the first fault of `block`.
+    // or returns the first fault in CS, JC, VP, TCI and TCO of `block`.
     #[tactic(auto, unfolding(crate::specs::Reading::subtitle_of_first_block))]
     pub(crate) fn begin(&mut self, block: &Tti) -> Result<(), StlFault>
         ensures ok { OnOk result (subtitle_of_first_block block.now ≡ Ok self.new) }

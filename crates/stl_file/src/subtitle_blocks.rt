@@ -15,7 +15,7 @@ use crate::tti::Tti;
 #[derive(Clone, Copy)]
 pub(crate) struct BlocksRead {
     // The number of blocks of the subtitle read so far. If the number is 0, the contents of the
-    // subtitle are meaningless.
+    // subtitle and `is_skipped` are meaningless.
     pub(crate) count: u8,
     // Whether the subtitle is skipped, because it is outside the scope or was rejected.
     pub(crate) is_skipped: bool,
