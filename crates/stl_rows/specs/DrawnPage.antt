@@ -47,7 +47,7 @@ pub record PlacedLine : Type 0 where
   pub is_below_double_height : Bool
   pub cells : List ℕ
 
--- The layout item `double`: the distance of two lines in rows, 2 or 1.
+-- The layout item `double`: the distance in rows of two successive lines that take a row, 2 or 1.
 abbrev pub pitch : LayoutItems → ℕ
 pitch items = if items.double then 2 else 1
 
@@ -148,9 +148,9 @@ drawn_by national items t =
 unfoldable pub drawn : Drawing → SubtitleValue → Result Rows RowFault
 drawn drawing t = drawn_by drawing.national (items_of_layout drawing.layout) t
 
--- If VP is at least 1, the default layout draws a subtitle plainly: each line is one row below the
--- line before, and gets a box if it has cells but no start box. So a layout changes nothing if each
--- of its items has the default value.
+-- If VP is at least 1, the default layout draws a subtitle plainly, or gives the same first fault:
+-- each line is one row below the line before, and gets a box if it has cells but no start box. So a
+-- layout changes nothing if each of its items has the default value.
 abbrev pub LawOfDefaultLayout : Type 0
 LawOfDefaultLayout =
     (national : National) (t : SubtitleValue)

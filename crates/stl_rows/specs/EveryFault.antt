@@ -17,7 +17,7 @@ use Rattle.stl_rows.specs.declared.layout.Drawing.{Drawing}
 use Rattle.stl_rows.specs.declared.times.Times.{Times}
 use Rattle.stl_rows.specs.Programme.{faults_of_next_subtitle, times_of}
 
--- A fault of this kind at a TTI block.
+-- A fault of this kind at the TTI block with this number, or at the GSI block, number 0.
 abbrev pub load_fault : ℕ → LoadFaultKind → LoadFault
 load_fault block kind = record { block = block; kind = kind }
 
@@ -116,8 +116,8 @@ pub record FailsReporting
       (λ all. Reports IsReported reported_old reported_new
       (filter (is_reported_before block) (faults drawing all)))
 
--- A subtitle without faults ends at block `at`, and `reported` are exactly the faults of the file
--- before that subtitle. The previous subtitle has the times `before`.
+-- In the rest of a file, after a subtitle with the times `before`, a subtitle without faults ends
+-- at block `at`, and `reported` are exactly the faults of that rest before that subtitle.
 abbrev pub EndsSubtitleAfter : Drawing → Option Times → List LoadFault → ℕ → Findings → Type 0
 EndsSubtitleAfter drawing before reported at no_more = ⊥
 EndsSubtitleAfter drawing before reported at (breaks fault block) = ⊥

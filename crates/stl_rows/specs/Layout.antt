@@ -96,6 +96,6 @@ abbrev pub drawing_within : National → Layout → Scope → Drawing
 drawing_within national layout scope =
     record { national = national; layout = layout; scope = scope }
 
--- A drawing with a national option and a layout, for all subtitles of a file.
+-- A drawing with a national option and a layout, for all subtitles of a file for Teletext.
 abbrev pub drawing_by : National → Layout → Drawing
 drawing_by national layout = drawing_within national layout whole

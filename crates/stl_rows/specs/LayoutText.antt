@@ -27,7 +27,7 @@ equals_sign = 0x3D
 abbrev pub asterisk : ℕ
 asterisk = 0x2A
 
--- The text before the first `mark`, and the text after it; `None` for the second part if the text
+-- The text before the first `mark`, and the text after it; the whole text and `None` if the text
 -- has no `mark`.
 unfoldable pub split_at_mark : ℕ → List ℕ → List ℕ × Option (List ℕ)
 split_at_mark mark text =
@@ -82,7 +82,7 @@ byte_of_digits high low = do
 
 -- Fills a list of places with the spacing attributes of pairs of hexadecimal digits. The first
 -- `filled` places are taken. `None` if a pair is no spacing attribute of a layout, a digit is left
--- over, or no place is free.
+-- over, or there are more pairs than free places.
 unfoldable pub places_with_codes :
     List (Option Attribute) → ℕ → List ℕ → Option (List (Option Attribute))
 places_with_codes places filled [] = Some places

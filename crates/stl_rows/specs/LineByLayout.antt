@@ -17,7 +17,7 @@ use Rattle.stl_rows.specs.TextCode.{fault_of, first_of, new_line}
 
 -- ---- the cells of a text and its lines
 
--- The cell of a text code, or 8A for a new line; `None` for a text code without a cell.
+-- The cell of a text code, or 8A for a new line; `None` for any other text code.
 abbrev pub cell_or_new_line : TextCode → Option ℕ
 cell_or_new_line (Cell code) = Some code
 cell_or_new_line NewLine = Some new_line
@@ -27,7 +27,7 @@ cell_or_new_line _ = None
 abbrev pub cells_and_new_lines : List (ℕ × TextCode) → List ℕ
 cells_and_new_lines codes = filter_map (λ (c : ℕ × TextCode). cell_or_new_line c.1) codes
 
--- The lines of cells between new lines (8A).
+-- The lines of cells that new lines (8A) separate: one more than there are new lines.
 abbrev pub cut_lines : List ℕ → List (List ℕ)
 cut_lines cells = slice_split (λ c. c == new_line) cells
 
@@ -36,7 +36,7 @@ abbrev pub HaveSevenBitCells : List (List ℕ) → Type 0
 HaveSevenBitCells lines =
     AllByRecursion (λ (line : List ℕ). AllByRecursion (λ (c : ℕ). c < 128) line) lines
 
--- The lines of cells between new lines, prepared by a layout.
+-- The lines of cells that new lines separate, prepared by a layout.
 abbrev pub prepared_cut_lines : LayoutItems → List ℕ → List (List ℕ)
 prepared_cut_lines items cells = map (prepared_by_layout items) (cut_lines cells)
 

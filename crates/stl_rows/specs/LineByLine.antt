@@ -1,5 +1,5 @@
--- The steps in which the code draws the lines of a text, one line at a time, and the properties of
--- a line that decide its faults. No public clause uses this file.
+-- The steps in which the code draws the lines of a text by the default layout, one line at a time,
+-- and the properties of a line that decide its faults. No public clause uses this file.
 use Rattle.std.specs.Prelude.{ℕ, ◌+◌, ◌-◌, ◌<◌, ◌≤◌, Bool, false, ◌&&◌, ◌||◌, List, [], ◌∷◌}
 use Rattle.std.specs.Prelude.{◌++◌, Option, Some, ◌==◌, nat_lt, if◌then◌else◌, length, map}
 use Rattle.std.specs.Prelude.{slice_set}

@@ -45,8 +45,8 @@ trimmed cells = without_trailing_spaces (without_leading_spaces cells)
 
 -- ---- the prepared form of a line
 
--- The layout item `white`: the leading codes of a line, followed by 07 (alpha white) if none of the
--- codes is a colour.
+-- The leading codes of a line; with the layout item `white`, followed by 07 (alpha white) if none
+-- of the codes is a colour.
 abbrev pub codes_with_colour : LayoutItems → List ℕ → List ℕ
 codes_with_colour items codes =
     if items.white && not (list_any (is_within 0x01 0x07) codes) then codes ++ 0x07 ∷ [] else codes
@@ -83,9 +83,9 @@ prepared_by_layout items cells =
 
 -- ---- the column of a prepared line
 
--- The layout item `text`: the numbers of cells at the start and at the end of a prepared line that
--- do not count for its column. If the line has only spacing attributes, all cells count as its
--- start.
+-- The numbers of cells at the start and at the end of a prepared line that do not count for its
+-- column: with the layout item `text`, its leading and trailing spacing attributes; otherwise none.
+-- If a line has only spacing attributes, all of them are leading.
 abbrev pub uncounted_cells : LayoutItems → List ℕ → ℕ × ℕ
 uncounted_cells items line =
     if items.text

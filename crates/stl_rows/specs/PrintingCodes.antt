@@ -59,8 +59,8 @@ pub record HasPrintingCodes (national : National) (layout : Layout) (text : List
       ≡ printed_lines (lines_of_codes (codes_by_layout national (items_of_layout layout) text))
 
 -- A layout that draws a subtitle adds, changes, loses or reorders no printable characters. So a
--- layout can change only rows, columns, spaces and spacing attributes, or prevent the drawing by a
--- fault.
+-- layout can change only rows, columns, spaces and spacing attributes, and whether a fault prevents
+-- the drawing.
 abbrev pub LawOfPrintingCodes : Type 0
 LawOfPrintingCodes =
     (national : National) (layout : Layout) (t : SubtitleValue) (page : Rows)

@@ -31,7 +31,8 @@ is_style_code byte = is_within 0x80 0x85 byte
 abbrev pub is_control : ℕ → Bool
 is_control byte = nat_lt byte 0x20 || is_within 0x80 0x9F byte
 
--- The byte is a diacritical mark, column C of code table 00, which precedes its letter.
+-- The byte is in column C of code table 00, the diacritical marks, each of which precedes its
+-- letter.
 abbrev pub is_diacritical : ℕ → Bool
 is_diacritical byte = is_within 0xC0 0xCF byte
 
@@ -73,9 +74,9 @@ abbrev pub text_code : National → ℕ → TextCode
 text_code national byte = unwrap_or (option_map Cell (cell_of national byte))
     (code_without_cell byte)
 
--- The cell of a pair of bytes, a diacritical mark and its letter, if the national option has this
--- character. Otherwise the mark is rejected, since without its accent the letter would show a
--- different word.
+-- The cell of a pair of bytes, a diacritical mark and its letter; `None` if the bytes are no such
+-- pair, or the national option has no such character. A mark outside such a pair is rejected, since
+-- without its accent the letter would show a different word.
 unfoldable pub cell_of_pair : National → ℕ → Option ℕ → Option ℕ
 cell_of_pair national byte next =
     if is_diacritical byte
@@ -130,7 +131,8 @@ abbrev pub HasSevenBits : TextCode → Type 0
 HasSevenBits (Cell code) = IsCode code
 HasSevenBits _ = ⊤
 
--- Puts a text code in front of lines of cells. A new line starts another line.
+-- Puts the cell of a text code in front of lines of cells. A new line starts another line, and any
+-- other text code changes nothing.
 abbrev pub lines_with_code : TextCode → List (List ℕ) → List (List ℕ)
 lines_with_code (Cell code) lines = onto_first code lines
 lines_with_code NewLine lines = [] ∷ lines

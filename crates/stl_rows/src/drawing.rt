@@ -97,9 +97,9 @@ pub(crate) fn draw_subtitle_on(subtitle: &Record<'_>, drawing: &Drawing, page: &
 /// layout (EBU Tech 3264, TTI block, fields TF, VP and JC; EN 300 706, packets X/1 to X/24).
 ///
 /// The byte 8A ends a line. Each line takes a row of its own, by default line 0 row VP, at the
-/// column given by JC and the layout. With the layout item `pack`, an empty line takes no row. A
-/// line that isn't empty and has no start box gets the codes of the layout, by default a box. All
-/// other cells of rows 1 to 24 are spaces.
+/// column given by JC and the layout. With the layout item `pack`, an empty line takes no row; with
+/// `trim`, a line of spaces is empty. A line that isn't empty and has no start box gets the codes
+/// of the layout, by default a box. All other cells of rows 1 to 24 are spaces.
 ///
 /// # Errors
 ///
@@ -120,8 +120,8 @@ pub fn draw(subtitle: &Subtitle, national: National, layout: Layout) -> Result<P
     }
 }
 
-/// If VP is at least 1, the default layout draws each line of a subtitle one row below the line
-/// before, in a box if the line has cells but no start box.
+/// If VP is at least 1, the default layout draws a subtitle plainly, or gives the same first fault:
+/// each line is one row below the line before, in a box if the line has cells but no start box.
 #[tactic(auto, using(crate::proofs::DefaultLayoutLemmas::default_layout_draws_plainly))]
 pub fn law_of_default_layout()
     ensures { LawOfDefaultLayout }

@@ -48,9 +48,9 @@ use sub_io::{ReportSink, Source, Stopped};
 ///
 /// If the file has no fault, returns all its subtitles, as `load` does. Otherwise returns the
 /// subtitles that have no fault and are in order with the next subtitle that is not rejected, if
-/// any; or `None` if a transmission cannot be checked against these subtitles: the file was not
-/// read to its end, no subtitle is left, or a subtitle starts before an earlier one has ended. Also
-/// returns `None` if `report_sink` stops.
+/// any; or `None` if a transmission cannot be checked against these subtitles: a fault ended
+/// reading, no subtitle is left, or one of these subtitles starts before an earlier one of them has
+/// ended. Also returns `None` if `report_sink` stops.
 ///
 /// # Errors
 ///
@@ -67,7 +67,8 @@ pub fn load_all<S: Source, D: ReportSink<LoadFault>>(
 ) -> Result<Option<JudgedProgramme>, LoadFault>
     requires count { CanFail (S.failure_count source.old) }
     requires audience_listens { D.has_stopped report_sink.old ≡ false }
-    // If the source's bytes are known, the bytes determine the result and the reports.
+    // If the source's bytes are known, the bytes determine the result and the reports, unless the
+    // source fails, memory cannot be allocated, or `report_sink` stops.
     ensures exact { IfKnown (S.remaining source.old) (λ bytes. IfOk result (λ found.
         IfSome found (JudgesFile (drawing_within national layout scope) bytes))) }
     ensures reported_all { IfKnown (S.remaining source.old) (λ bytes. IfOk result (λ found.
@@ -128,7 +129,8 @@ pub fn load_all_with_allocator<A: Allocator + Copy, S: Source, D: ReportSink<Loa
 ) -> Result<Option<KeptSubtitles<A>>, LoadFault>
     requires count { CanFail (S.failure_count source.old) }
     requires audience_listens { D.has_stopped report_sink.old ≡ false }
-    // If the source's bytes are known, the bytes determine the result and the reports.
+    // If the source's bytes are known, the bytes determine the result and the reports, unless the
+    // source fails, memory cannot be allocated, or `report_sink` stops.
     ensures exact { IfKnown (S.remaining source.old) (λ bytes. LoadsAll drawing bytes
         D.is_reported report_sink.old report_sink.new (D.has_stopped report_sink.new) result) }
     ensures programme { IfOk result (λ found.

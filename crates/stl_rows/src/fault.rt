@@ -10,7 +10,8 @@ use sub_io::FaultCode;
 /// others by line, and for one line in the order of the variants.
 #[derive(Clone, Copy, Debug, PartialEq, Eq)]
 pub enum RowFaultKind {
-    /// Fault code 50: a byte that is no control code, and has no cell in the national option's set.
+    /// Fault code 50: a byte that is no control code, and has no cell in the national option's set,
+    /// alone or with the next byte.
     Character,
     /// Fault code 51: an unsupported control code, 00 to 1F or 80 to 9F.
     Control,
@@ -45,21 +46,23 @@ impl RowFaultKind {
 /// The reason why a subtitle cannot be drawn.
 #[derive(Clone, Copy, Debug, PartialEq, Eq)]
 pub struct RowFault {
-    /// The kind of the fault in the subtitle's text.
+    /// The kind of the fault in the subtitle's rows.
     pub kind: RowFaultKind,
     /// The position of the fault: for `Character` and `Control` the index of the byte in the joined
     /// text, otherwise the number of the line; both counted from 0.
     pub at: u16,
 }
 
-/// A fault of a subtitle file. The order of the variants is the order of reports for one block.
+/// A fault of loading a subtitle file. The order of the variants is the order of reports for one
+/// block.
 #[derive(Clone, Copy, Debug, PartialEq, Eq)]
 pub enum LoadFaultKind {
     /// Fault codes 10 to 26: the file is invalid or not supported, or could not be read.
     File(StlFault),
     /// Fault code 56: the TCI of a subtitle is before the TCI of the previous subtitle.
     OutOfOrder,
-    /// Fault code 57: the TCI of a subtitle is before the TCO of the previous subtitle.
+    /// Fault code 57: the TCI of a subtitle is before the TCO of the previous subtitle, but not
+    /// before its TCI.
     Overlap,
     /// Fault codes 50 to 55: the subtitle cannot be drawn.
     Row(RowFault),
@@ -85,12 +88,13 @@ impl LoadFaultKind {
 }
 
 /// A fault that was found while a subtitle file was loaded. `load` returns the first one and no
-/// programme; `load_all` reports each fault of the file, and returns only `Memory` and `Read`.
+/// programme; `load_all` reports the faults of the file, until the receiver of the reports stops
+/// them, and returns only `Memory` and `Read`.
 #[derive(Clone, Copy, Debug, PartialEq, Eq)]
 pub struct LoadFault {
     /// The number of the TTI block with the fault, counted from 1; 0 for the GSI block. A fault of
     /// a subtitle's times or drawing has the subtitle's last block.
     pub block: u32,
-    /// The kind of the fault in the subtitle file.
+    /// The kind of the fault.
     pub kind: LoadFaultKind,
 }

@@ -13,7 +13,7 @@ use crate::programme::Programme;
 use std::alloc::Global;
 use std::marker::Model;
 
-/// The reliable subtitles of a file, and the gaps before, between and after them that contain
+/// The reliable subtitles of a file, and the gaps before, between and after them where the file has
 /// unreliable subtitles.
 ///
 /// Created by `load_all`. The model has the programme; for each of its subtitles in order, a bit
@@ -40,7 +40,7 @@ impl Model for JudgedProgramme {
     } };
 }
 
-/// A programme against which a transmission is checked, with the gaps that contain unreliable
+/// A programme against which a transmission is checked, with the gaps where the file has unreliable
 /// subtitles: borrowed from a complete programme, or from a programme of reliable subtitles.
 ///
 /// The model is the model of a `JudgedProgramme`.
@@ -128,7 +128,8 @@ impl<'a> Judging<'a> {
     }
 
     /// Returns whether the expected page is unknown at a frame: the frame is in a gap before,
-    /// between or after the reliable subtitles, and the gap contains an unreliable subtitle.
+    /// between or after the reliable subtitles, and at this place the file has an unreliable
+    /// subtitle, whatever its times.
     ///
     /// Uses binary search.
     pub fn is_undecided(&self, frame: u32) -> bool

@@ -95,9 +95,11 @@ pub(crate) struct LayoutItems {
     pub(crate) text: bool,
     /// Layout item `up`: whether half a column is rounded up.
     pub(crate) up: bool,
-    /// Layout item `left`: the number of free columns to the left of a left-aligned line.
+    /// Layout item `left`: the column of the first cell that counts in a left-aligned line, if
+    /// there is room.
     pub(crate) left: u8,
-    /// Layout item `right`: the number of free columns to the right of a right-aligned line.
+    /// Layout item `right`: the number of columns after the last cell that counts in a
+    /// right-aligned line, if there is room.
     pub(crate) right: u8,
     /// Layout item `free`: the JC to use for a subtitle with JC 0.
     pub(crate) free_jc: u8,
@@ -151,8 +153,8 @@ impl LayoutItems {
     }
 }
 
-/// How a broadcaster draws the texts of subtitles: the codes that the inserter adds to a line, and
-/// the line's row and column.
+/// How a broadcaster draws the texts of subtitles: the codes that the inserter adds to a line, the
+/// codes and spaces that it removes, and the line's row and column.
 ///
 /// Created from a text by `parse`. By default a line is one row below the line before, gets a box
 /// if it has cells but no start box, and all its cells count for its column. A layout allocates no
@@ -179,7 +181,8 @@ pub struct Drawing {
     pub national: National,
     /// The layout, which adds codes to the lines and selects their rows and columns.
     pub layout: Layout,
-    /// The scope: which subtitles of the file are read. A drawn page does not depend on the scope.
+    /// The scope: which files are accepted, and which of their subtitles are read. A drawn page
+    /// does not depend on the scope.
     pub scope: Scope,
 }
 

@@ -243,7 +243,7 @@ fn set_number(items: &mut LayoutItems, name: &str, value: &[u8]) -> Option<usize
 }
 
 // Sets the layout item with this name to a value, and returns the item's number; `None` if there is
-// no such item or the value is not valid.
+// no item with this name and a value, or the value is not valid.
 #[tactic(auto, unfolding(crate::specs::LayoutText::items_with_value))]
 fn set_value(items: &mut LayoutItems, name: &str, value: &str) -> Option<usize>
     ensures value { option_map (λ n. (n, items.new)) result

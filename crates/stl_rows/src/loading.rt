@@ -44,7 +44,8 @@ pub fn load<S: Source>(
     scope: Scope,
 ) -> Result<Programme, LoadFault>
     requires { CanFail (S.failure_count source.old) }
-    // If the source's bytes are known, the bytes determine the programme or the fault.
+    // If the source's bytes are known, the bytes determine the programme, or the fault unless it is
+    // `Memory` or `Read`.
     ensures exact { IfKnown (S.remaining source.old) (λ bytes.
         IfOk result (λ programme.
         loaded_programme (drawing_within national layout scope) bytes ≡ Ok programme)) }

@@ -334,7 +334,7 @@ impl Programme {
     /// (`next_edge`) and the `guess` for the next call.
     ///
     /// Any `guess` is valid; start with 0. If the frame is shortly after the frame of the previous
-    /// call, the returned `guess` saves the binary search.
+    /// call, the returned `guess` usually saves the binary search.
     pub fn draw_due(&self, frame: u32, guess: usize, page: &mut Page) -> (Option<u32>, usize)
         ensures page { page.new ≡ due self.now.drawing self.now.records frame }
         ensures edge { ReportsNextEdge self.now.records frame result.0 }

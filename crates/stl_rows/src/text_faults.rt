@@ -71,7 +71,7 @@ impl OpenLine {
         };
     }
 
-    // Returns the kind of the first fault of the current line.
+    // Returns the kind of the first fault of the current line, or `None` if the line has no fault.
     #[tactic(auto, unfolding(crate::specs::LineByLine::shape_fault_kinds))]
     fn fault_kind(&self) -> Option<RowFaultKind>
         requires { self.now.len ≤ 1008 }
@@ -93,7 +93,8 @@ impl OpenLine {
         None
     }
 
-    // Returns the fault found before the current line, or else the first fault of this line.
+    // Returns the fault found before the current line, or else the first fault of this line, or
+    // `None` if there is neither.
     fn first_fault(&self, before: Option<RowFault>) -> Option<RowFault>
         requires { self.now.len ≤ 1008 }
         ensures { result ≡ first_fault_up_to_line before self.now }
