@@ -1,5 +1,4 @@
--- Laws: the page that a page transmission shows, and the frames of a schedule that have a page
--- transmission.
+-- Laws of page transmissions, of the frames of a schedule that have one, and of the frame of a PTS.
 use Rattle.std.specs.Prelude.{◌≡◌, ◌≢◌, ◌↔◌, ℕ, ◌+◌, ◌-◌, ◌%◌, ◌^◌, ◌<◌, ◌≤◌, ◌⊎◌, Contains}
 use Rattle.std.specs.Prelude.{All, Bool, List, ◌++◌, Some, length, take, IsTrue}
 use Rattle.std.specs.Prelude.{IsFalse}
@@ -49,7 +48,7 @@ pub record IsSentPacket
       → h ≡ watched_header w national serial
 
 -- Each packet of a page transmission satisfies `IsSentPacket`. So the packets of a schedule meet
--- the rules for single packets of a good transmission.
+-- the rules of a good transmission for addresses and page headers.
 abbrev pub LawOfSentPackets : Type 0
 LawOfSentPackets =
     (w : PageIdValue) (national : National) (serial : Bool) (page : Rows)
@@ -82,9 +81,9 @@ pub record AreRowsOfOnePage (w : PageIdValue) (packets : List (List ℕ)) : Type
   pub shape : IsPage page
   pub rows : All (IsRowOf w page) packets
 
--- If page transmissions of any pages are cut anywhere, the packets since the last header of the
--- page are rows of only one page. So the rows that a receiver has at any time do not contradict
--- each other.
+-- If page transmissions of any pages are cut anywhere, the packets after the last header of the
+-- page, up to a closing header, are rows of only one page. So the rows that a receiver has at any
+-- time do not contradict each other.
 abbrev pub LawOfCutSendings : Type 0
 LawOfCutSendings =
     (w : PageIdValue) (national : National) (serial : Bool) (due : ℕ → Rows) (frames : List ℕ)

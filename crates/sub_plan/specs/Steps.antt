@@ -1,5 +1,5 @@
--- The frames with a page transmission between two bases, in the order in which the code visits
--- them. No public clause uses this file.
+-- The frames with a page transmission from a base to before the next base or the last frame, in the
+-- order in which the code visits them. No public clause uses this file.
 use Rattle.std.specs.Prelude.{ℕ, ◌-◌, ◌%◌, List, ◌==◌, filter}
 use Rattle.std.specs.List.{range_with_len}
 use Rattle.ttx_pes.specs.PesGrammar.{canonical_packet}

@@ -1,5 +1,5 @@
 //! Laws of page transmissions and schedules. The functions do nothing: the contract of each
-//! function is a law.
+//! function is a law or an example.
 #![tactic(auto, using(crate::proofs::LawLemmas::laws))]
 
 ghost use Rattle.sub_plan.specs.Examples.{ExampleOfClosingHeaders, ExampleOfWatchedHeaders};
@@ -16,7 +16,7 @@ pub fn law_of_sending()
 
 /// Each packet of a page transmission has 42 bytes, its address bytes and the coded bytes of a
 /// header are code words without a wrong bit, and each header has C11 as the transmission mode
-/// requires. Its only header of the page is the header of the transmission.
+/// requires. Any header of the page among them is the header of the transmission.
 pub fn law_of_sent_packets()
     ensures { LawOfSentPackets }
 {}
@@ -31,8 +31,8 @@ pub fn law_of_size()
     ensures { LawOfSize }
 {}
 
-/// If page transmissions are cut anywhere, the packets since the last header of the page are rows
-/// of only one page.
+/// If page transmissions are cut anywhere, the packets after the last header of the page, up to a
+/// closing header, are rows of only one page.
 pub fn law_of_cut_sendings()
     ensures { LawOfCutSendings }
 {}

@@ -18,8 +18,8 @@ const TICKS_PER_FRAME: u64 = 3600;
 /// One more than the greatest PTS, which has 33 bits.
 const PTS_END: u64 = 8_589_934_592;
 
-/// The number of frames of a day at 25 frames per second. A PES file has at most as many PES
-/// packets.
+/// The number of frames of a day at 25 frames per second. At most as many PES packets of a file are
+/// read.
 const FRAMES_PER_DAY: u64 = MAX_PES_PACKETS as u64;
 
 /// The greatest repeat bound and the greatest pace in frames: a day.
@@ -28,7 +28,7 @@ const MAX_REPEAT_FRAMES: u64 = FRAMES_PER_DAY;
 /// The greatest number of frames within which the page must be right: two seconds.
 const MAX_WITHIN: u64 = 50;
 
-/// The number of ticks by which a PTS may precede its frame: a quarter of a frame.
+/// The greatest number of ticks by which a PTS may be early: a quarter of a frame.
 const MAX_EARLY_TICKS: u64 = 900;
 
 /// The options of a schedule and of a check: the page with the subtitles, its repeat bound, the PTS
@@ -134,8 +134,8 @@ impl Options {
         })
     }
 
-    /// Also requires complete pages: at the end of each frame at which the page must be right, a
-    /// later header has ended it, since some decoders show a page only after that header.
+    /// Also requires complete pages: the page is not open at the end of a frame at which it must be
+    /// right, since some decoders show a page only after a later header has ended it.
     pub fn asking_complete(self) -> Options
         ensures { result ≡ record self { asks_complete = true } }
     {

@@ -65,8 +65,8 @@ fn repeat_interval(options: &Options) -> u32
     options.every() as u32
 }
 
-// Writes the same packets at the frame `from` and then every `every` frames, before `end`, and
-// returns the number of these frames.
+// Writes the same packets at each frame from `from` to before `end` whose distance from `from` is a
+// multiple of the repeat bound, and returns the number of these frames.
 fn send_steps<K: Sink>(
     sink: &mut K,
     options: &Options,

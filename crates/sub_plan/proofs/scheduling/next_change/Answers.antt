@@ -1,4 +1,5 @@
--- `next_change`: the expected page does not change from one cue to the next.
+-- `next_change`: the expected page is the same at each frame from `frame` to before the frame that
+-- is returned.
 use Rattle.std.proofs.Common.{arith, inl, inr}
 use Rattle.std.proofs.lemmas.Bool.Decides.{nat_tests}
 use Rattle.std.proofs.lemmas.Bool.{cases_lt}
