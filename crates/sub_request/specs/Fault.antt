@@ -1,10 +1,11 @@
--- The number and the name of each fault of the program's arguments.
+-- The number and the name of each fault for which the program cannot carry out a request.
 use Rattle.std.specs.Prelude.{codes}
 use Rattle.sub_io.specs.FaultCode.{FaultCodeValue, fault_code}
 use Rattle.sub_request.specs.declared.request.UsageFault.{UsageFault}
 use Rattle.sub_request.specs.declared.request.UsageFault.TheVariants as fault
 
--- The number and the name of a fault of the arguments, or of a failure of the program itself.
+-- The number and the name of a fault of the arguments, of files that are not opened or created, or
+-- of a failure to allocate memory.
 abbrev pub code_of_usage_fault : UsageFault → FaultCodeValue
 code_of_usage_fault fault.Words = fault_code 0 (codes "Words")
 code_of_usage_fault fault.BadHex = fault_code 2 (codes "BadHex")

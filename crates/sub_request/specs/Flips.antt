@@ -15,7 +15,7 @@ with_flip f number packet =
     then slice_set packet f.byte (bit_xor (slice_index packet f.byte) (2 ^ (f.bit - 1)))
     else packet
 
--- The packet as it is received, with the bits of all its flips changed.
+-- The packet as it is received, after `with_flip` for each flip, in order.
 abbrev pub with_flips : List Flip → ℕ → List ℕ → List ℕ
 with_flips [] number packet = packet
 with_flips (f ∷ flips) number packet = with_flips flips number (with_flip f number packet)

@@ -1,7 +1,7 @@
 //! Requests to the program as plain data, and the faults of its arguments.
 //!
-//! `Request` has a variant for each command, with the values of its arguments. It names the files
-//! that are read and written, each by a type that only this crate creates. The options of a
+//! `Request` has a variant for each command, with the values of its arguments. `Request::files`
+//! names the files to read and write, each by a type that only this crate creates. The options of a
 //! schedule come from `sub_plan`, national options and layouts from `stl_rows`; `mpeg_ts` and
 //! `ttx_pes` define which PES packets are read. `sub_words` parses requests, `sub_listen` runs the
 //! receiver of a `Listening`, and `sub_answer` carries out requests.

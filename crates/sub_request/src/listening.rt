@@ -35,7 +35,8 @@ pub struct Listening {
     /// complete pages are required, and `within`, which decides the frame of a PTS. The other
     /// options are not used.
     pub options: Options,
-    /// The last frame that is received, as a frame of the day (the argument TIME).
+    /// The frame of the day up to which packets are received, this frame included (the argument
+    /// TIME).
     pub at: u32,
     /// The number of Teletext packets to skip at the start of the PES packets to receive.
     pub skip: u64,

@@ -75,7 +75,8 @@ pub enum UsageFault {
     /// Fault code 91: memory could not be allocated.
     #[error("memory ran out")]
     Memory,
-    /// Fault code 90: a file can't be opened or created. `Request::parse` never returns this fault.
+    /// Fault code 90: a file can't be opened or created, or the output might overwrite the input or
+    /// is known to receive standard output. `Request::parse` never returns this fault.
     #[error("a file can't be opened")]
     Open,
 }
@@ -159,7 +160,7 @@ pub enum Request<'a> {
         /// The scope: the subtitles of the file to use.
         scope: Scope,
     },
-    /// `check STL PES`: checks that a file of PES packets shows a subtitle file.
+    /// `check STL PES`: checks that PES packets show a subtitle file.
     Check {
         /// The name of the subtitle file.
         stl: &'a str,
@@ -178,7 +179,7 @@ pub enum Request<'a> {
         /// Whether to report every fault, instead of only the first.
         all: bool,
     },
-    /// `listen PES`: runs a receiver over a file of PES packets.
+    /// `listen PES`: runs a receiver over PES packets.
     Listen {
         /// The PES packets to receive.
         pes: PesSelection<'a>,
@@ -199,7 +200,7 @@ pub enum Request<'a> {
     Survey {
         /// The name of the recording, a transport stream or a file of PES packets.
         recording: &'a str,
-        /// The page, the PID and the packet size to survey.
+        /// The pages to survey, and the PID and the packet size, if they are given.
         options: SurveyOptions,
     },
 }
