@@ -1,15 +1,15 @@
 -- All events of a transmission, in order (not defined by a standard). Each broken rule is an event
 -- with its place. Some rules are checked at the end of each frame and may stay broken over several
 -- frames; for these rules, the events give the first and the last frame at which the rule is
--- broken. The events are in the order of the checks, so the first fault is the reason for rejecting
--- the file.
+-- broken at the same place. The events are in the order of the checks, so the first fault is the
+-- reason for rejecting the file.
 --
 -- A fault's beginning and end are separate events, because a wrong page stays on air until
 -- something else is sent: a single event with both frames would be reported only then.
 --
--- For each frame of the transmission, the checker first ends the frames without packets before it,
--- then the frame itself. The end of a frame without a PES packet takes only the earlier PES packets
--- into account.
+-- For each frame of the transmission, the checker first ends the frames without a PES packet before
+-- it, then the frame itself. The end of a frame without a PES packet takes only the earlier PES
+-- packets into account.
 use Rattle.std.specs.Prelude.{ℕ, zero, suc, max, ◌+◌, ◌-◌, ◌&&◌, ◌==◌, Bool, true, false, not, List}
 use Rattle.std.specs.Prelude.{[], ◌∷◌, ◌++◌, map, length, take, Option, Some, None, is_some}
 use Rattle.std.specs.Prelude.{◌||◌, option_and_then, option_map, nat_le, nat_lt, if◌then◌else◌}
@@ -77,7 +77,7 @@ first_cell test =
     (first_below 24 (λ above. is_some (first_below 40 (test (above + 1)))))
 
 -- After these packets, the cell is right: `IsRight` as a test. A cell whose expected code is not a
--- space is wrong if its row was not sent since the last header of the page.
+-- space is wrong if its row was not sent since the last header of the page, while it was open.
 abbrev pub is_right_cell : Bool → PageIdValue → List (List ℕ) → Rows → ℕ → ℕ → Bool
 is_right_cell keeps page packets due row column =
     kept keeps page packets row column == cell due row column
@@ -88,21 +88,22 @@ unfoldable pub first_wrong_cell_after : Bool → PageIdValue → List (List ℕ)
 first_wrong_cell_after keeps page packets due =
     first_cell (λ row column. not (is_right_cell keeps page packets due row column))
 
--- The first wrong cell at the end of frame f, after n frames of the transmission. `None` if the
--- expected page is unknown, since any code may then be in any cell.
+-- The first wrong cell at the end of frame f, after n frames of the transmission. `None` if no cell
+-- is wrong, or if the expected page is unknown, since any code may then be in any cell.
 abbrev pub wrong_cell : Criteria → Transmission → ℕ → ℕ → Option (ℕ × ℕ)
 wrong_cell g frames n f =
     if g.undecided f
     then None
     else first_wrong_cell_after g.watched.keeps g.watched.page (packets_before frames n) (g.due f)
 
--- The frame s has a header of the page, and is at most `every` - 1 frames before frame f.
+-- The frame s has a header of the page, and frame f comes before frame `s.frame + every`.
 abbrev pub has_recent_header : Criteria → ℕ → SentFrame → Bool
 has_recent_header g f s = has_page_header (kind g.watched.page) s.packets && nat_lt f
     (s.frame + g.every)
 
--- A header of the page is missing: none of the last `every` frames up to frame f has one, among the
--- first n frames of the transmission. False until `every` frames have passed since the first frame.
+-- A header of the page is missing: none of the last `every` frames up to frame f, nor a later one,
+-- has one, among the first n frames of the transmission. False until `every` frames, the first
+-- included, have passed.
 unfoldable pub is_gap : Criteria → Transmission → ℕ → ℕ → Bool
 is_gap g frames n f =
     nat_le (frame_at frames 0 + g.every) (f + 1) && not (list_any (has_recent_header g f)
@@ -115,8 +116,8 @@ is_incomplete g frames n =
 
 -- ---- the delay after which the page must be correct
 
--- The page is unfinished at the end of frame f, after n frames of the transmission: a cell is
--- wrong, or complete pages are required and the page is open.
+-- The page is unfinished at the end of frame f, after n frames of the transmission: the expected
+-- page is known and a cell is wrong, or complete pages are required and the page is open.
 abbrev pub is_unfinished : Criteria → Transmission → ℕ → ℕ → Bool
 is_unfinished g frames n f = is_some (wrong_cell g frames n f) || is_incomplete g frames n
 
@@ -132,13 +133,13 @@ is_silent_for None last f = false
 is_silent_for (Some pace) last f = nat_le (last + pace) f
 
 -- The first n frames of the transmission have no PES packet in the last `pace` frames up to frame
--- f. False if no pace is required.
+-- f, nor later. False if no pace is required.
 unfoldable pub is_silent : Criteria → Transmission → ℕ → ℕ → Bool
 is_silent g frames zero f = is_some g.pace
 is_silent g frames (suc n) f = is_silent_for g.pace (latest_frame frames (suc n)) f
 
--- The number of frames without a PES packet between frame i of the transmission and all frames
--- before it.
+-- The number of frames without a PES packet between the latest of the first i frames of the
+-- transmission and frame i; 0 if i is 0, or if frame i is not later than these.
 unfoldable pub gap_length : Transmission → ℕ → ℕ
 gap_length frames zero = 0
 gap_length frames (suc i) = frame_at frames (suc i) - (latest_frame frames (suc i) + 1)
@@ -177,8 +178,8 @@ unfinished_run_start g frames n f =
     first_unfinished_in_gap g frames n (first_unfinished_in_frames g frames n)
     (f - latest_frame frames n)
 
--- The first frame of the run of frames with an unfinished page, at the end of the frame before
--- frame f, after n frames of the transmission; `None` if the page is finished there, or n is 0.
+-- The first frame of the run of frames with an unfinished page, at the last frame end before frame
+-- f ends, after n frames of the transmission; `None` if the page is finished there, or n is 0.
 unfoldable pub first_unfinished_before : Criteria → Transmission → ℕ → ℕ → Option ℕ
 first_unfinished_before g frames zero f = None
 first_unfinished_before g frames (suc i) f = unfinished_run_start g frames (suc i) (f - 1)
@@ -296,7 +297,7 @@ end_events old before new f =
 -- ---- the order of frame ends
 
 -- The frame that ends before frame f, after i frames of the transmission: the day's frame before f,
--- if it has no PES packet; otherwise the frame of the last PES packet.
+-- if it comes after all of these i frames; otherwise the last of them. Has no meaning if i is 0.
 abbrev pub previous_end_frame : Transmission → ℕ → ℕ → ℕ
 previous_end_frame frames i f =
     if nat_lt (latest_frame frames i + 1) f then f - 1 else frame_at frames (i - 1)
@@ -375,7 +376,7 @@ first_header_events g frames (suc i) = []
 
 -- ---- events of the entire transmission
 
--- The events at the end of the file: each active fault ends.
+-- The events that end each active fault at the end of the file.
 abbrev pub fault_ending_events : ActiveFaults → ℕ → List Event
 fault_ending_events last frame = end_events last frame no_active_faults frame
 
@@ -386,7 +387,7 @@ unread_fault pes (Some (BadPacket f)) = fault.Pes pes f
 unread_fault pes (Some NoFrame) = fault.OffFrame pes
 unread_fault pes None = fault.Empty
 
--- A subtitle ends after this last frame.
+-- The last TCO is after this frame, the last one of the transmission.
 abbrev pub ends_too_early : Option ℕ → ℕ → Bool
 ends_too_early None frame = false
 ends_too_early (Some last_tco) frame = nat_lt frame last_tco
@@ -399,16 +400,16 @@ is_pending g frames =
     is_some (unfinished_run_start g frames n (end_frame frames))
     && not (is_late g frames n (end_frame frames))
 
--- The event `Late`, if a subtitle ends after the last frame, or if the page is unfinished at its
--- end but not yet overdue.
+-- The event `Late`, if the last TCO is after the last frame, or if the page is unfinished at the
+-- end of that frame but not yet overdue.
 abbrev pub late_events : Criteria → Transmission → List Event
 late_events g frames =
     if ends_too_early g.last_tco (end_frame frames) || is_pending g frames
     then Reported (fault.Late (end_frame frames)) ∷ []
     else []
 
--- The events after the end of the last frame. `unread` says why the rest of the file could not be
--- read.
+-- The event for the rest of the file that could not be read, for the reason `unread`; without a
+-- reason, the event `Late`, if it applies (`late_events`).
 abbrev pub unread_or_late_events : Criteria → Transmission → Option UnreadReason → List Event
 unread_or_late_events g frames (Some unread) = Reported (unread_fault (length frames) (Some unread))
     ∷ []

@@ -27,8 +27,8 @@ code_of_end_rule end.Incomplete = fault_code 77 (codes "Incomplete")
 code_of_end_rule end.Undecided = fault_code 78 (codes "Undecided")
 code_of_end_rule end.Silent = fault_code 79 (codes "Silent")
 
--- The place of a fault in the subtitle file: the TTI block and, for a fault in a subtitle's text,
--- the position in the text.
+-- The place of a fault in the subtitle file: the TTI block, or 0 for the GSI block, and for a fault
+-- in a subtitle's text the position in the text.
 abbrev pub place_of_load_fault : LoadFaultKind → ℕ → FaultPlace
 place_of_load_fault (Row f) block = place.Text block f.at
 place_of_load_fault _ block = place.Block block
@@ -46,8 +46,8 @@ row_with_number number name place invalidates = row_with_code (fault_code number
     invalidates
 
 -- The table row of a fault: its number and name, its place, whether it affects receivers, and
--- whether its PES packet is skipped. The receivers of the model ignore C11 and packets X/25 to
--- X/28.
+-- whether its PES packet is skipped. The receivers of the model ignore packets X/25 to X/28, and
+-- whether C11 differs from that of the first page header.
 abbrev pub fault_row : CheckFault → FaultRow
 fault_row (fault.Subtitles f) = row_with_code (load_code f.kind) (place_of_load_fault f.kind
     f.block) false
@@ -88,10 +88,10 @@ abbrev pub place_of_fault : CheckFault → FaultPlace
 place_of_fault f = (fault_row f).place
 
 -- The first frame that is no longer trusted because of a fault; `None` if the fault does not affect
--- receivers. For a faulty PES packet, it is `last`, the frame of the previous PES packet, to which
--- the faulty packet may belong. For a fault at the end of a frame at which the page is overdue, it
--- is `late`, the first frame with the unfinished page. Otherwise it is the frame of its place, if
--- the place has one.
+-- receivers. For a faulty PES packet, it is `last`, the frame of the last PES packet before it that
+-- was not skipped, since the faulty packet may belong to that frame. For a fault at the end of a
+-- frame at which the page is overdue, it is `late`, the first frame with the unfinished page.
+-- Otherwise it is the frame of its place, if the place has one.
 abbrev pub invalidated_frame : ℕ → Option ℕ → Bool → FaultPlace → Option ℕ
 invalidated_frame last late true (place.Pes n) = Some last
 invalidated_frame last late true (place.Frame f) = Some (unwrap_or late f)
@@ -123,7 +123,7 @@ abbrev pub is_stl_read_failure : CheckFault → Bool
 is_stl_read_failure (fault.Subtitles f) = load.is_load_read_failure f
 is_stl_read_failure _ = false
 
--- The fault is in the subtitle file.
+-- The fault is one of loading the subtitle file.
 abbrev pub is_subtitle_fault : CheckFault → Bool
 is_subtitle_fault (fault.Subtitles f) = true
 is_subtitle_fault _ = false

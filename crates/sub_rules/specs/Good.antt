@@ -25,8 +25,8 @@ use Rattle.sub_rules.specs.FrameRules.{frame_at}
 use Rattle.sub_rules.specs.Transmission.{Transmission, IsRising, EachPacket, first_frame}
 use Rattle.sub_rules.specs.Transmission.{last_frame, packets_of, on_air_until}
 
--- If both packets are page headers, of any page and magazine, they have the same C11 (magazine
--- serial, EN 300 706), so both are in serial or both in parallel mode.
+-- If both packets are page headers that can be decoded, of any page and magazine, they have the
+-- same C11 (magazine serial, EN 300 706), so both are in serial or both in parallel mode.
 abbrev pub HaveSameMode : List ℕ → List ℕ → Type 0
 HaveSameMode one other =
     (h k : Header) → header one ≡ Some h → header other ≡ Some k → c11 h ≡ c11 k
@@ -56,14 +56,15 @@ IsEnhancement page packet =
     × (25 ≤ a.packet_number) × (a.packet_number ≤ 28)
 
 -- The rows of an open page are clean: each has 40 bytes of odd parity, packets of the same row are
--- equal, and no packet X/25 to X/28 of the magazine is sent. `packets` are those between a header
--- of the page and the header that ends it.
+-- equal, and no packet X/25 to X/28 of the magazine is sent. `packets` are those sent while the
+-- page is open.
 pub record IsCleanSpan (page : PageIdValue) (packets : List (List ℕ)) : Type 0 where
   pub odd : All (HasOddParityTextIfRow page) packets
   pub same : All (λ first. All (AreEqualIfSameRow page first) packets) packets
   pub plain : All (λ packet. IsEnhancement page packet → ⊥) packets
 
--- While the page is open, its rows are clean, at each packet of the transmission.
+-- After each packet of the transmission, the packets sent since the last header of the page, while
+-- the page was open, are clean (`IsCleanSpan`).
 abbrev pub HasCleanSpans : PageIdValue → Transmission → Type 0
 HasCleanSpans page transmission =
     (f n : ℕ) → f ≤ last_frame transmission
@@ -126,8 +127,8 @@ pub record KeepsRules
   -- Rule 4: each header of the page has the control bits of a subtitle, with the national option of
   -- the programme.
   pub control : EachPacket (IsControlled programme.drawing.national options.page) transmission
-  -- Rule 5: while the page is open, each row has odd parity, all packets of the same row are equal,
-  -- and no packet X/25 to X/28 of the page's magazine is sent.
+  -- Rule 5: while the page is open, each row has odd parity, all packets of the same row since the
+  -- last header of the page are equal, and no packet X/25 to X/28 of the page's magazine is sent.
   pub spans : HasCleanSpans options.page transmission
   -- Rule 6: the first frame contains a header of the page, and so does at least one of any `every`
   -- consecutive frames.

@@ -21,7 +21,8 @@ use Rattle.sub_rules.specs.declared.packet_rule.PacketRule.TheVariants as rule
 use Rattle.sub_rules.specs.declared.packet_rule.Watched.{Watched}
 pub use Rattle.ttx_pes.specs.SentUnits.{packets_of_units}
 
--- The first page header of a list of packets, of any page; `None` if there is none.
+-- The first page header, of any page, that can be decoded in a list of packets; `None` if there is
+-- none.
 abbrev pub first_header : List (List ℕ) → Option Header
 first_header [] = None
 first_header (p ∷ ps) = option_or (header p) (first_header ps)
@@ -41,7 +42,8 @@ KeepsRule rule.Address w before p = HasExactAddress p
 -- HeaderCode: in a packet X/0, the eight coded bytes are code words without a wrong bit.
 KeepsRule rule.HeaderCode w before p =
     (a : PacketAddress) → address p ≡ Some a → a.packet_number ≡ 0 → HasExactHeader p
--- Mode: a page header, of any page and magazine, has the same C11 as the first page header.
+-- Mode: a page header that can be decoded, of any page and magazine, has the same C11 as the first
+-- such header.
 KeepsRule rule.Mode w before p =
     (h first : Header)
     → header p ≡ Some h
@@ -53,8 +55,9 @@ KeepsRule rule.Control w before p = HasAllowedHeader w before p
 -- Parity: while the page is open, its rows have 40 bytes of odd parity.
 KeepsRule rule.Parity w before p =
     IsTrue (is_open_after (kind w.page) before) → HasOddParityTextIfRow w.page p
--- RowChanged: while the page is open, a row equals the earlier packets of the same row since the
--- last header of the page or, if repeats may keep the page, since the last header that erases it.
+-- RowChanged: while the page is open, a row equals the earlier packets of the same row that were
+-- sent while the page was open, since its last header or, if repeats may keep the page, since the
+-- last header that erases it, if any.
 KeepsRule rule.RowChanged w before p =
     IsTrue (is_open_after (kind w.page) before)
     → (row : ℕ)

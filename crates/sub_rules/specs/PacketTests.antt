@@ -1,5 +1,6 @@
 -- The rules for Teletext packets as tests. A packet is tested even if earlier packets broke rules.
--- The address and the page header are read with single-bit errors corrected.
+-- The address and the page header are read with single-bit errors corrected, but the rules
+-- `Address` and `HeaderCode` find these errors.
 use Rattle.std.specs.Prelude.{ℕ, zero, suc, ◌+◌, ◌&&◌, ◌||◌, ◌==◌, Bool, true, false, not, List, []}
 use Rattle.std.specs.Prelude.{◌∷◌, Option, Some, None, option_map, is_some, nat_le, slice_index}
 use Rattle.std.specs.List.{filter, find}

@@ -3,8 +3,8 @@
 -- skipped packets with the same fault, only the first and the last are reported.
 --
 -- A checker cannot look ahead, so its steps for a PES packet do not depend on later PES packets.
--- If `within` is not 0, consecutive PES packets of one frame are merged, so a frame ends only when
--- a PES packet of another frame comes, or the file ends.
+-- If `within` is not 0, PES packets of one frame are merged if at most skipped packets come between
+-- them, so a frame ends only when a PES packet of another frame comes, or the file ends.
 use Rattle.std.specs.Prelude.{ℕ, zero, suc, ◌+◌, ◌-◌, ◌&&◌, ◌||◌, ◌==◌, ◌≡◌, Bool, false, not}
 use Rattle.std.specs.Prelude.{List, []}
 use Rattle.std.specs.Prelude.{◌∷◌, ◌++◌, length, map, Option, Some, None, is_some, if◌then◌else◌}
@@ -43,9 +43,10 @@ needs_back_steps g = g.any_unreliable && not (g.within == 0)
 abbrev pub steps_before : Criteria → Option ℕ → List CheckStep
 steps_before g first_unfinished = if needs_back_steps g then GoesBack first_unfinished ∷ [] else []
 
--- The steps at the end of frame f. If `within` is not 0, the first steps have the first frame with
--- an unfinished page, and whether the page is overdue. The events follow. By this end, n frames of
--- the transmission were sent; by the previous end, i frames.
+-- The steps at the end of frame f: a `GoesBack` step, if the checker needs one; if `within` is not
+-- 0, an `AtEnd` step with the first frame of the unfinished run, and whether the page is overdue;
+-- and the events. By this end, n frames of the transmission were sent; by the previous end, i
+-- frames.
 abbrev pub steps_at_end : Criteria → Transmission → ℕ → ℕ → ℕ → List CheckStep
 steps_at_end g frames i n f =
     steps_before g (first_unfinished_before g frames i f)
@@ -136,12 +137,12 @@ abbrev pub unread_fault_events : ℕ → Option UnreadReason → List Event
 unread_fault_events pes None = []
 unread_fault_events pes (Some u) = Reported (unread_fault pes (Some u)) ∷ []
 
--- The events after the last PES packet of a file with `pes` PES packets and n frames.
+-- The events at the end of a file with `pes` PES packets and n frames, after its last frame ended.
 unfoldable pub closing_events_of_pes_packets : Criteria → Transmission → ℕ → ℕ → List Event
 closing_events_of_pes_packets g frames (suc pes) zero = unread_fault_events (suc pes) g.unread
 closing_events_of_pes_packets g frames pes n = closing_events g frames n
 
--- The steps after the last PES packet of a file with `pes` PES packets and n frames.
+-- The steps at the end of a file with `pes` PES packets and n frames, after its last frame ended.
 abbrev pub steps_of_closing : Criteria → Transmission → ℕ → ℕ → List CheckStep
 steps_of_closing g frames pes n =
     AtPes pes
@@ -149,12 +150,12 @@ steps_of_closing g frames pes n =
     (g.any_unreliable || not (reports_no_event (closing_events_of_pes_packets g frames pes n)))
     ∷ map Emits (closing_events_of_pes_packets g frames pes n)
 
--- The frames that the PES packets carry. If `within` is not 0, consecutive PES packets of one frame
--- are merged.
+-- The frames that the PES packets carry. If `within` is not 0, PES packets of one frame are merged
+-- if at most skipped packets come between them.
 abbrev pub sent_by_pes_packets : Criteria → List PesPacket → Transmission
 sent_by_pes_packets g pes_packets = joined g.within (frames_of pes_packets)
 
--- The steps for all PES packets of a file.
+-- The steps for all PES packets of a file, and for its end.
 abbrev pub steps_of_pes_packets : Criteria → List PesPacket → List CheckStep
 steps_of_pes_packets g pes_packets =
     let frames = sent_by_pes_packets g pes_packets in
@@ -183,7 +184,8 @@ pub record SkippedRun : Type 0 where
   pub last : Option CheckFault
   pub many : Bool
 
--- The state between runs: the last packet was not skipped.
+-- The state without a run: before the first event, or after an event that is not the fault of a
+-- skipped packet.
 abbrev pub no_run : SkippedRun
 no_run = record { last = None; many = false }
 
@@ -219,7 +221,7 @@ abbrev pub run_ending_events : SkippedRun → List Event
 run_ending_events run = if run.many then until run.last else []
 
 -- The events to report when an event follows a run: none if it continues the run, otherwise the
--- run's end and the event.
+-- event, after the event at the run's end if the run has several packets.
 unfoldable pub announced : SkippedRun → Event → List Event
 announced run event = if continues_skipped_run run event then [] else run_ending_events run ++ event
     ∷ []
@@ -259,8 +261,8 @@ abbrev pub until_skipped : Criteria → List PesPacket → Criteria
 until_skipped g pes_packets = record g { unread = (read_until_skipped pes_packets g.unread).unread }
 
 -- If `within` is 0, the first fault is the same whether reading continues after skipped PES packets
--- or stops at the first. So a report of all faults begins with the fault at which a simple check
--- stops.
+-- or stops at the first. So the first fault in a report of all faults is the one at which a simple
+-- check stops.
 abbrev pub LawOfFirstReported : Type 0
 LawOfFirstReported =
     (g : Criteria) (pes_packets : List PesPacket)

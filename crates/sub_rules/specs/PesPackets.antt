@@ -27,7 +27,8 @@ pub data PesPacket : Type 0 where
   Sent : SentFrame → PesPacket
   Skipped : UnreadReason → PesPacket
 
--- The contents of a PES file: its PES packets, and why the rest of the file cannot be read.
+-- The contents of a PES file: its PES packets, and why the rest of the file cannot be read, if it
+-- cannot.
 pub record PesPacketFileValue : Type 0 where
   pub pes_packets : List PesPacket
   pub unread : Option UnreadReason
@@ -64,12 +65,14 @@ pes_packets_at clock given bytes = file_of_pes_packets clock (pes_packets_after 
 abbrev pub pes_packet_file_of : Clock → List ℕ → PesPacketFileValue
 pes_packet_file_of clock bytes = pes_packets_at clock 0 bytes
 
--- The bytes after `given` PES packets are exactly `pes_packets`, followed by the unread rest.
+-- The bytes after `given` PES packets are exactly `pes_packets`, followed by the unread rest, if
+-- there is one.
 abbrev pub ReadsPesPackets : Clock → ℕ → List ℕ → List PesPacket → Option UnreadReason → Type 0
 ReadsPesPackets clock given bytes pes_packets unread =
     pes_packets_at clock given bytes ≡ record { pes_packets = pes_packets; unread = unread }
 
--- The bytes begin with `pes_packet`, the first of `pes_packets`; the others follow it.
+-- `pes_packet` is the first of `pes_packets`. The bytes after the first PES packet are exactly the
+-- others, followed by the unread rest, if there is one.
 pub record ReadsPesPacket
     (clock : Clock) (n : ℕ) (bytes : List ℕ) (pes_packets : List PesPacket)
     (unread : Option UnreadReason)
@@ -83,7 +86,8 @@ pub record ReadsPesPacket
 abbrev pub OnPesPacket : Result (Option NextPesPacket) CheckFault → Type 0 → Type 0
 OnPesPacket answer IsSo = IfOk answer (λ pes_packet. IsSome pes_packet → IsSo)
 
--- The property `IsSo` holds for the PES packet of the result, if the result is a valid PES packet.
+-- The property `IsSo` holds for the PES packet of the result, if the result is a PES packet that
+-- was sent (`Sent`).
 abbrev pub IfSent : Result (Option NextPesPacket) CheckFault → (ValidPesPacket → Type 0) → Type 0
 IfSent answer IsSo =
     (sending : ValidPesPacket) → answer ≡ Ok (Some (next.Sent sending)) → IsSo sending
@@ -118,8 +122,9 @@ pub record TakesPesPackets (n : ℕ) (old new : Option (List ℕ)) : Type 0 wher
   pub each : AllByRecursion IsPesPacket pes_packets
   pub consumed : Consumes old new (concat pes_packets)
 
--- The source failed while PES packet n, counted from 0, was read. The packets before it were
--- consumed.
+-- The consumed bytes are n PES packets, and then too few bytes for another. Contracts state this if
+-- the source failed while PES packet n, counted from 0, was read; the failure itself is not part of
+-- this definition.
 pub record FailsAtPesPacket (n : ℕ) (old new : Option (List ℕ)) : Type 0 where
   pub following : Option (List ℕ)
   pub before : TakesPesPackets n old following
@@ -154,12 +159,12 @@ unfoldable pub joined_after : ℕ → Transmission → Transmission → Transmis
 joined_after within sent [] = sent
 joined_after within sent (s ∷ frames) = joined_after within (sent_after within sent s) frames
 
--- The frames of a list of PES packets. If `within` is not 0, consecutive PES packets of one frame
--- are merged; otherwise each PES packet is a frame.
+-- The frames of a list of PES packets that are sent. If `within` is not 0, consecutive ones of one
+-- frame are merged; otherwise each is a frame.
 abbrev pub joined : ℕ → Transmission → Transmission
 joined within frames = joined_after within [] frames
 
--- The frames of a PES file, and why the rest of the file cannot be read.
+-- The frames of a PES file, and why the rest of the file cannot be read, if it cannot.
 pub record PesFileValue : Type 0 where
   pub frames : Transmission
   pub unread : Option UnreadReason

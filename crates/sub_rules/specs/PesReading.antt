@@ -1,5 +1,5 @@
 -- The frames of a PES file, given the PTS of frame 0 (EN 300 472), and why the rest of the file
--- cannot be read.
+-- cannot be read, if it cannot.
 use Rattle.std.specs.Prelude.{◌≡◌, ◌↔◌, ℕ, List, Option}
 use Rattle.sub_rules.specs.FrameRules.{UnreadReason}
 use Rattle.sub_plan.specs.FrameTime.{Clock, clock_of}
@@ -16,7 +16,8 @@ file_at clock given bytes = file_until_first_skipped (pes_packets_at clock given
 abbrev pub pes_file_of : Clock → List ℕ → PesFileValue
 pes_file_of clock bytes = file_at clock 0 bytes
 
--- The bytes after `given` PES packets are exactly these frames, followed by the unread rest.
+-- The bytes after `given` PES packets are exactly these frames, followed by the unread rest, if
+-- there is one.
 abbrev pub ReadsAs : Clock → ℕ → List ℕ → Transmission → Option UnreadReason → Type 0
 ReadsAs clock given bytes frames unread =
     file_at clock given bytes ≡ record { frames = frames; unread = unread }

@@ -1,16 +1,17 @@
--- A transmission as a list of frames with Teletext packets, and the packets that are on air between
--- two frames.
+-- A transmission as a list of frames with PES packets, and the Teletext packets that are on air
+-- between two frames.
 use Rattle.std.specs.Prelude.{ℕ, ◌+◌, ◌<◌, ◌&&◌, List, [], ◌∷◌, nat_lt, nat_le, if◌then◌else◌}
 use Rattle.std.specs.Prelude.{drop, flat_map, All, AllPairs}
 
--- A frame with Teletext: its number, and its packets of 42 bytes in the order of transmission.
--- Frames last 1/25 of a second and are counted from midnight (not defined by a standard).
+-- A frame with a PES packet: its number, and the bytes of its Teletext packets, if any, in the
+-- order of transmission. Frames last 1/25 of a second and are counted from midnight (not defined by
+-- a standard).
 pub record SentFrame : Type 0 where
   pub frame : ℕ
   pub packets : List (List ℕ)
 
--- A transmission: its frames with Teletext packets, in the order of transmission. A frame that is
--- not in the list has no packet.
+-- A transmission: its frames with PES packets, in the order of transmission. A frame may have
+-- several entries. A frame that is not in the list has no packet.
 abbrev pub Transmission : Type 0
 Transmission = List SentFrame
 

@@ -30,7 +30,7 @@ use Rattle.sub_rules.specs.declared.active_faults.ActiveFaults.{ActiveFaults}
 
 -- A step in checking a PES file.
 pub data CheckStep : Type 0 where
-  -- The following steps belong to the PES packet with this number.
+  -- The PES packet with this number is reached or, after the last PES packet, the end of the file.
   AtPes : ℕ → CheckStep
   -- An event of the check.
   Emits : Event → CheckStep
@@ -47,18 +47,19 @@ pub data CheckStep : Type 0 where
   -- reported even if there was no event.
   Closes : Bool → Bool → CheckStep
   -- The first frame of the run of frames with an unfinished page, up to the frame before; `None` if
-  -- the page was finished there.
+  -- the page was finished there, or no frame has ended.
   GoesBack : Option ℕ → CheckStep
 
 -- ---- the position in the transmission
 
--- The number of the PES packet to which the current events belong; 0 before the first PES packet.
+-- The number of the PES packet that was reached last; 0 before the first PES packet, and the number
+-- of PES packets at the end of the file.
 unfoldable pub current_pes : List CheckStep → ℕ
 current_pes [] = 0
 current_pes (AtPes pes ∷ past) = pes
 current_pes (m ∷ past) = current_pes past
 
--- The frame of the last PES packet that was not skipped; 0 if there is none.
+-- The frame that began last (`Begins`); 0 if no frame has begun.
 unfoldable pub last_packet_frame : List CheckStep → ℕ
 last_packet_frame [] = 0
 last_packet_frame (Begins f ∷ past) = f
@@ -78,7 +79,8 @@ late_run_start (AtEnd f first_unfinished late ∷ past) = if late then first_unf
 late_run_start (m ∷ past) = late_run_start past
 
 -- The frame of the last `GoesBack` step: the first frame of the run of frames with an unfinished
--- page, up to the frame before. `None` if the page was finished there, or without such a step.
+-- page, up to the frame before. `None` if the page was finished there or no frame had ended, or
+-- without such a step.
 unfoldable pub back_frame_of : List CheckStep → Option ℕ
 back_frame_of [] = None
 back_frame_of (GoesBack first_unfinished ∷ past) = first_unfinished
@@ -151,7 +153,7 @@ first_finished_of (m ∷ past) = first_finished_of past
 
 -- The event for the trusted frames of a run that ends before frame f. `run` is the frame of the
 -- run's first header, and `finished` is the first frame at whose end the page was finished. There
--- is no event without such a frame before f.
+-- is no event if one of them is `None`, or if `finished` is not before f.
 abbrev pub trusted : Option ℕ → Option ℕ → ℕ → List Event
 trusted (Some from) (Some finished) f = if nat_lt finished f then Trusted from (f - 1) ∷ [] else []
 trusted run finished f = []
@@ -173,8 +175,8 @@ first_untrusted_at_close past left =
     (if left then unwrap_or (back_frame_of past) (last_packet_frame past) else suc
     (last_packet_frame past))
 
--- The event; a fault whose place is a PES packet gets the number `pes`, which counts skipped
--- packets too.
+-- The event; a `Reported` fault whose place is a PES packet gets the number `pes`, which counts
+-- skipped packets too.
 unfoldable pub with_pes_number : ℕ → Event → Event
 with_pes_number pes (Reported refusal) = Reported (fault_with_pes_number pes refusal)
 with_pes_number pes event = event

@@ -12,15 +12,15 @@ pub struct ActiveFaults {
     /// The row, 1 to 24, and the column, 0 to 39, of the first cell with a fault, if there is one.
     /// If `within` is not 0, a cell has a fault only if the page is overdue and the cell is wrong,
     /// or if the page is not overdue and the cell has a code, other than a space, that was expected
-    /// neither at this frame nor at one of the `within` frames before.
+    /// neither at this frame nor, from the first frame on, at one of the `within` frames before.
     pub content: Option<(u8, u8)>,
     /// Whether the repeat bound is exceeded: so many frames had no header of the page.
     pub gap: bool,
     /// Whether complete pages are required, and the page is open and, if `within` is not 0,
     /// overdue.
     pub incomplete: bool,
-    /// Whether the expected page is unknown, or was unknown at one of the `within` frames before,
-    /// because a subtitle is unreliable: rejected, faulty or out of order.
+    /// Whether the expected page is unknown or, from the first frame on, was unknown at one of the
+    /// `within` frames before, because a subtitle is unreliable: rejected, faulty or out of order.
     pub undecided: bool,
     /// Whether the pace is exceeded: so many frames had no PES packet.
     pub silent: bool,

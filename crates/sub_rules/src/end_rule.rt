@@ -7,17 +7,18 @@ use sub_io::FaultCode;
 #[derive(Clone, Copy, Debug, PartialEq, Eq)]
 pub enum EndRule {
     /// If the expected page is known, each cell has the expected code, and each row with expected
-    /// text was sent since the last header of the page. If `within` is not 0, it is enough until
-    /// the page is overdue that each cell has a space or a code that was expected at this frame or
-    /// at one of the `within` frames before.
+    /// text was sent since the last header of the page, while the page was open. If `within` is not
+    /// 0, it is enough until the page is overdue that each cell has a space or a code that was
+    /// expected at this frame or, from the first frame on, at one of the `within` frames before, or
+    /// that the expected page was unknown at one of these frames.
     Content,
     /// The page has had a header within the repeat bound, or the transmission is still shorter.
     Gap,
     /// If complete pages are required, the page is not open. If `within` is not 0, it may be open
     /// until it is overdue.
     Incomplete,
-    /// The expected page is known, and so are those of the `within` frames before: no unreliable
-    /// subtitle may be expected.
+    /// The expected page is known, and so are, from the first frame on, those of the `within`
+    /// frames before: no unreliable subtitle may be expected.
     Undecided,
     /// A PES packet has come within the pace, if a pace is required.
     Silent,

@@ -2,13 +2,13 @@
 use crate::end_rule::EndRule;
 use crate::fault::CheckFault;
 
-/// An event of checking a PES file: a fault, the end of a fault, or frames that can be broadcast
-/// unchanged.
+/// An event of checking a PES file: a fault, the end of a fault, the end of a run of skipped PES
+/// packets, or frames that can be broadcast unchanged.
 #[derive(Clone, Copy, Debug, PartialEq, Eq)]
 pub enum Event {
     /// A fault, such as a broken rule. For a rule that is checked at the end of each frame, the
     /// event is reported only if the fault was not already active at this place at the end of the
-    /// frame before.
+    /// frame that was ended before.
     Reported(CheckFault),
     /// An active fault has ended.
     Ended {

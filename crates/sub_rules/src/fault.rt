@@ -11,15 +11,14 @@ use stl_rows::{LoadFault, LoadFaultKind};
 use sub_io::FaultCode;
 use ttx_pes::PesFault;
 
-/// A fault of a subtitle file and a PES file, with its place, in the order of the manual's table of
-/// faults.
+/// A fault of a subtitle file or a PES file, with its place.
 ///
 /// `pes` counts PES packets from 0. `frame` is a frame of the day. `packet` counts the Teletext
-/// packets of the frame from 0: those of its PES packet or, if `within` is not 0, those of all
-/// consecutive PES packets of the frame. `row` is 1 to 24, `column` 0 to 39.
+/// packets of the frame from 0: those of its PES packet or, if `within` is not 0, those of all its
+/// PES packets between which at most skipped packets come. `row` is 1 to 24, `column` 0 to 39.
 #[derive(Clone, Copy, Debug, PartialEq, Eq)]
 pub enum CheckFault {
-    /// The subtitle file was rejected.
+    /// The subtitle file has a fault or could not be read, or the memory for it ran out.
     Subtitles(LoadFault),
     /// A PES packet is not a valid PES packet with Teletext or is one too many, or reading the file
     /// failed.
@@ -36,8 +35,8 @@ pub enum CheckFault {
         /// The number of the PES packet, counted from 0.
         pes: u32,
     },
-    /// The frame of a PES packet is before the frame of the previous PES packet or, if `within` is
-    /// 0, the same.
+    /// The frame of a PES packet is before the frame of the previous PES packet that was not
+    /// skipped or, if `within` is 0, the same.
     Order {
         /// The number of the PES packet, counted from 0.
         pes: u32,
@@ -61,7 +60,8 @@ pub enum CheckFault {
         /// The number of the Teletext packet in its frame, counted from 0.
         packet: u32,
     },
-    /// C11 (magazine serial) of a page header differs from that of the first page header.
+    /// C11 (magazine serial) of a page header differs from that of the first page header that could
+    /// be decoded.
     Mode {
         /// The frame of the Teletext packet.
         frame: u32,
@@ -77,16 +77,16 @@ pub enum CheckFault {
         /// The number of the Teletext packet in its frame, counted from 0.
         packet: u32,
     },
-    /// A row of the open page has a byte with even parity.
+    /// A row of the open page has a text byte with even parity.
     Parity {
         /// The frame of the Teletext packet.
         frame: u32,
         /// The number of the Teletext packet in its frame, counted from 0.
         packet: u32,
     },
-    /// The codes of a row of the open page differ from those of the first packet of the same row,
-    /// sent since the last header of the page or, if repeats may keep the page, since the last
-    /// header that erases it.
+    /// The codes of a row of the open page differ from those of the first packet of the same row
+    /// that was sent while the page was open, since its last header or, if repeats may keep the
+    /// page, since the last header that erases it, if any.
     RowChanged {
         /// The frame of the Teletext packet.
         frame: u32,
@@ -106,9 +106,10 @@ pub enum CheckFault {
         frame: u32,
     },
     /// At the end of a frame, a cell of the page differs from the expected page, or a row with
-    /// expected text was not sent since the last header of the page. If the page may take `within`
-    /// frames to become correct, the fault is reported when the page is overdue, or at once if the
-    /// cell has a code other than a space that was not expected within these frames.
+    /// expected text was not sent since the last header of the page, while the page was open. If
+    /// the page may take `within` frames to become correct, the fault is reported when the page is
+    /// overdue, or at once if the cell has a code other than a space that was not expected within
+    /// these frames, and their expected pages are known.
     Content {
         /// The frame at whose end the cell is wrong.
         frame: u32,
@@ -129,10 +130,10 @@ pub enum CheckFault {
         /// The frame at whose end the page is open.
         frame: u32,
     },
-    /// At the end of a frame, the expected page is unknown because of an unreliable subtitle; or it
-    /// was unknown at one of the `within` frames before.
+    /// At the end of a frame, the expected page is unknown because of an unreliable subtitle; or,
+    /// from the first frame on, it was unknown at one of the `within` frames before.
     Undecided {
-        /// The frame at whose end the expected page is unknown.
+        /// The first frame at whose end this is so.
         frame: u32,
     },
     /// The pace is exceeded: no frame within it had a PES packet.
@@ -140,7 +141,7 @@ pub enum CheckFault {
         /// The first frame at whose end the pace is exceeded.
         frame: u32,
     },
-    /// A subtitle ends after the last frame. If the page may take `within` frames to become
+    /// The last TCO is after the last frame. If the page may take `within` frames to become
     /// correct, also if at the end of the last frame the page is still wrong, or open although
     /// complete pages are required, but not yet overdue.
     Late {
@@ -208,8 +209,8 @@ impl CheckFault {
         self.row().code
     }
 
-    /// Returns the place of the fault: a TTI block or a text position in the subtitle file; or a
-    /// PES packet, a frame, a Teletext packet or a cell; `Nowhere` for `Empty`.
+    /// Returns the place of the fault: a block or a text position in the subtitle file; or a PES
+    /// packet, a frame, a Teletext packet or a cell; `Nowhere` for `Empty`.
     pub fn place(self) -> FaultPlace
         ensures { result ≡ place_of_fault self }
     {

@@ -12,7 +12,7 @@ pub enum FaultPlace {
     },
     /// A TTI block of the subtitle file, counted from 1; 0 is the GSI block.
     Block {
-        /// The number of the TTI block.
+        /// The number of the block.
         block: u32,
     },
     /// A position in the text of a subtitle: a byte or a line, both counted from 0.
@@ -28,7 +28,7 @@ pub enum FaultPlace {
         frame: u32,
     },
     /// A Teletext packet of a frame, which has one PES packet or, if `within` is not 0, one or more
-    /// consecutive PES packets.
+    /// between which at most skipped packets come.
     Packet {
         /// The frame of the PES packet.
         frame: u32,

@@ -10,8 +10,8 @@ use sub_io::FaultCode;
 pub struct FaultRow {
     /// The number and name of the fault.
     pub code: FaultCode,
-    /// The place of the fault: a TTI block or a text position in the subtitle file; or a PES
-    /// packet, a frame, a Teletext packet or a cell; `Nowhere` for `Empty`.
+    /// The place of the fault: a block or a text position in the subtitle file; or a PES packet, a
+    /// frame, a Teletext packet or a cell; `Nowhere` for `Empty`.
     pub place: FaultPlace,
     /// Whether the fault affects receivers, so its frame cannot be broadcast unchanged.
     pub invalidates: bool,
@@ -22,8 +22,9 @@ pub struct FaultRow {
 impl FaultRow {
     /// Returns the first frame that is no longer trusted because of the fault, or `None` if the
     /// fault does not affect receivers. It is the frame of the fault's place, with two exceptions:
-    /// a faulty PES packet may belong to `last`, the frame of the previous PES packet, and an
-    /// overdue page has been unfinished since the frame `late`.
+    /// a faulty PES packet may belong to `last`, the frame of the last PES packet that was not
+    /// skipped, and at the end of a frame an overdue page has been unfinished since the frame
+    /// `late`.
     pub fn invalidated(&self, last: u32, late: Option<u32>) -> Option<u32>
         ensures { result ≡ invalidated_frame last late self.now.invalidates self.now.place }
     {

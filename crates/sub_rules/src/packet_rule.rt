@@ -11,14 +11,16 @@ pub enum PacketRule {
     Address,
     /// The eight coded bytes of a packet X/0 are Hamming 8/4 code words.
     HeaderCode,
-    /// All page headers, of any page and magazine, have the same C11 (magazine serial).
+    /// All page headers that can be decoded, of any page and magazine, have the same C11 (magazine
+    /// serial).
     Mode,
     /// A header of the page has the control bits of a subtitle page, and has C4 (erase page) set
     /// or, if that is allowed, repeats the page.
     Control,
-    /// A row of the open page has odd parity.
+    /// Each text byte of a row of the open page has odd parity.
     Parity,
-    /// All packets of the same row of the open page are equal.
+    /// All packets of a row that are sent while the page is open are equal, since its last header
+    /// or, if repeats may keep the page, since the last header that erases it, if any.
     RowChanged,
     /// While the page is open, no packet X/25 to X/28 of its magazine is sent.
     Enhancement,

@@ -33,8 +33,8 @@ pub enum NextPesPacket {
 
 /// Reads PES packet number `pes`, counted from 0. Returns `None` at the end of the file.
 ///
-/// The contents of the packet stay in `reader`. Ignore `again` after a skipped packet, because it
-/// may compare with that packet.
+/// The contents of a valid packet stay in `reader`. Ignore `again` after a skipped packet, because
+/// it may compare with that packet.
 ///
 /// # Errors
 ///
@@ -70,7 +70,8 @@ pub fn next_pes_packet<P: PesPackets>(
     // If `again` is set, the data units equal those of the previous PES packet.
     ensures again { IfSent result (λ sending. sending.again ≡ true
         → reader.new.frame.units ≡ reader.old.frame.units) }
-    // If `again` is clear, the data field differs from that of the previous PES packet.
+    // If `again` is clear, the data field differs from that of the previous PES packet, if that was
+    // valid.
     ensures other { IfSent result (λ sending. sending.again ≡ false
         → reader.new.data_field ≢ reader.old.data_field) }
     ensures day { IfSent result (λ sending. sending.frame < day) }

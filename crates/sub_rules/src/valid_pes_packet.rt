@@ -14,7 +14,8 @@ pub struct ValidPesPacket {
     pub again: bool,
 }
 
-/// Returns the Teletext data units of the PES packet that `reader` read last.
+/// Returns the Teletext data units of the PES packet that `reader` read last; none before the first
+/// packet, at the end and after a fault.
 pub fn units_of(reader: &ComparingReader) -> SentUnits<'_>
     ensures value { result ≡ reader.now.frame.units }
     ensures few { length result ≤ max_units }
