@@ -86,7 +86,7 @@ pub beginning-more : (w : Watched) (xs : List (List ℕ)) (x : List ℕ)
     ≡ (has_text_beginning w.keeps (kind w.page) xs || begins_text w.keeps (kind w.page x))
 beginning-more w xs x = list_any-push (kind w.page) (λ y. begins_text w.keeps (kind w.page y)) xs x
 
--- If a list has a header that erases the page, the packets from the last such header on do not
+-- If a list has a header that starts a new text, the packets from the last such header on do not
 -- depend on the packets before the list.
 from_beginning_ignores_earlier_packets : (keeps : Bool) (page : PageIdValue) (xs ys : List (List ℕ))
     → has_text_beginning keeps (kind page) ys ≡ true

@@ -1,4 +1,5 @@
--- Several packets in a row that can be skipped change neither the listener's state nor its counts.
+-- Several consecutive packets that can always be skipped have no events, add no header of the page,
+-- and do not change the listener's state.
 use Rattle.std.proofs.lemmas.Bool.Decides.{nat_tests}
 use Rattle.std.proofs.lemmas.Bool.{cases_lt}
 use Rattle.std.proofs.lemmas.List.{take_more}

@@ -33,15 +33,15 @@ abbrev pub row_or_blank : Option (List ℕ) → List ℕ
 row_or_blank None = blank_row
 row_or_blank (Some p) = codes_of p
 
--- The listener's state is the one that `sub_rules` defines for the packets received so far,
--- `heard`.
+-- The listener's C11, open page, sub-code, received rows and shown page are those that follow from
+-- the packets received so far, `heard`.
 pub record Knows (heard : List (List ℕ)) (s : Listener) : Type 0 where
   pub serial_eq : s.serial ≡ option_map (λ (h : Header). c11 h) (first_header heard)
   pub open_eq : s.is_open ≡ is_open_after (kind s.watched.page) heard
   pub subcode_eq :
       s.subcode ≡ option_map (λ (h : Header). h.subcode) (last_header s.watched.page heard)
-  -- The rows received since the page was last erased, while it was open, with the codes of each
-  -- row's first packet.
+  -- The rows received while the page was open, since the last header that starts a new text, if
+  -- any, with the codes of each row's first packet.
   pub sent_eq : (row : ℕ) → 1 ≤ row → row ≤ 24
       → slice_index_or s.sent (row - 1) false
       ≡ is_some
@@ -61,7 +61,7 @@ abbrev pub BreakNoRule : Watched → List (List ℕ) → List (List ℕ) → ℕ
 BreakNoRule w before packets n =
     (k : ℕ) → k < n → broken_rules w (before ++ take k packets) (slice_index_or packets k []) ≡ []
 
--- The packets `last`, the last ones received, begin with a header that erases the page, contain
+-- The packets `last`, the last ones received, begin with a header that starts a new text, contain
 -- `headers` headers of the page, and break no rule.
 pub record LastPacketsAreClean (w : Watched) (heard last : List (List ℕ)) (headers : ℕ) : Type 0
   where
@@ -71,14 +71,15 @@ pub record LastPacketsAreClean (w : Watched) (heard last : List (List ℕ)) (hea
     pub clean : BreakNoRule w before last (length last)
     pub count : header_count w.page last ≡ headers
 
--- The frame has a header that erases the page: among its first `from` packets (`before`), or among
--- `packets`.
+-- The frame has a header that starts a new text: among `packets`, which begin with packet number
+-- `from` of the frame, or among the packets of the frame before them. `before` says whether the
+-- latter is so; it is ignored if `from` is 0, since then there are none.
 abbrev pub frame_has_text_beginning : Watched → ℕ → Bool → List (List ℕ) → Bool
 frame_has_text_beginning w from before packets =
     (nat_lt 0 from && before) || has_text_beginning w.keeps (kind w.page) packets
 
--- The listener's state agrees with all packets received, `heard`, and with those of the last PES
--- packet, `last`.
+-- The listener's state agrees with all packets received, `heard`. If `s.last` is not `None`, it
+-- also agrees with the packets of the last PES packet, `last`, and `s.begun` is true.
 pub record KnowsLast (heard last : List (List ℕ)) (s : Listener) : Type 0 where
   pub knows : Knows heard s
   pub last_is : (headers : ℕ) → s.last ≡ Some headers → LastPacketsAreClean s.watched heard last
@@ -87,21 +88,22 @@ pub record KnowsLast (heard last : List (List ℕ)) (s : Listener) : Type 0 wher
 
 -- ---- packets that can be skipped
 
--- A header with the C11 `serial` has the same C11 (magazine serial) as the first page header; false
--- if no page header was received.
+-- A header with the C11 `serial` has the same C11 (magazine serial) as the first page header that
+-- could be decoded; false if there was none.
 abbrev pub has_first_mode : Option Bool → Bool → Bool
 has_first_mode None serial = false
 has_first_mode (Some first) serial = is_same_bit first serial
 
--- A page header can be skipped: it has the C11 of the first page header, is no header of the page,
--- and does not end the open page.
+-- A page header can be skipped: it has the C11 of the first page header that could be decoded, is
+-- no header of the page, and does not end the open page.
 abbrev pub can_skip_header : ℕ → Header → Listener → Bool
 can_skip_header magazine h s =
     has_first_mode s.serial (c11 h)
     && (if s.is_open then not (magazine == s.watched.page.magazine) && not (c11 h)
     else not (magazine == s.watched.page.magazine && h.page == s.watched.page.page))
 
--- The packet p, received after `heard`, breaks no rule and does not change the listener's state.
+-- The packet p, received after `heard`, breaks no rule, and the listener's state agrees with the
+-- packets up to p.
 pub record CanBeSkipped (heard : List (List ℕ)) (p : List ℕ) (s : Listener) : Type 0 where
   pub breaks_none : rule_set (λ r. breaks r s.watched heard p) packet_rules ≡ 0
   pub knows : Knows (heard ++ p ∷ []) s

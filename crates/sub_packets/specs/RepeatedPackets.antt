@@ -1,5 +1,5 @@
--- Packets that are sent again: if the first packet is a header that erases the page, they break the
--- same rules again.
+-- Packets that are sent again: if the first packet is a header that starts a new text, they break
+-- the same rules again.
 use Rattle.std.specs.Prelude.{◌≡◌, ℕ, ◌<◌, List, [], ◌∷◌, ◌++◌, length, IsTrue, slice_index_or}
 use Rattle.std.specs.Prelude.{take}
 use Rattle.ttx_page.specs.PacketKind.{begins_text, kind}
@@ -9,8 +9,7 @@ use Rattle.sub_rules.specs.PacketRules.{first_header}
 use Rattle.sub_rules.specs.PacketTests.{broken_rules}
 use Rattle.sub_rules.specs.declared.packet_rule.Watched.{Watched}
 
--- The first packet of the list is a header that erases the page. If C4 (erase page) must always be
--- set, any header of the page counts.
+-- The first packet of the list is a header that starts a new text of the page (`begins_text`).
 pub record BeginsWithHeader (w : Watched) (packets : List (List ℕ)) : Type 0 where
   pub first : List ℕ
   pub others : List (List ℕ)
@@ -18,8 +17,10 @@ pub record BeginsWithHeader (w : Watched) (packets : List (List ℕ)) : Type 0 w
   pub is_header : IsTrue (begins_text w.keeps (kind w.page first))
 
 -- Both lists of packets have the same effect on later packets: they have the same first page header
--- and last header of the page, the page is open after both or after neither, and the rows since the
--- last header and since the page was erased are the same.
+-- that can be decoded and the same last header of the page, the page is open after both or after
+-- neither, and the packets sent while the page was open are the same, both since its last header
+-- and since the last header that starts a new text (`begins_text`), or in the whole list if no
+-- header starts one.
 pub record HaveSameEffect (w : Watched) (one other : List (List ℕ)) : Type 0 where
   pub header_eq : first_header one ≡ first_header other
   pub last_is : last_header w.page one ≡ last_header w.page other
@@ -35,7 +36,7 @@ BreakSameRules w one other packets =
     → broken_rules w (one ++ take k packets) (slice_index_or packets k [])
     ≡ broken_rules w (other ++ take k packets) (slice_index_or packets k [])
 
--- Packets that begin with a header that erases the page break the same rules when they are sent
+-- Packets that begin with a header that starts a new text break the same rules when they are sent
 -- again at once, and have the same effect on later packets. So a checker can skip repeated packets
 -- that broke no rule.
 abbrev pub LawOfRepeatedPackets : Type 0

@@ -5,7 +5,8 @@ use Rattle.sub_rules.specs.Events.{first_cell, was_due}
 use Rattle.sub_packets.specs.declared.listener.Listener.{Listener}
 
 -- A cell of the stored page is correct: it has the expected code and, if repeats may have C4 (erase
--- page) clear and that code is no space, its row was received since the last header of the page.
+-- page) clear and that code is no space, its row was received since the last header of the page,
+-- while the page was open.
 abbrev pub is_kept_cell_right : Listener → ℕ → ℕ → Bool
 is_kept_cell_right s row column =
     cell s.comparison.page row column == cell s.comparison.due row column
@@ -18,7 +19,8 @@ unfoldable pub first_wrong_kept_cell : Listener → Option (ℕ × ℕ)
 first_wrong_kept_cell s = first_cell (λ row column. not (is_kept_cell_right s row column))
 
 -- The first cell of the stored page whose code is neither a space nor expected in that cell at
--- frame f or at one of the n frames before f. Frames before `first` do not count.
+-- frame f or at one of the n frames before f, of which those before `first` do not count. `None` if
+-- there is no such cell.
 unfoldable pub first_unexpected_kept_cell : Listener → (ℕ → Rows) → ℕ → ℕ → ℕ → Option (ℕ × ℕ)
 first_unexpected_kept_cell s due first f n =
     first_cell

@@ -8,7 +8,7 @@ abbrev pub space_if_due : ℕ → ℕ → ℕ
 space_if_due due shown = if due == shown then space else shown
 
 -- `left` has the codes of `shown`, but a space for each code that was expected in its cell at frame
--- f or at one of the n frames before f. Frames before `first` do not count.
+-- f or at one of the n frames before f, of which those before `first` do not count.
 abbrev pub LacksDueCodes : (ℕ → Rows) → ℕ → ℕ → ℕ → Rows → Rows → Type 0
 LacksDueCodes due first f n shown left =
     (row column : ℕ)

@@ -105,8 +105,9 @@ impl Listener {
         self.is_open && has_even_byte(packet)
     }
 
-    // Returns whether the page is open and, since it was last erased, the row was first received
-    // with different codes.
+    // Returns whether the page is open and the row has different codes than the row's first packet
+    // that was received while the page was open, since the last header that starts a new text, if
+    // any; `false` if there is no such packet.
     fn breaks_row_changed(&self, row: u8, packet: &Packet) -> bool
         requires { IsRow row }
         ensures { result ≡ (self.now.is_open && slice_index_or self.now.sent (row - 1) false

@@ -18,17 +18,18 @@ use ttx_page::{Page, count_differing_columns};
 
 /// The page that the packets show, the expected page, and the number of wrong cells.
 ///
-/// After the expected page of a frame is drawn, the number is unknown until the next header that
-/// erases the page. From then on, each stored row updates it.
+/// After the expected page of a frame is drawn, the number is unknown until the shown page is
+/// erased (`clear`). From then on, each stored row updates it.
 #[derive(Drop)]
 pub struct Comparison {
     page: Page,
     due: Page,
-    // The number of wrong cells, 0 to 960. `None` if an expected page was drawn since the last
-    // header that erased the page; usually such a header comes before the number is needed.
+    // The number of wrong cells, 0 to 960. `None` if an expected page was drawn since the shown
+    // page was last erased (`clear`), or since the start if it never was; usually it is erased
+    // before the number is needed.
     wrong: Option<u16>,
     // The number of cells in which a blank page differs from the expected page, which is the value
-    // of `wrong` after a header that erases the page.
+    // of `wrong` after the shown page is erased.
     blank_page_difference_count: u16,
 }
 

@@ -1,7 +1,7 @@
 //! Checks Teletext packets against the rules for packets, and stores the page that they show.
 //!
-//! `sub_rules` defines the rules. `sub_checker` passes the packets of each PES packet to this
-//! crate, and reads the stored page at the end of each frame.
+//! `sub_rules` defines the rules. `sub_checker` passes the packets of each PES packet that is not
+//! skipped to this crate, and finds wrong cells of the stored page at the ends of frames.
 //!
 //! ```text
 //! let mut listener = Listener::new(watched, due);

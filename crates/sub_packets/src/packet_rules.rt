@@ -65,8 +65,8 @@ pub(crate) fn is_serial(header: &Header) -> bool
     header.control.contains(Control::C11)
 }
 
-/// Returns whether the packet has a page header whose C11 differs from that of the first page
-/// header.
+/// Returns whether the packet has a page header whose C11 differs from `serial`, that of the first
+/// page header that could be decoded; `false` if `serial` is `None`.
 pub(crate) fn has_different_mode(serial: Option<bool>, page_header: Option<Header>) -> bool
     ensures { result ≡ has_different_mode serial (option_map (λ (h : Header). c11 h) page_header) }
 {
@@ -76,8 +76,8 @@ pub(crate) fn has_different_mode(serial: Option<bool>, page_header: Option<Heade
     }
 }
 
-/// Returns C11 of the first page header, once one more packet was received, whose page header is
-/// `page_header`.
+/// Returns C11 of the first page header that could be decoded, once one more packet was received,
+/// whose page header is `page_header`; `None` if there is none.
 pub(crate) fn first_serial(serial: Option<bool>, page_header: Option<Header>) -> Option<bool>
     ensures { result ≡ option_or serial (option_map (λ (h : Header). c11 h) page_header) }
 {
@@ -114,8 +114,8 @@ pub(crate) fn is_same_bit(one: bool, other: bool) -> bool
     one == other
 }
 
-/// Returns whether `is_serial` equals C11 of the first page header; `false` before a page header
-/// was received.
+/// Returns whether `is_serial` equals C11 of the first page header that could be decoded; `false`
+/// if there was none.
 pub(crate) fn has_first_mode(serial: Option<bool>, is_serial: bool) -> bool
     ensures { result ≡ has_first_mode serial is_serial }
 {
@@ -132,8 +132,8 @@ pub(crate) fn is_erasing(header: &Header) -> bool
     has_bit(header.control, Control::C4)
 }
 
-/// Returns whether a packet of this kind erases the page. If C4 (erase page) must always be set,
-/// any header of the page does.
+/// Returns whether a packet of this kind starts a new text: it is a header of the page that has C4
+/// (erase page) set, or any header of the page if C4 must always be set.
 pub(crate) fn begins_text(keeps: bool, found: &PacketKind) -> bool
     ensures { result ≡ begins_text keeps found.now }
 {

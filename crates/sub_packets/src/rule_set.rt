@@ -22,7 +22,8 @@ const RULES: [PacketRule; 7] = [
 ];
 
 /// The rules that a packet breaks, as a set: one bit per rule, the first rule in the lowest bit.
-/// While the set is built, it has only the last of these rules.
+/// While the set is built, from the last rule to the first, the lowest bit is that of the first
+/// rule so far.
 #[derive(Clone, Copy)]
 pub(crate) struct RuleSet(u8);
 

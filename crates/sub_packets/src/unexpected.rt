@@ -13,8 +13,8 @@ impl Listener {
     ghost use Rattle.sub_packets.specs.StoredPage.{first_unexpected_kept_cell};
 
     /// Returns the row (1 to 24) and column (0 to 39) of the first cell whose code is neither a
-    /// space nor expected in that cell at `frame` or at one of the `within` frames before `frame`;
-    /// `None` if there is none. Frames before `first` do not count.
+    /// space nor expected in that cell at `frame` or at one of the `within` frames before `frame`,
+    /// of which those before `first` do not count; `None` if there is none.
     ///
     /// This search is needed only if the page is wrong at the end of a frame but not yet overdue.
     /// So nothing is stored for it: the expected pages are drawn again.
@@ -40,7 +40,7 @@ impl Listener {
 }
 
 // Returns the page with a space for each code that was expected in its cell at `frame` or at one of
-// the `within` frames before. Frames before `first` do not count.
+// the `within` frames before, of which those before `first` do not count.
 fn page_without_due_codes(
     shown: &Page,
     programme: &Programme,

@@ -24,7 +24,7 @@ impl Listener {
     /// Returns the row (1 to 24) and column (0 to 39) of the first wrong cell; `None` if no cell is
     /// wrong. A cell is wrong if it differs from the expected page. If repeats may have C4 (erase
     /// page) clear, a cell whose expected code is not a space is also wrong if its row was not sent
-    /// since the last header of the page.
+    /// since the last header of the page, while the page was open.
     pub fn first_wrong(&self) -> Option<(u8, u8)>
         ensures { result ≡ first_wrong_kept_cell self.now }
     {
@@ -37,7 +37,7 @@ impl Listener {
     }
 
     // Returns the expected page with spaces in the rows that were sent since the last header of the
-    // page.
+    // page, while the page was open.
     fn missing(&self) -> Page
         ensures { (row column : ℕ) → IsCell row column → cell result row column
             ≡ (if slice_index_or self.now.again (row - 1) false
