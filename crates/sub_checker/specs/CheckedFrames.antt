@@ -34,7 +34,7 @@ criteria_of_checker c unread =
     }
 
 -- The state of the checker agrees with the packets of the first n frames. `last` are the packets of
--- the last PES packet.
+-- the last PES packet that was not skipped.
 pub record AgreesWithPackets
     (g : Criteria) (frames : Transmission) (n : ℕ) (last : List (List ℕ)) (c : CheckerValue)
     : Type 0 where
@@ -42,8 +42,9 @@ pub record AgreesWithPackets
   pub knows : KnowsLast (packets_before frames n) last c.listener
   pub count : c.counts.headers ≡ header_count g.watched.page (packets_before frames n)
 
--- Once a PES packet was received, the state of the checker has the first frame, and the frame after
--- the one at whose end the repeat bound is exceeded.
+-- Once a PES packet was received and not skipped, the state of the checker has the first frame, and
+-- the frame after the first at whose end the repeat bound is exceeded if no header of the page
+-- follows.
 pub record HasStarted (g : Criteria) (frames : Transmission) (n : ℕ) (c : CheckerValue) : Type 0
   where
     pub first_is : c.first ≡ frame_at frames 0
@@ -110,8 +111,8 @@ pub record StaysOpen
   pub before : c.counts.headers_before ≡ header_count g.watched.page (packets_before frames n)
   pub packets : c.counts.packets ≡ length (packets_of_frame frames n)
 
--- The state of the checker between two PES packets. The last frame, if there is one, has ended if
--- `within` is 0, and has not ended yet if it is not.
+-- The state of the checker after some PES packets, or before the first. The last frame, if there is
+-- one, has ended if `within` is 0, and has not ended yet if it is not.
 pub record BetweenPesPackets (g : Criteria) (sent : Transmission) (last : List (List ℕ))
     (c : CheckerValue) : Type 0
   where

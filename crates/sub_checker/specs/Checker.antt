@@ -57,20 +57,23 @@ sent_frame_of sending units = record { frame = sending.frame; packets = packets_
 -- The state of the checker:
 --
 --   programme         the reliable subtitles
---   judging           also says between which of them unreliable subtitles were
+--   judging           also says where unreliable subtitles were: before, between or after them
 --   any_unreliable    whether the file has unreliable subtitles
 --   every             the repeat bound: the most frames from one header of the page to the next
 --   within            the number of frames within which the page must become correct
 --   pace              the longest interval between PES packets in frames, if it is limited
 --   listener          the page that the packets show, and the expected page of `frame`
---   first             the frame of the first PES packet
+--   first             the frame of the first PES packet that was not skipped
 --   latest_frame      the greatest frame number so far
 --   frame             the current frame
 --   last              the frame that was ended last
 --   active_faults     the faults that were active at its end
---   first_unfinished  the first frame of the current run of frames with an unfinished page
---   repeat_deadline   the frame after the one at whose end the repeat bound is exceeded
---   counts            the counts of frames, page headers and packets so far
+--   first_unfinished  the first frame of the current run of frames with an unfinished page; `None`
+--                     if there is no such run, and always if `within` is 0
+--   repeat_deadline   the frame after the first at whose end the repeat bound is exceeded if no
+--                     header of the page follows
+--   counts            the counts of frames and headers of the page so far, and of packets of the
+--                     last frame while it is open
 pub record CheckerValue : Type 0 where
   pub programme : ProgrammeValue
   pub judging : JudgedValue
@@ -97,7 +100,8 @@ at_frame f c = record c {
   };
 }
 
--- The state of the checker after a move to f, the frame of the first PES packet.
+-- The state of the checker after a move to f, the frame of the first PES packet that is not
+-- skipped.
 abbrev pub checker_at_first : ℕ → CheckerValue → CheckerValue
 checker_at_first f c = record (at_frame f c) {
   first = f;
@@ -115,8 +119,9 @@ abbrev pub is_before : ℕ → Option ℕ → Bool
 is_before frame None = true
 is_before frame (Some edge) = nat_lt frame edge
 
--- The frame after the one at whose end the repeat bound is exceeded. `found` says whether the
--- current frame has a header of the page; `before` is the value before this frame.
+-- The frame after the first at whose end the repeat bound is exceeded if no header of the page
+-- follows. `found` says whether headers of the page were received in this frame; `before` is the
+-- value before them.
 abbrev pub next_repeat_deadline : Bool → ℕ → ℕ → ℕ → ℕ
 next_repeat_deadline found frame every before = if found then max before (frame + every + 1)
     else before
@@ -158,7 +163,7 @@ is_overdue_at programme within first (Some first_unfinished) f =
 abbrev pub is_due_page_undecided : CheckerValue → ℕ → Bool
 is_due_page_undecided c frame = is_due_undecided c.judging frame
 
--- The first wrong cell; `None` if the expected page is unknown.
+-- The first wrong cell; `None` if no cell is wrong, or if the expected page is unknown.
 abbrev pub current_wrong_cell : CheckerValue → Option (ℕ × ℕ)
 current_wrong_cell c = if is_due_page_undecided c c.frame then None else first_wrong_kept_cell
     c.listener
@@ -170,19 +175,20 @@ is_currently_undecided c = was_undecided (is_due_page_undecided c) c.first c.fra
 
 -- The first cell with a code, other than a space, that was not expected at the current frame or at
 -- one of the `within` frames before it, of which those before the first frame do not count. `None`
--- if one of these expected pages is unknown.
+-- if there is no such cell, or if one of these expected pages is unknown.
 abbrev pub current_unexpected_cell : CheckerValue → Option (ℕ × ℕ)
 current_unexpected_cell c =
     if is_currently_undecided c
     then None
     else first_unexpected_kept_cell c.listener (due_page_in c.programme) c.first c.frame c.within
 
--- The page is unfinished at the end of the current frame: a cell differs from an expected page that
--- is known, or complete pages are required and the page is open.
+-- The page is unfinished at the end of the current frame: the expected page is known and a cell is
+-- wrong, or complete pages are required and the page is open.
 abbrev pub is_currently_unfinished : CheckerValue → Bool
 is_currently_unfinished c = is_some (current_wrong_cell c) || is_kept_page_incomplete c.listener
 
--- The first frame of the current run of frames with an unfinished page.
+-- The first frame of the current run of frames with an unfinished page, or the current frame if
+-- `within` is 0; `None` if the page is finished at its end.
 abbrev pub current_run_start : CheckerValue → Option ℕ
 current_run_start c = extended_unfinished_run c.first_unfinished (is_currently_unfinished c) c.frame
 
@@ -243,9 +249,9 @@ is_currently_pending c =
 
 -- ---- the invariant of the checker
 
--- For each frame from `frame` on that comes before the next cue, the expected page is unknown at
--- that frame or at one of the `within` frames before it exactly if that frame comes before
--- `first_known_from`. Of the `within` frames before it, those before `first` do not count.
+-- For each frame of the day from `frame` on that comes before the next cue, the expected page is
+-- unknown at that frame or at one of the `within` frames before it exactly if that frame comes
+-- before `first_known_from`. Of the `within` frames before it, those before `first` do not count.
 abbrev pub IsKnownFrom : (ℕ → Bool) → ℕ → ℕ → ℕ → Option ℕ → ℕ → Type 0
 IsKnownFrom undecided first within frame edge first_known_from =
     (f : ℕ)
@@ -254,7 +260,8 @@ IsKnownFrom undecided first within frame edge first_known_from =
     → is_before f edge ≡ true
     → nat_lt f first_known_from ≡ was_undecided undecided first f within
 
--- The subtitles agree with `judging` and, up to the next cue, so does `first_known_from`.
+-- The subtitles and `any_unreliable` agree with `judging` and, from `frame` up to the next cue, so
+-- does `first_known_from`.
 pub record IsJudged
     (judging : JudgedValue) (programme : ProgrammeValue) (any_unreliable : Bool)
     (first within frame : ℕ) (edge : Option ℕ) (first_known_from : ℕ)

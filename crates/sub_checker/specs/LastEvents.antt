@@ -13,7 +13,7 @@ use Rattle.sub_rules.specs.declared.fault.CheckFault.{CheckFault}
 use Rattle.sub_rules.specs.declared.fault.CheckFault.TheVariants as fault
 
 -- The last fault to report: the fault that ended reading; otherwise `Empty` if there is no PES
--- packet, or `Late` if there is a frame and `late` is true: a subtitle ends after the last frame,
+-- packet, or `Late` if there is a frame and `late` is true: the last TCO is after the last frame,
 -- or the page is unfinished there but not yet overdue.
 abbrev pub last_fault_after : Option CheckFault → ℕ → ℕ → Bool → ℕ → Option CheckFault
 last_fault_after (Some f) frames pes late frame = Some f
@@ -33,7 +33,7 @@ fault_events None = []
 fault_events (Some f) = Reported f ∷ []
 
 -- The events at the end of the file, given the state of the checker: the active faults end, and the
--- last fault follows.
+-- last fault, if there is one, follows.
 abbrev pub closing_events_of_checker : ℕ → Option CheckFault → CheckerValue → List Event
 closing_events_of_checker pes given c = fault_ending_events c.active_faults c.last ++ fault_events
     (last_fault pes given c)

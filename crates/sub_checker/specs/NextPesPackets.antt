@@ -1,4 +1,4 @@
--- The steps and the state of the checker after a PES packet was read.
+-- The steps of the checker for a PES packet that was read, and the frames so far after it.
 use Rattle.std.specs.Prelude.{◌≡◌, ℕ, Bool, true, false, List, [], ◌∷◌}
 use Rattle.sub_rules.specs.FrameRules.{Criteria}
 use Rattle.sub_rules.specs.PesPacketEvents.{steps_of_sent}
@@ -16,7 +16,8 @@ abbrev pub is_skipped : NextPesPacket → Bool
 is_skipped (next.Skipped f) = true
 is_skipped (next.Sent s) = false
 
--- The PES packet that was read is valid, and has the same data field as the one before.
+-- The PES packet that was read is not skipped, and has the same data field as the one before,
+-- which is valid (`again`).
 abbrev pub RepeatsLastPacket : NextPesPacket → Type 0
 RepeatsLastPacket (next.Skipped f) = ⊥
 RepeatsLastPacket (next.Sent s) = s.again ≡ true
@@ -39,7 +40,7 @@ frames_after_read g sent (next.Skipped f) packets = sent
 frames_after_read g sent (next.Sent s) packets = sent_after g.within sent
     (frame_with_packets s packets)
 
--- The Teletext packets of the last valid PES packet.
+-- The Teletext packets of the last PES packet that was not skipped.
 abbrev pub last_packets_after_read : List (List ℕ) → NextPesPacket → List (List ℕ) → List (List ℕ)
 last_packets_after_read last (next.Skipped f) packets = last
 last_packets_after_read last (next.Sent s) packets = packets

@@ -22,8 +22,9 @@ use Rattle.sub_checker.specs.ReadCounts.{CarryFrames, HaveCompletePackets, AreCo
 use Rattle.sub_checker.specs.declared.reporter.Relay.{Relay}
 use Rattle.sub_checker.specs.declared.accepted.Accepted.{Accepted}
 
--- The counts agree with the frames of the PES packets. If no packet is skipped and no bytes are
--- left, the bytes are PES packets that carry these frames.
+-- There are at most as many PES packets as a file may have, their Teletext packets have 42 bytes,
+-- and the counts agree with their frames. If no packet is skipped and no bytes are left, the bytes
+-- are PES packets that carry these frames.
 pub record MatchesReadFile
     (g : Criteria) (clock : Clock) (bytes : List ℕ) (pes_packets : List PesPacket) (a : Accepted)
     : Type 0 where
@@ -35,8 +36,9 @@ pub record MatchesReadFile
   pub whole : HaveCompletePackets (frames_of pes_packets)
   pub counts : AreCountsOfFrames g.watched.page (sent_by_pes_packets g pes_packets) a
 
--- The events of the PES packets were reported; or a prefix of them, if the device stopped the
--- check; or only the events of the packets before the failure, if the source failed.
+-- All events of the PES file were reported, and the counts are as in `MatchesReadFile`; or a prefix
+-- of the events was reported, if the device stopped the check; or the events of the packets before
+-- the failure, without those at the end of a file, if the source failed.
 abbrev pub ReportsPesPackets : {D : Type 0} → Criteria → Clock → List ℕ → List PesPacket
     → (D → Event → D → Type 0) → D → D → Result (Option Accepted) CheckFault → Type 0
 ReportsPesPackets g clock bytes pes_packets IsReported old new (Ok (Some a)) =
@@ -51,7 +53,8 @@ ReportsPesPackets g clock bytes pes_packets IsReported old new (Err f) =
     × (f ≡ fault.Pes n Read)
     × Reports IsReported old new (events_of_pes_packets g (take n pes_packets))
 
--- The events of a PES file were reported, for whatever PES packets its bytes are.
+-- The events of a PES file were reported as `ReportsPesPackets` states, for whatever PES packets
+-- its bytes are.
 abbrev pub ReportsFile : {D : Type 0} → (Option UnreadReason → Criteria) → Clock → List ℕ
     → (D → Event → D → Type 0) → D → D → Result (Option Accepted) CheckFault → Type 0
 ReportsFile criteria clock bytes IsReported old new result =
@@ -59,8 +62,9 @@ ReportsFile criteria clock bytes IsReported old new result =
     → ReadsPesPackets clock 0 bytes pes_packets unread
     → ReportsPesPackets (criteria unread) clock bytes pes_packets IsReported old new result
 
--- The source failed while PES packet number `pes` was read; the packets before it were consumed. If
--- none of these was skipped, they are valid PES packets.
+-- The consumed bytes are `pes` PES packets, and then too few bytes for another; if none of these
+-- packets is skipped, they are valid PES packets. Contracts state this if the source failed while
+-- PES packet number `pes` was read.
 abbrev pub FailsWhileReadingOn : Clock → ℕ → Option (List ℕ) → Option (List ℕ) → Type 0
 FailsWhileReadingOn clock pes known left =
     FailsAtPesPacket pes known left
@@ -70,7 +74,8 @@ FailsWhileReadingOn clock pes known left =
     → length (frames_of (take pes pes_packets)) ≡ pes
     → FailsAfterValidPackets pes known left))
 
--- The events for a list of steps, followed by the end of the current run of skipped PES packets.
+-- The events for a list of steps, followed by the event that ends the current run of skipped PES
+-- packets, if the run has several packets.
 abbrev pub events_with_run_end : Relay → List CheckStep → List Event
 events_with_run_end p steps = relayed_events p steps ++ run_ending_events
     (skipped_run_of (relay_after p steps).run)

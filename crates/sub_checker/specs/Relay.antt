@@ -30,8 +30,8 @@ relay_after p ms = record {
 abbrev pub at_step : {D : Type 0} {g : _} → CheckStep → Reporter D g → Reporter D g
 at_step m s = record s { relay = record s.relay { tracker = after_step m s.relay.tracker } }
 
--- The reporter passed the events of a list of steps to its device, until the device stopped the
--- check, and has the state after these steps.
+-- The reporter passed the relayed events (`relayed_events`) of a list of steps to its device, until
+-- the device stopped the check, and has the state after these steps.
 pub record ReporterRelays
     {D : Type 0} {g : _} (IsReported : D → Event → D → Type 0)
     (old : Reporter D g) (steps : List CheckStep) (new : Reporter D g)
@@ -41,8 +41,8 @@ pub record ReporterRelays
   pub kept : new.relay ≡ relay_after old.relay steps
 
 -- Unless the device stopped the check, the reporter passed one event of the checker to it, after
--- trusted frames and a run of skipped PES packets that the event ends. An event that continues such
--- a run is not passed on.
+-- the events for trusted frames and for a run of several skipped PES packets, if the event ends
+-- them. An event that continues a run of skipped PES packets is not passed on.
 abbrev pub IsRelayed : {D : Type 0} {g : _}
     → (D → Event → D → Type 0) → Reporter D g → Event → Reporter D g → Type 0
 IsRelayed IsReported old e new = ReporterRelays IsReported old (Emits e ∷ []) new

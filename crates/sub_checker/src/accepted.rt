@@ -5,7 +5,7 @@ ghost use Rattle.sub_rules.specs.Fault.{is_pes_read_failure};
 use sub_rules::CheckFault;
 use ttx_pes::PesFault;
 
-/// The number of frames and of page headers in a PES file.
+/// The counts of the PES packets read: the frames that they span, and their headers of the page.
 #[derive(Clone, Copy, Debug, PartialEq, Eq)]
 pub struct Accepted {
     /// The number of frames from the frame of the first PES packet that was not skipped to the

@@ -26,7 +26,7 @@ use ttx_pes::SentUnits;
 
 impl<'a> Checker<'a> {
     /// Checks PES packet number `pes`. If `within` is 0, its frame ends at once; otherwise the
-    /// frame ends when a PES packet of another frame comes, or the file ends.
+    /// frame ends when a PES packet of another frame comes that is not skipped, or the file ends.
     pub fn check_pes_packet<A: ReportSink<Event>>(
         &mut self,
         pes: u32,
@@ -57,7 +57,8 @@ impl<'a> Checker<'a> {
         self.check_first_of_frame(pes, sending, units, reporter);
     }
 
-    // Returns whether a PES packet of `frame` continues the last frame, which has not ended yet.
+    // Returns whether a PES packet of `frame` continues the last frame: that frame has not ended
+    // yet, and has the same number.
     #[inline(always)]
     fn continues(&self, frame: u32) -> bool
         ensures { result ≡ (self.now.counts.is_open && frame == self.now.frame) }

@@ -39,12 +39,13 @@ pub(crate) struct Checker<'a> {
     pub frame: u32,
     // The next cue, a TCI or TCO after `frame`, if there is one.
     pub edge: Option<u32>,
-    // The number of a subtitle near `frame`, where the search for the next expected page starts.
-    // Contracts do not use this hint.
+    // The index of the first subtitle whose TCO is after the frame for which the expected page was
+    // drawn last, or the number of subtitles if there is none: the search for the next expected
+    // page starts there. Contracts do not use this hint.
     pub near: usize,
     // For frames from `frame` on, before the next cue: the expected page of the frame and those of
-    // the `within` frames before it, except for frames before `first`, are known exactly from this
-    // frame on.
+    // the `within` frames before it, of which those before `first` do not count, are known exactly
+    // from this frame on.
     pub first_known_from: u64,
     // The frame that was ended last; `active_faults` are the faults at its end.
     pub last: u32,
@@ -52,7 +53,8 @@ pub(crate) struct Checker<'a> {
     // The first frame of the current run of frames with an unfinished page; used only if `within`
     // is not 0.
     pub first_unfinished: Option<u32>,
-    // The frame after the one at whose end the repeat bound is exceeded.
+    // The frame after the first at whose end the repeat bound is exceeded if no header of the page
+    // follows.
     pub repeat_deadline: u32,
     pub counts: Counts,
 }
@@ -208,9 +210,8 @@ impl<'a> Checker<'a> {
         self.go_back(reporter);
     }
 
-    /// Tells the reporter the first frame of the run of frames with an unfinished page, up to the
-    /// frame before. This is needed only if the file has unreliable subtitles and `within` is not
-    /// 0.
+    /// If the file has unreliable subtitles and `within` is not 0, tells the reporter the first
+    /// frame of the run of frames with an unfinished page, up to the frame before.
     #[inline(always)]
     #[tactic(auto, unfolding(crate::specs::CheckedFrames::reporter_after_back_step))]
     pub fn go_back<A: ReportSink<Event>>(&self, reporter: &mut Reporter<'_, A>)
@@ -221,8 +222,8 @@ impl<'a> Checker<'a> {
         }
     }
 
-    /// Adds the page headers of a PES packet of the current frame to the counts. If there are any,
-    /// moves the deadline for the next header, unless it is already as late or later.
+    /// Adds the headers of the page in a PES packet of the current frame to the counts. If there
+    /// are any, moves the deadline for the next header, unless it is already as late or later.
     pub fn count(&mut self, headers: u8)
         requires room { self.old.counts.headers < 0xFFFF_FFFF_FF00 }
         ensures { self.new ≡ checker_after_headers headers self.old }

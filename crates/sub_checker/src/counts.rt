@@ -2,10 +2,11 @@
 ghost use Rattle.std.specs.Prelude.{◌≡◌, ◌≤◌};
 ghost use Rattle.sub_checker.specs.Checker.{with_open_frame, no_counts};
 
-/// Counts of frames, page headers and Teletext packets received so far.
+/// Counts of frames and headers of the page received so far, and of the packets of an open frame.
 #[derive(Clone, Copy)]
 pub(crate) struct Counts {
-    /// The number of frames; if `within` is not 0, consecutive PES packets of one frame count once.
+    /// The number of PES packets that were not skipped; if `within` is not 0, consecutive ones of
+    /// one frame count once. Frames without a PES packet do not count.
     pub frames: u32,
     /// The number of headers of the page.
     pub headers: u64,

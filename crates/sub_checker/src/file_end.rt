@@ -56,8 +56,8 @@ pub(crate) fn finish<A: ReportSink<Event>>(
     Some(read)
 }
 
-// Ends the last frame, and reports the events at the end of the file after `pes` PES packets.
-// `fault` is the fault that ended reading.
+// Ends the last frame if it is still open, and reports the events at the end of the file after
+// `pes` PES packets. `fault` is the fault that ended reading.
 fn end_and_close<A: ReportSink<Event>>(
     checker: &mut Checker<'_>,
     pes: u32,

@@ -7,6 +7,7 @@
 //! end_of_frame   any frame, also called by `end_sent_frame`
 //!   end_without_faults  no fault is active, and none was active before
 //!   end_after_full_check
+//!     end_without_faults
 //!     end_without_delay, end_with_delay   depending on whether `within` is 0
 //! ```
 ghost use Rattle.std.specs.Prelude.{◌≡◌, ◌==◌, ◌&&◌, ℕ, suc, ◌+◌, ◌<◌, List, IsTrue, None};
@@ -124,7 +125,7 @@ impl<'a> Checker<'a> {
         self.repeat_deadline <= self.frame + 1
     }
 
-    // Returns whether at least `--pace` frames have passed since the latest frame with a valid PES
+    // Returns whether at least `--pace` frames have passed since the latest frame with a PES
     // packet. Skipped PES packets do not count. Returns false without `--pace`.
     #[inline(always)]
     fn is_silent(&self) -> bool
@@ -137,8 +138,8 @@ impl<'a> Checker<'a> {
     }
 
     // Returns the state at the end of the current frame, if `within` is not 0. Until the page is
-    // overdue, a cell may have a space or any code that was expected at this frame or at one of the
-    // `within` frames before.
+    // overdue, a cell may have a space or any code that was expected at this frame or, from the
+    // first frame on, at one of the `within` frames before.
     fn state_at_end(&self) -> DelayedEnd
         requires within { 0 < self.now.within }
         ensures active_faults { result.active_faults ≡ active_faults_of self.now }
@@ -175,9 +176,10 @@ impl<'a> Checker<'a> {
         }
     }
 
-    // Returns the first cell with a code, other than a space, that was not expected at the current
-    // frame or at one of the `within` frames before; `None` if one of these expected pages is
-    // unknown, or if no cell is wrong.
+    // Returns the first cell with a code, other than a space, that was expected neither at the
+    // current frame nor, from the first frame on, at one of the `within` frames before; `None` if
+    // there is no such cell, or if one of these expected pages is unknown. `differing` is the first
+    // wrong cell.
     fn first_unexpected(&self, differing: Option<(u8, u8)>) -> Option<(u8, u8)>
         ensures { differing ≡ current_wrong_cell self.now → result ≡ current_unexpected_cell
             self.now }
@@ -290,7 +292,8 @@ impl<'a> Checker<'a> {
     }
 
     // Ends a frame with or without faults, for any `within`. Not inlined into `end_of_frame`, which
-    // is inlined into each loop over frames and ends most frames without this function.
+    // is inlined into each loop over frames and, if `within` is 0, ends most frames without this
+    // function.
     #[inline(never)]
     fn end_after_full_check<A: ReportSink<Event>>(&mut self, reporter: &mut Reporter<'_, A>)
         ensures reported { ReporterRelays A.is_reported reporter.old (end_steps self.old)

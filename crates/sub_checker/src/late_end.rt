@@ -1,5 +1,6 @@
 //! Determines from which frame on the page has been unfinished, and whether it is overdue. A page
-//! is unfinished if a cell is wrong, or if complete pages are required and it is open.
+//! is unfinished if the expected page is known and a cell is wrong, or if complete pages are
+//! required and it is open.
 ghost use Rattle.std.specs.Prelude.{◌≡◌, ◌<◌};
 ghost use Rattle.stl_file.specs.TimeCode.{day};
 ghost use Rattle.sub_rules.specs.Events.{is_missed, extended_unfinished_run};

@@ -1,4 +1,4 @@
-//! Checks a PES file, one PES packet at a time, and reports each broken rule.
+//! Checks a PES file, one PES packet at a time, and reports faults, their ends, and trusted frames.
 //!
 //! `sub_rules` defines the rules. `sub_packets` checks the Teletext packets, and stores the page
 //! that they show. `sub_check` states what the reports mean for acceptance and for receivers.

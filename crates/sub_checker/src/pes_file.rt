@@ -36,13 +36,14 @@ use sub_plan::Options;
 use sub_rules::{CheckFault, Event, NextPesPacket, ValidPesPacket, next_pes_packet, units_of};
 use ttx_pes::{ComparingReader, PesFault, PesPackets};
 
-/// Checks a PES file, one PES packet at a time, reports each broken rule to `report_sink`, and
-/// returns the counts. Returns `None` if `report_sink` stops the check.
+/// Checks a PES file, one PES packet at a time, reports its events to `report_sink`, and returns
+/// the counts. Returns `None` if `report_sink` stops the check.
 ///
-/// Reading continues after a skipped packet. If subtitles were rejected, the transmission is
+/// Reading continues after a skipped packet. If subtitles are unreliable, the transmission is
 /// checked against the other subtitles.
 ///
-/// `check_all` of `sub_check` calls this function and documents its events and counts.
+/// `check_all` of `sub_check` calls this function through `check_all_pes_packets`, and documents
+/// its events and counts.
 ///
 /// # Errors
 ///
@@ -69,7 +70,7 @@ pub fn report_pes_packets<P: PesPackets, A: LiveReportSink<Event>>(
     ensures only { IfErr result (λ f. is_pes_read_failure f ≡ true) }
     ensures options { IsOptions options.now }
     ensures programme { IsProgramme judging.now.programme.drawing judging.now.programme.records }
-    // If the source fails, all reports have been flushed.
+    // If nothing was buffered at the call and the source fails, all reports have been flushed.
     ensures flushed_at_failure { A.buffered report_sink.old ≡ 0 → IfErr result
         (λ _. A.buffered report_sink.new ≡
         0) }
@@ -167,7 +168,7 @@ fn report_pes_packet<A: ReportSink<Event>>(
     }
 }
 
-// Clears `again` after a skipped packet, because it compares with the skipped packet.
+// Clears `again` after a skipped packet, because it may compare with the skipped packet.
 fn sending_after_packet(skipped: bool, sending: ValidPesPacket) -> ValidPesPacket
     ensures frame { result.frame ≡ sending.frame }
     ensures again { result.again ≡ true → (sending.again ≡ true) × (skipped ≡ false) }

@@ -119,7 +119,7 @@ impl<A: ReportSink<Event>> Taker for Reporter<'_, A> {
     }
 }
 
-// Reports an event, if it is not `None`.
+// Passes an event to `announce`, if it is not `None`.
 #[rattlefmt::skip]
 #[tactic(auto, unfolding(
     sub_rules::specs::PesPacketEvents::announced_events,
@@ -136,8 +136,8 @@ fn announce_if_present<T: Taker>(event: Option<Event>, run: &mut StoredSkippedRu
     }
 }
 
-// Reports an event, unless it continues a run of skipped PES packets. If it ends such a run,
-// reports the last packet of the run first.
+// Reports an event, unless it continues a run of skipped PES packets. If it ends such a run of
+// several packets, reports the last packet of the run first.
 #[tactic(auto, unfolding(sub_rules::specs::PesPacketEvents::announced))]
 fn announce<T: Taker>(event: Event, run: &mut StoredSkippedRun, taker: &mut T)
     ensures reported { Reports T.is_reported taker.old taker.new (announced (skipped_run_of run.old)

@@ -14,12 +14,12 @@ use sub_rules::{CheckFault, Event};
 /// Tracks which frames are trusted: frames that can be broadcast unchanged.
 #[derive(Clone, Copy)]
 pub(crate) struct TrustTracker {
-    /// The number of the current PES packet. It counts skipped packets too; the checker counts only
-    /// valid ones.
+    /// The number of the current PES packet. It counts skipped packets too; the checker does not.
     pub pes: u32,
     /// The frame of the header with which the current run of trusted frames began, if there is one.
     pub run: Option<u32>,
-    /// The first frame of the current run at whose end the page was finished.
+    /// The first frame of the current run at whose end the page was finished, if there is one. Has
+    /// no meaning without a current run.
     pub first_finished: Option<u32>,
     /// The frame of the last PES packet that was not skipped; 0 if there is none.
     pub last: u32,
@@ -30,7 +30,7 @@ pub(crate) struct TrustTracker {
     pub is_clean: bool,
     /// The first frame of the current run of frames with an unfinished page, if `within` is not 0.
     pub first_unfinished: Option<u32>,
-    /// Whether the page is overdue.
+    /// Whether the page is overdue at the last frame end; false if `within` is 0.
     pub is_late: bool,
     /// The first frame of the run of frames with an unfinished page, up to the frame before, if
     /// these frames are not trusted however the run ends.

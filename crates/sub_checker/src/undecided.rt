@@ -9,9 +9,9 @@ ghost use Rattle.sub_checker.specs.Checker.{IsKnownFrom};
 use stl_rows::Judging;
 
 /// Returns the frame from which on, up to the next cue after `frame`, the expected page of a frame
-/// and those of the `within` frames before it, except for frames before `first`, are known.
-/// Returns 0 if none of these pages is unknown, and a number above all frames if the expected page
-/// of `frame` is unknown.
+/// and those of the `within` frames before it, of which those before `first` do not count, are
+/// known. Returns 0 if none of these pages is unknown, and a number above all frames if the
+/// expected page of `frame` is unknown.
 pub(crate) fn first_known_from(
     judging: &Judging<'_>,
     any_unreliable: bool,
@@ -36,7 +36,8 @@ pub(crate) fn first_known_from(
     }
 }
 
-// Returns the later of `first` and the frame that is `within` frames before `frame`.
+// Returns the later of `first` and the frame that is `within` frames before `frame`, or `first` if
+// there is no such frame.
 fn earliest(first: u32, frame: u32, within: u32) -> u32
     ensures first { first ≤ result }
     ensures last { frame ≤ result + within }
