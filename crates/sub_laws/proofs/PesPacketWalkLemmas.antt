@@ -51,7 +51,7 @@ module _ (X : Type 0) (steps_with_packet_number : ℕ → X → X) (g : Criteria
     abbrev pub skipped_steps : ℕ → UnreadReason → List CheckStep
     skipped_steps pes u = map Emits (Reported (unread_fault pes (Some u)) ∷ [])
 
-    -- The conditions on T, where `T P t steps` stands for: from the state t, the steps lead to a
+    -- The conditions on T, where `T P t steps` means: from the state t, the steps lead to a
     -- state with the property P. In a state with `C n`, the first n frames have ended. In a state
     -- with `O n packets`, frame n has these packets and may get more. The frames before a skipped
     -- PES packet have the property Q.

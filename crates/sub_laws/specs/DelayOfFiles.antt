@@ -13,7 +13,8 @@ options_with_delay more options = record options { within = more }
 
 -- If the bytes of a PES file carry a good transmission with some `within`, they carry it with any
 -- greater `within`, since each PTS stays within its tolerance and the same PES packets are merged;
--- and it is good with the greater `within` too. So an accepted file is still accepted.
+-- and it is good with the greater `within` too. So an accepted file is still accepted. The PTS of
+-- frame 0 is less than 2^33.
 abbrev pub LawOfLongerDelayOfFiles : Type 0
 LawOfLongerDelayOfFiles =
     (keeps : Bool) (programme : ProgrammeValue) (options : OptionsValue) (more : ℕ)

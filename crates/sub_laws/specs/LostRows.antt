@@ -21,7 +21,7 @@ pub record IsReceivedWithLosses
 -- The transmission is robust if exactly the packets marked in `arrived` arrive, among them all page
 -- headers, with at most one wrong bit in each byte: the guarantee `IsServed` holds wherever a
 -- receiver starts and stops, and whatever page it had before its first header. A cell may have a
--- space only if its byte had a wrong bit or its row was lost.
+-- space instead of the expected code only if its byte had a wrong bit or its row was lost.
 abbrev pub IsRobustWithLosses : ProgrammeValue → Transmission → OptionsValue → List Bool → Type 0
 IsRobustWithLosses programme transmission options arrived =
     (g j f : ℕ) (got : List (List ℕ)) (old new : State)

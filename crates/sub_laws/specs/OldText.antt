@@ -1,5 +1,6 @@
--- If repeats may have C4 (erase page) clear, a receiver may have old text after it was tuned in.
--- The text is gone at the latest `within` frames after text ends or changes.
+-- If repeats may have C4 (erase page) clear, a receiver of a good transmission may have old text
+-- after it was tuned in. If that was more than `within` frames before text ends or changes, the old
+-- text is gone at the latest `within` frames after this.
 use Rattle.std.specs.Prelude.{◌≡◌, ◌≢◌, ℕ, ◌+◌, ◌-◌, ◌<◌, ◌≤◌, Bool, List, IsTrue}
 use Rattle.ttx_page.specs.DroppedRows.{ExcusedBy}
 use Rattle.ttx_page.specs.LostRows.{IsHitOrLost, arrivals_from_flags}
@@ -45,7 +46,8 @@ pub record HoldsExpectedCodes
 -- If text ends or changes at frame e of a good transmission, more than `within` frames after its
 -- first frame and at least `within` frames before its last, a header that erases the page is sent
 -- at most `within` frames before or after e. So a receiver that was tuned in more than `within`
--- frames before e has erased its old text `within` frames after e, and has only allowed codes.
+-- frames before e, with losses and errors as in `IsReceivedWithLosses`, has erased its old text
+-- `within` frames after e, and from then on has the codes of `HoldsExpectedCodes`.
 abbrev pub LawOfOldText : Type 0
 LawOfOldText =
     (keeps : Bool) (programme : ProgrammeValue) (transmission : Transmission)

@@ -1,5 +1,5 @@
--- The guarantee that receivers decode the expected page after the next header, whatever they
--- received before.
+-- The guarantee that receivers decode the expected page after the next header, apart from spaces
+-- because of errors, whatever they received before.
 use Rattle.std.specs.Prelude.{ℕ, Bool, List}
 use Rattle.ttx_page.specs.DroppedRows.{ExcusedBy}
 use Rattle.ttx_page.specs.LostRows.{IsHitOrLost, arrivals_from_flags}
@@ -12,9 +12,9 @@ use Rattle.sub_rules.specs.Transmission.{Transmission, on_air}
 
 -- Receivers of this class recover in the frames from a to b, if all page headers arrive and each
 -- byte that arrives has at most one wrong bit: the guarantee `IsServed` holds wherever a receiver
--- starts and stops in these frames, and whatever page it had before. A cell may have a space only
--- if its byte had a wrong bit or its row was lost; for receivers that drop a row with an error, if
--- any byte of its row had a wrong bit or the row was lost.
+-- starts and stops in these frames, and whatever page it had before. A cell may have a space
+-- instead of the expected code only if its byte had a wrong bit or its row was lost; for receivers
+-- that drop a row with an error, if any byte of its row had a wrong bit or the row was lost.
 abbrev pub RecoversWithin :
     ReceiverClass → ProgrammeValue → Transmission → OptionsValue → ℕ → ℕ → Type 0
 RecoversWithin class programme transmission options a b =

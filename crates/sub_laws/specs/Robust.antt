@@ -54,7 +54,7 @@ pub record IsServed
 
 -- A robust transmission: the guarantee `IsServed` holds wherever a receiver starts and stops, with
 -- at most one wrong bit in each byte, and whatever page it had before its first header. A cell may
--- have a space only if its byte had a wrong bit.
+-- have a space instead of the expected code only if its byte had a wrong bit.
 abbrev pub Robust : ProgrammeValue → Transmission → OptionsValue → Type 0
 Robust programme transmission options =
     (g j f : ℕ) (got : List (List ℕ)) (old new : State)

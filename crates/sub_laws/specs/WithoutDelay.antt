@@ -1,5 +1,6 @@
--- If `within` is 0 and each header must have C4 (erase page) set, `GoodWithRepeats` is `Good` with
--- complete pages if these are required, and its guarantees include those of `Good`.
+-- If `within` is 0 and each header must have C4 (erase page) set, `GoodWithRepeats` is, for valid
+-- subtitles, `Good` with complete pages if these are required, and its guarantees include those of
+-- `Good`.
 use Rattle.std.specs.Prelude.{◌≡◌, ◌↔◌, ℕ, false, IsTrue}
 use Rattle.stl_rows.specs.Programme.{IsProgramme, ProgrammeValue}
 use Rattle.sub_plan.specs.Options.{OptionsValue}

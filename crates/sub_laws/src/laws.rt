@@ -1,7 +1,7 @@
 //! Laws of transmissions: a good transmission is robust, and further laws about the rules.
 //!
-//! The contract of each function states a law. Only `law_of_judged_parts` has a body, which calls
-//! the law of `stl_file` that it needs.
+//! The contract of each function states a law. All bodies are empty except that of
+//! `law_of_judged_parts`, which calls the law of `stl_file` that it needs.
 ghost use Rattle.sub_laws.specs.WithoutDelay.{LawOfNoDelay, LawOfTrustWithoutDelay};
 ghost use Rattle.sub_laws.specs.BrokenPlaces.{LawOfBrokenPlaces, LawOfEmptyReport};
 ghost use Rattle.sub_laws.specs.BrokenPlaces.{LawOfEmptyReportRepeats};
@@ -51,9 +51,9 @@ pub fn law_of_sufficient_parts()
     ensures { LawOfSufficientParts }
 {}
 
-/// If a range of frames meets the sufficient conditions, every receiver that starts in it has the
-/// expected page after the next header, apart from spaces because of errors, whatever was on air
-/// before. If pages are complete in the range, this also holds for the screen.
+/// If a range of frames meets the sufficient conditions, every receiver that starts and stops in it
+/// has the expected page after the next header, apart from spaces because of errors, whatever was
+/// on air before. If pages are complete in the range, this also holds for the screen.
 #[tactic(auto, using(crate::proofs::StretchLemmas::law_of_stretch))]
 pub fn law_of_stretch()
     ensures { LawOfStretch }
@@ -81,14 +81,15 @@ pub fn law_of_longer_delay_of_files()
 
 /// A range of frames without faults that affect receivers meets the sufficient conditions for
 /// repeats. If `Incomplete` is not active at the end of any of its frames, and the subtitles are
-/// valid, they are finished in time.
+/// valid, the frames are finished in time.
 pub fn law_of_unreported_repeats()
     ensures { LawOfUnreportedRepeats }
 {}
 
-/// If each header must have C4 (erase page) set and `within` is 0, a range of frames without faults
-/// that affect receivers meets the sufficient conditions. If complete pages are required, and
-/// `Incomplete` is not active at the end of any of its frames, its pages are complete.
+/// If each header must have C4 (erase page) set, `within` is 0 and the frame numbers of the
+/// transmission increase, a range of frames without faults that affect receivers meets the
+/// sufficient conditions. If complete pages are required, and `Incomplete` is not active at the end
+/// of any of its frames, its pages are complete.
 pub fn law_of_unreported_stretch()
     ensures { LawOfUnreportedStretch }
 {}
@@ -135,9 +136,10 @@ pub fn law_of_exact_frames()
     ensures { LawOfExactFrames }
 {}
 
-/// If `within` is 0, a fault is reported at a place of a transmission if and only if a rule is
-/// broken there; for `RowChanged`, if the earlier packets have no fault and the packet has correct
-/// address bytes and odd parity. For wrong text, the fault gives the first wrong cell.
+/// If `within` is 0, a fault is found at a place of a transmission, or is active at the end of a
+/// frame, if and only if a rule is broken there; for `RowChanged`, if the earlier packets have no
+/// fault and the packet has correct address bytes and odd parity. For wrong text, the fault gives
+/// the first wrong cell.
 pub fn law_of_broken_places()
     ensures { LawOfBrokenPlaces }
 {}
@@ -149,14 +151,14 @@ pub fn law_of_first_reported()
     ensures { LawOfFirstReported }
 {}
 
-/// If the subtitles are valid and none was rejected, a PES file has no event if and only if no PES
+/// If the subtitles are valid and none is unreliable, a PES file has no event if and only if no PES
 /// packet is skipped, its frames are good under the options, and the entire file was read.
 #[tactic(auto, using(crate::proofs::EmptyReportLemmas::law_of_empty_report_repeats))]
 pub fn law_of_empty_report_repeats()
     ensures { LawOfEmptyReportRepeats }
 {}
 
-/// If each header must have C4 (erase page) set, `within` is 0 and no subtitle was rejected, a PES
+/// If each header must have C4 (erase page) set, `within` is 0 and no subtitle is unreliable, a PES
 /// file has no event if and only if no PES packet is skipped, its frames are good, with complete
 /// pages if these are required, and the entire file was read.
 #[tactic(auto, using(crate::proofs::EmptyReportLemmas::law_of_empty_report))]
@@ -164,13 +166,14 @@ pub fn law_of_empty_report()
     ensures { LawOfEmptyReport }
 {}
 
-/// Suppose that each repeat in a range of frames sends the same text as before, and that at each
-/// frame end each cell has a space or a code that was expected at that frame or at one of the
-/// `within` frames before.
-/// Then receivers recover, whether they keep their page at a header with C4 (erase page) clear or
-/// blank any of its cells: from any header if their page was blank or they erase it at each header,
-/// and otherwise from the next header with C4 set. At each frame end with a correct page that has
-/// ended, the expected page is on their screens.
+/// Suppose that a range of frames meets the conditions for recovery, such as that each repeat sends
+/// the same text as before, and that at each frame end each cell has a space or a code that was
+/// expected at that frame or, from the first frame of the transmission on, at one of the `within`
+/// frames before. Then receivers recover, whether they keep their page at a header with C4 (erase
+/// page) clear or blank any of its cells: from any header if their page was blank and not open or
+/// they erase it at each header, and otherwise from the next header with C4 set. At each frame end
+/// with a correct page that has ended, the expected page is then on their screens. If the frames of
+/// the range are finished in time, all guarantees hold for it.
 pub fn law_of_repeated_stretch()
     ensures { LawOfRepeatedStretch }
 {}
@@ -201,8 +204,8 @@ pub fn law_of_may_keep()
 {}
 
 /// A transmission that is good if repeats may have C4 (erase page) clear, and in which every header
-/// has C4 set, is good if each header must have C4 set. So if `within` is 0 and the subtitles are
-/// valid, all guarantees of a good transmission hold for it.
+/// of the page has C4 set, is good if each header must have C4 set. So if `within` is 0 and the
+/// subtitles are valid, all guarantees of a good transmission hold for it.
 pub fn law_of_erasing_headers()
     ensures { LawOfErasingHeaders }
 {}
@@ -225,9 +228,11 @@ pub fn law_of_followed_stretch()
     ensures { LawOfFollowedStretch }
 {}
 
-/// If a transmission keeps rules 1 to 6 and is received without errors, a receiver that keeps its
-/// page at headers with C4 (erase page) clear, and has erased its old page, has the codes that the
-/// rules define for such repeats, at the end of each frame.
+/// If a transmission keeps rules 1 to 6 and the limit for the interval between PES packets, if the
+/// options have one, and is received from its first frame on without errors, a receiver that keeps
+/// its page at headers with C4 (erase page) clear, and started with a blank page that was not open
+/// or has erased it since, has the codes that the rules define for such repeats, at the end of each
+/// frame.
 pub fn law_of_kept_codes()
     ensures { LawOfKeptCodes }
 {}
@@ -235,14 +240,15 @@ pub fn law_of_kept_codes()
 /// If text ends or changes at a frame of a good transmission, more than `within` frames after its
 /// first frame and at least `within` frames before its last, a header that erases the page is sent
 /// at most `within` frames before or after it. So the old text of a receiver that was tuned in more
-/// than `within` frames before it is gone by then.
+/// than `within` frames before it is gone `within` frames after it, if all page headers arrive and
+/// each byte that arrives has at most one wrong bit.
 pub fn law_of_old_text()
     ensures { LawOfOldText }
 {}
 
 /// A range of a subtitle file has the same reliable subtitles as the file without the blocks of the
-/// other subtitles, if the file can be read to its end. A transmission can be checked against both
-/// or against neither.
+/// subtitles outside the range, if no fault ends the reading of the file. A transmission can be
+/// checked against both or against neither.
 pub fn law_of_judged_parts()
     ensures { LawOfJudgedParts }
 {
