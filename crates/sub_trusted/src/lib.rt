@@ -1,4 +1,4 @@
-//! Laws about trusted frames: the frames of a faulty transmission that can be broadcast unchanged.
+//! Laws about trusted frames: frames that can be broadcast unchanged, whatever is wrong elsewhere.
 //!
 //! `sub_laws` defines the guarantees for a range of frames, and `sub_rules` defines the reports.
 //! This crate contains no program: the contract of each function states a law.
