@@ -22,7 +22,7 @@ use Rattle.sub_request.specs.declared.listening.ReceiverKind.TheVariants.{BlankE
 use Rattle.sub_request.specs.declared.listening.ReceiverKind.TheVariants.{DropRow, Keep}
 
 -- The requested bit errors and losses: how many packets are skipped at the start, which packets are
--- lost, and which bits are flipped.
+-- listed as lost, and which bits are flipped.
 pub record Reception : Type 0 where
   pub skip : ℕ
   pub lost : List ℕ
@@ -50,7 +50,7 @@ arriving_packets r number (packet ∷ packets) =
     else arriving_packets r (number + 1) packets
 
 -- A receiver of page w uses an arriving packet. A receiver that drops rows does not use a row of
--- its page's magazine with a byte of even parity.
+-- its page's magazine with a data byte of even parity.
 abbrev pub is_packet_used : ReceiverKind → PageIdValue → List ℕ → Bool
 is_packet_used DropRow w packet = not (is_row_with_even_parity w packet)
 is_packet_used _ w packet = true
@@ -87,8 +87,8 @@ pub record TakesPacket
       (new.receiver_state ≡ record { heard = true; is_open = true; page = blank })
       (Step w old.receiver_state packet new.receiver_state)
   pub cells : StoresForEvenParity leaves w old.receiver_state packet new.receiver_state
-  -- If complete pages are required, the receiver's screen displays a page when the page ends;
-  -- otherwise the screen does not change.
+  -- If complete pages are required, the receiver's screen displays a page when a header of another
+  -- page ends it; otherwise the screen does not change.
   pub screen : new.screen ≡ (if asks_complete then screen_after old new.receiver_state
       else old.screen)
 

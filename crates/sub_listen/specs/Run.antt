@@ -1,8 +1,8 @@
--- How `listen` receives a PES file: the frames up to the time TIME, the reason why reception ends,
+-- How `listen` receives PES packets: the frames up to the time TIME, the reason why reception ends,
 -- and the state of the receiver.
 --
--- The list of frames has one entry for each PES packet. If `within` is not 0, consecutive PES
--- packets may belong to one frame, and all are received.
+-- The list of frames has one entry for each PES packet before the first that can't be read or
+-- belongs to no frame. If `within` is not 0, consecutive PES packets may belong to one frame.
 use Rattle.std.specs.Prelude.{◌≡◌, ℕ, zero, suc, ◌+◌, ◌<◌, ◌≤◌, ◌⊎◌, ◌&&◌, ◌==◌, Bool, false, not}
 use Rattle.std.specs.Prelude.{if◌then◌else◌, length, Option, Some, None, Result, option_map}
 use Rattle.std.specs.Prelude.{List, MatchResult}
@@ -31,7 +31,7 @@ abbrev pub is_failed_read : ListenFault → Bool
 is_failed_read (fault.File f) = is_pes_read_failure f
 is_failed_read (fault.LostHeader frame packet) = false
 
--- The fault is in a subtitle file, which `listen` does not read.
+-- The fault is one of a subtitle file (`Subtitles`), which `listen` does not read.
 abbrev pub is_stl_fault : ListenFault → Bool
 is_stl_fault (fault.File f) = is_subtitle_fault f
 is_stl_fault (fault.LostHeader frame packet) = false
@@ -105,9 +105,9 @@ EndsAfterPesPacket l frames unread n =
     ⊎ ((n < length frames) × (least_frame l.options.within frames n ≤ frame_at frames n)
     × (l.at < frame_at frames n))
 
--- Reception fails after n PES packets: the next PES packet can't be read, its frame is not after
--- the frame before (or is before it, if `within` is not 0), or its frame is not after TIME and one
--- of its packets is lost (`is_lost_packet`) but must not be lost.
+-- Reception fails after n PES packets: the next PES packet can't be read or belongs to no frame,
+-- its frame is not after the frame before (or is before it, if `within` is not 0), or its frame is
+-- not after TIME and one of its packets is lost (`is_lost_packet`) but must not be lost.
 abbrev pub RefusesAfterPesPacket : Listening → Transmission → Option UnreadReason → ℕ → ListenFault
     → Type 0
 RefusesAfterPesPacket l frames unread n (fault.File (check.Order index)) =
@@ -138,8 +138,8 @@ pub record FailsListening (l : Listening) (known left : Option (List ℕ)) (f : 
 -- ---- the run of a receiver
 
 -- The effect of reception on the receiver: it uses the packets that arrive, without the rows that
--- it drops, up to TIME or the fault for which the source is refused. For a byte of even parity it
--- stores `leaves` of the old code.
+-- it drops, up to TIME, the end of the source, or the PES packet at which reception fails. For a
+-- byte of even parity it stores `leaves` of the old code.
 pub record RunsPesPackets
     (leaves : ℕ → ℕ) (l : Listening) (frames : Transmission) (unread : Option UnreadReason)
     (w : PageIdValue) (old new : Display) (result : Result (Unit {0}) ListenFault)
@@ -161,5 +161,5 @@ pub record ReceivesFile
     (result : Result (Unit {0}) ListenFault)
     : Type 0 where
   pub runs : RunsPesPackets leaves l frames unread w old new result
-  -- If a PES packet follows the received ones, nothing was read after it.
+  -- If the PES packet after the received ones has a frame, nothing was read after it.
   pub stops : runs.n < length frames → TakesValidPesPackets (runs.n + 1) known left

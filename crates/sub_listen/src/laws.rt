@@ -1,6 +1,6 @@
 //! Connects `listen` with the laws about receivers.
 //!
-//! The function has no body; its contract states a law about the definitions in `specs/`.
+//! The function does nothing; its contract states a law about the definitions in `specs/`.
 ghost use Rattle.sub_listen.specs.Reception.{LawOfListening};
 
 /// `listen` simulates a receiver to which the law of repeats applies. The receiver follows the

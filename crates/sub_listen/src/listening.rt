@@ -1,4 +1,4 @@
-//! Passes the packets of a PES file to one receiver.
+//! Passes the packets of a PES file or a recording to one receiver.
 
 ghost use Rattle.std.specs.Prelude.{◌≡◌, ◌+◌, ◌<◌, ◌≤◌, ◌&&◌, ◌==◌, IfErr, Option, false, true};
 ghost use Rattle.std.specs.Prelude.{if◌then◌else◌, not};
@@ -20,11 +20,12 @@ use sub_rules::{CheckFault, NextPesPacket, next_pes_packet};
 use ttx_page::{Page, Receiver};
 use ttx_pes::{ComparingReader, FilePesPackets, PesPackets};
 
-/// The reason why a PES file can't be passed to a receiver completely.
+/// The reason why not all PES packets up to frame `at` can be passed to a receiver.
 #[derive(Clone, Copy, Debug, PartialEq, Eq)]
 pub enum ListenFault {
-    /// The next PES packet can't be read, or its frame is not after the frame before (or is before
-    /// it, if `within` is not 0). Contains the fault that `check` has for this.
+    /// The next PES packet can't be read, its PTS belongs to no frame, or its frame is not after
+    /// the frame before (or is before it, if `within` is not 0). Contains the fault that `check`
+    /// has for this.
     File(CheckFault),
     /// A packet is listed as lost and not skipped, but must not be lost: it is a page header, or
     /// its address can't be decoded.
@@ -64,14 +65,15 @@ impl From<CheckFault> for ListenFault {
 ///
 /// The receiver receives the Teletext packets with the requested bit errors, without skipped and
 /// lost packets and without rows that it drops. Nothing is read after the first PES packet later
-/// than frame `at`. If the PES packet after the received ones can't be read, its fault is returned.
-/// If `within` is not 0, consecutive PES packets may belong to one frame, and all are received.
+/// than frame `at`. If the PES packet after the received ones can't be read or belongs to no frame,
+/// its fault is returned. If `within` is not 0, consecutive PES packets may belong to one frame.
 ///
 /// # Errors
 ///
 /// Returns the first fault in file order. `File` has the fault that `check` reports if a PES packet
-/// can't be read, or `Order` if its frame is too early. `LostHeader` means that a page header, or a
-/// packet whose address can't be decoded, is listed as lost and not skipped.
+/// can't be read or belongs to no frame, or `Order` if its frame is too early. `LostHeader` means
+/// that a page header, or a packet whose address can't be decoded, is listed as lost and not
+/// skipped.
 pub fn listen<R: Receiver + Drop, S: Source>(
     receiver: &mut R,
     screen: &mut Option<Page>,

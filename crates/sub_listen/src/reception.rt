@@ -116,7 +116,7 @@ fn take<R: Receiver + Drop>(
         return;
     }
     if restarts_at_packet(listening.receiver, receiver.watched(), packet) {
-        // The header ends no page, so the screen does not change.
+        // Only a header of another page changes the screen.
         restart_at_header(receiver, packet);
     } else if listening.options.asks_complete() {
         hear_and_show(receiver, screen, packet);
@@ -127,7 +127,7 @@ fn take<R: Receiver + Drop>(
 }
 
 // Returns whether the receiver uses an arriving packet. A receiver that drops rows does not use a
-// row of its page's magazine with a byte of even parity.
+// row of its page's magazine with a data byte of even parity.
 fn is_packet_used(listening: &Listening, packet: &Packet) -> bool
     ensures { result ≡ is_packet_used listening.now.receiver listening.now.options.page packet.now }
 {
