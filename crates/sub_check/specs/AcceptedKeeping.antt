@@ -1,5 +1,6 @@
 -- If files are accepted without the option that repeats may keep the page, they are also accepted
--- with it; and conversely, if no header keeps the page.
+-- with it; and conversely, if no header keeps the page. The laws exclude checks in which a source
+-- fails or an allocation is refused.
 use Rattle.std.specs.Prelude.{◌≡◌, ℕ, true, false, List, IsFalse, IsOk, Result}
 use Rattle.sub_io.specs.Device.{failed}
 use Rattle.ttx_page.specs.Noise.{ErasesPageIfHeader}
@@ -12,8 +13,8 @@ use Rattle.sub_rules.specs.declared.fault.CheckFault.{CheckFault}
 use Rattle.sub_checker.specs.declared.accepted.Accepted.{Accepted}
 use Rattle.sub_check.specs.CheckedFiles.{FilesMeanWithin, IsResultOfCheckFiles}
 
--- The options with the setting that repeats may keep the page: a header without C4, erase page, is
--- allowed.
+-- The options with the setting that repeats may keep the page: a header that repeats it may have
+-- C4, erase page, clear.
 abbrev pub with_keeping : OptionsValue → OptionsValue
 with_keeping options = record options { keeps = true }
 

@@ -1,4 +1,5 @@
--- Files that are accepted with some delay `within` are also accepted with any greater delay.
+-- Files that are accepted with some delay `within` are also accepted with any greater delay, unless
+-- a source fails or an allocation is refused. The PTS of frame 0 is less than 2^33.
 use Rattle.std.specs.Prelude.{◌≡◌, ℕ, ◌^◌, ◌<◌, ◌≤◌, List, false, IsOk, Result}
 use Rattle.sub_io.specs.Device.{failed}
 use Rattle.stl_rows.specs.declared.layout.Drawing.{Drawing}

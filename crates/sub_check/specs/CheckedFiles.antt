@@ -162,7 +162,8 @@ abbrev pub frames_read : OptionsValue → List ℕ → Transmission
 frames_read options bytes =
     joined options.within (frames_of (pes_packet_file_of (clock_of options) bytes).pes_packets)
 
--- The events of a check of the first n PES packets of a file against a programme.
+-- The events of a check of the first n PES packets of a file against a programme, without the
+-- events at the end of the file.
 abbrev pub events_of_first_pes_packets : ProgrammeValue → OptionsValue → List ℕ → ℕ → List Event
 events_of_first_pes_packets programme options bytes n =
     let file = pes_packet_file_of (clock_of options) bytes in
@@ -231,7 +232,7 @@ pub record IsCheckedBy
       → IsOk answer
 
 -- The result with options that allow no delay and require C4 (erase page) in each header of the
--- page, in terms of the seven rules. `IsCheckedBy` is true as well.
+-- page, in terms of the seven rules. Contracts that use it also state `IsCheckedBy`.
 pub record IsChecked
     (programme : ProgrammeValue) (options : OptionsValue) (bytes : List ℕ)
     (answer : Result Accepted CheckFault)
@@ -255,8 +256,9 @@ pub record IsChecked
       → IsOk answer
       → HasPromises programme transmission options
       × (IsTrue options.asks_complete → Complete transmission options)
-  -- If the fault is `Content`, every receiver that starts at the first packet and receives each bit
-  -- correctly has a code other than the expected one in the cell that the fault names.
+  -- If the fault is `Content`, every receiver that starts at the first packet, without a header of
+  -- the page before and without an open page, and receives each bit correctly, has a code other
+  -- than the expected one in the cell that the fault names, at the end of the frame that it names.
   pub content :
       (frame row column : ℕ)
       → answer ≡ Err (fault.Content frame row column)
@@ -300,22 +302,22 @@ first_answer events a = answer_unless_fault (first_reported_fault events) a
 -- ---- a PES file, checked against the reliable subtitles of a file
 
 -- All events of a check of a PES file against the reliable subtitles of a subtitle file. If no
--- subtitle was refused, they are the events for its programme.
+-- subtitle is unreliable, they are the events for its programme.
 abbrev pub all_judged_events : JudgedValue → OptionsValue → List ℕ → List Event
 all_judged_events judged options bytes =
     let file = pes_packet_file_of (clock_of options) bytes in
     all_events_of_pes_packets (criteria_of_judged judged options file.unread) file.pes_packets
 
 -- The events of a check of the first n PES packets of a file against the reliable subtitles of a
--- subtitle file.
+-- subtitle file, without the events at the end of the PES file.
 abbrev pub first_judged_events : JudgedValue → OptionsValue → List ℕ → ℕ → List Event
 first_judged_events judged options bytes n =
     let file = pes_packet_file_of (clock_of options) bytes in
     events_of_pes_packets (criteria_of_judged judged options file.unread) (take n file.pes_packets)
 
 -- Frames that the checker reports as trusted need no correction on air: receivers recover in them,
--- whatever is transmitted in other frames. This applies to the part of the transmission with rising
--- frames.
+-- whatever is transmitted in other frames, as `StaysAsReadFromFile` specifies. Only the frames
+-- of the file before the first that is not after the one before it count.
 abbrev pub TrustedFramesMayStay : JudgedValue → OptionsValue → List ℕ → Type 0
 TrustedFramesMayStay judged options bytes =
     let file = pes_packet_file_of (clock_of options) bytes in
@@ -357,9 +359,10 @@ FirstEventsArePrefix judged options bytes =
     × (all_judged_events judged options bytes
     ≡ first_judged_events judged options bytes n ++ rest)
 
--- The events that a check of a PES file reports. If the report sink did not stop the check, all
--- events are reported, and the result has the counts. If it did, a prefix of the events is
--- reported. If the source failed, the events of the PES packets before the failure are reported.
+-- The events that a check of a PES file reports. If the source did not fail and the report sink did
+-- not stop the check, all events are reported, and the result has the counts. If the report sink
+-- stopped the check, a prefix of the events is reported. If the source failed, the events of the
+-- PES packets before the failure are reported.
 abbrev pub ReportsEvents : {D : Type 0} → JudgedValue → OptionsValue → List ℕ
     → (D → Event → D → Type 0) → D → D → Result (Option Accepted) CheckFault → Type 0
 ReportsEvents judged options bytes IsReported old new (Ok (Some a)) =

@@ -72,7 +72,7 @@ pub fn check_pes_packets<P: PesPackets>(
 }
 
 // Checks PES packets against a programme, all of whose subtitles are reliable, and reports all
-// faults, until `report_sink` stops the check.
+// faults, until the source fails or `report_sink` stops the check.
 fn report_all_faults<P: PesPackets, A: LiveReportSink<Event>>(
     programme: &Programme,
     source: &mut P,
@@ -120,8 +120,8 @@ pub fn check_all_pes_packets<P: PesPackets, A: LiveReportSink<Event>>(
     ensures reported { IfKnown (P.remaining source.old) (λ bytes.
         ReportsEvents judging.now options.now bytes A.is_reported report_sink.old report_sink.new
         result) }
-    // If all events were reported and no subtitle was refused, `check` would return the first fault
-    // among them, or the same counts if there is no fault.
+    // If the result has counts and no subtitle is unreliable, the first fault among all events or,
+    // if there is none, these counts are a correct result of `check`.
     ensures first { (programme : ProgrammeValue)
         → judging.now ≡ known programme
         → IsFalse options.now.keeps
@@ -149,7 +149,8 @@ pub fn check_all_pes_packets<P: PesPackets, A: LiveReportSink<Event>>(
     // The events reported before a failure of the source are a prefix of all events.
     ensures begins { IfKnown (P.remaining source.old) (λ bytes.
         FirstEventsArePrefix judging.now options.now bytes) }
-    // The result has no counts exactly if the report sink stopped the check.
+    // Unless the source failed, the result has no counts exactly if the report sink stopped the
+    // check.
     ensures stopped { IfOk result (λ counts. A.has_stopped report_sink.new ≡ is_none counts) }
     // For any source, some list of events was reported; if the source failed, the report sink had
     // not stopped the check.
@@ -160,8 +161,8 @@ pub fn check_all_pes_packets<P: PesPackets, A: LiveReportSink<Event>>(
     ensures read { (pes : ℕ) → result ≡ Err (CheckFault.Pes pes PesFault.Read)
         → FailsAtPesPacket pes (P.remaining source.old) (P.left source.new) }
     ensures only { IfErr result (λ f. is_pes_read_failure f ≡ true) }
-    // All reports are flushed before the source may read from its device, which may fail. So after
-    // a failure no report is still buffered.
+    // All reports are flushed before the source may read from its device, which may fail. So if no
+    // report was buffered before the call, none is buffered after a failure.
     ensures flushed_at_failure { A.buffered report_sink.old ≡ 0 → IfErr result
         (λ _. A.buffered report_sink.new ≡
         0) }

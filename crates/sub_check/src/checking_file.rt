@@ -25,15 +25,16 @@ use sub_plan::Options;
 use sub_rules::{CheckFault, Event};
 use ttx_pes::{FilePesPackets, PesFault};
 
-/// Checks a PES file against a programme. The file is accepted exactly if it carries a transmission
-/// of the programme that is good by the options. Otherwise the result is the first fault that
-/// `check_all` reports.
+/// Checks a PES file against a programme. Unless the source fails, the file is accepted exactly if
+/// it carries a transmission of the programme that is good by the options, and otherwise the result
+/// is the first fault that `check_all` reports.
 ///
 /// The check reads one PES packet at a time and allocates no memory. It stores one PES packet, one
 /// received page, the expected page, and for each row whether it was received since the last header
-/// of the page and since the last header that erased it. The expected page is drawn again only when
-/// a subtitle begins or ends. Packets that begin with a header that erases the page and equal those
-/// of the PES packet before, byte for byte, are not examined again.
+/// of the page and since the last header that erased it. The expected page is drawn again when a
+/// subtitle begins or ends and, if `within` is not 0, to find unexpected codes while the page is
+/// wrong. Packets that begin with a header that erases the page, break no rule, and equal those of
+/// the PES packet before, byte for byte, are not examined again.
 ///
 /// # Errors
 ///
@@ -45,11 +46,12 @@ use ttx_pes::{FilePesPackets, PesFault};
 /// exactly if the source failed in this call.
 ///
 /// If `within` is not 0, a frame ends at the next PES packet of another frame or at the end of the
-/// file. `Incomplete` is then returned only when the page is overdue. Before that, `Content` is
-/// returned only for a code, other than a space, that was expected neither at this frame nor at one
-/// of the `within` frames before. `Late` is also returned if the file ends before a page is right,
-/// within the allowed delay. If repeats may keep the page, `Control` allows a header that repeats
-/// the page, and `Content` is returned if a row with text is not sent again.
+/// file. `Incomplete` is then returned only when the page is overdue, also for a frame before a PES
+/// packet (after `Gap`). Before that, `Content` is returned only for a code, other than a space,
+/// that was expected neither at this frame nor, from the first frame on, at one of the `within`
+/// frames before. `Late` is also returned if the file ends, within the allowed delay, before a page
+/// is right and, if required, complete. If repeats may keep the page, `Control` allows a header
+/// that repeats the page, and `Content` is returned if a row with text is not sent again.
 pub fn check<S: Source>(
     programme: &Programme,
     source: &mut S,
@@ -87,19 +89,20 @@ pub fn check<S: Source>(
 ///
 /// The events are the faults of `check`, each where it occurs. Every rule that a packet breaks is
 /// reported. A rule that applies to the end of each frame is reported for the first and the last
-/// frame of a run in which it is broken. Further events report runs of frames that are trusted to
-/// be right on air, at the end of each run. A PES packet that can't be read, or whose PTS belongs
-/// to no frame of the day, is skipped if it has a start code and is as long as its length field
-/// states. Of consecutive skipped packets with the same fault, the first and the last are reported.
-/// If no PES packet can be found in the remaining bytes, their fault is the last event.
+/// frame of a run in which it is broken at the same place. Further events report runs of frames
+/// that are trusted to be right on air, at the end of each run. A PES packet that can't be read, or
+/// whose PTS belongs to no frame of the day, is skipped if it has a start code and a valid length
+/// field, and is as long as that states. Of consecutive skipped packets with the same fault, the
+/// first and the last are reported. If the remaining bytes cannot be read as PES packets, their
+/// fault is the last event.
 ///
-/// If subtitles were refused, the expected page of some frames is unknown. At these frames cells
-/// are not checked, and `Undecided` is reported, also for the `within` frames after them. Trusted
-/// frames are always reported then.
+/// If there are unreliable subtitles, the expected page of some frames may be unknown. At these
+/// frames cells are not checked, and `Undecided` is reported, also for the `within` frames after
+/// them. Trusted frames are always reported then.
 ///
-/// Returns the counts: the number of frames from the frame of the first PES packet to the latest
-/// frame, and the number of headers of the page. Returns `None` if the report sink stopped the
-/// check, which may happen within a PES packet.
+/// Returns the counts: the number of frames from the frame of the first PES packet that is not
+/// skipped to the latest frame, 0 if there is none, and the number of headers of the page. Returns
+/// `None` if the report sink stopped the check, which may happen within a PES packet.
 ///
 /// The check allocates no memory, and reads like `check` except for skipped packets. Reports are
 /// flushed before a read that may block, so the events of a PES packet are visible before the next
@@ -122,8 +125,8 @@ pub fn check_all<S: Source, A: LiveReportSink<Event>>(
     ensures reported { IfKnown (S.remaining source.old) (λ bytes.
         ReportsEvents judging.now options.now bytes A.is_reported report_sink.old report_sink.new
         result) }
-    // If all events were reported and no subtitle was refused, `check` would return the first fault
-    // among them, or the same counts if there is no fault.
+    // If the result has counts and no subtitle is unreliable, the first fault among all events or,
+    // if there is none, these counts are a correct result of `check`.
     ensures first { (programme : ProgrammeValue)
         → judging.now ≡ known programme
         → IsFalse options.now.keeps
@@ -151,7 +154,8 @@ pub fn check_all<S: Source, A: LiveReportSink<Event>>(
     // The events reported before a failure of the source are a prefix of all events.
     ensures begins { IfKnown (S.remaining source.old) (λ bytes.
         FirstEventsArePrefix judging.now options.now bytes) }
-    // The result has no counts exactly if the report sink stopped the check.
+    // Unless the source failed, the result has no counts exactly if the report sink stopped the
+    // check.
     ensures stopped { IfOk result (λ counts. A.has_stopped report_sink.new ≡ is_none counts) }
     // For any source, some list of events was reported; if the source failed, the report sink had
     // not stopped the check.
@@ -162,8 +166,8 @@ pub fn check_all<S: Source, A: LiveReportSink<Event>>(
     ensures read { (pes : ℕ) → result ≡ Err (CheckFault.Pes pes PesFault.Read)
         → FailsAtPesPacket pes (S.remaining source.old) (S.remaining source.new) }
     ensures only { IfErr result (λ f. is_pes_read_failure f ≡ true) }
-    // All reports are flushed before the source may read from its device, which may fail. So after
-    // a failure no report is still buffered.
+    // All reports are flushed before the source may read from its device, which may fail. So if no
+    // report was buffered before the call, none is buffered after a failure.
     ensures flushed_at_failure { A.buffered report_sink.old ≡ 0 → IfErr result
         (λ _. A.buffered report_sink.new ≡
         0) }

@@ -24,12 +24,12 @@ use ttx_pes::PesFault;
 
 /// Loads a subtitle file, and checks a PES file against it.
 ///
-/// Reads the complete subtitle file before the PES file.
+/// Reads no byte of the PES file before the subtitle file was read to its end.
 ///
 /// # Errors
 ///
-/// Returns `Subtitles` with the fault of `load` if the subtitle file is refused; the PES file is
-/// not read then. Otherwise returns the faults of `check`.
+/// Returns `Subtitles` with the fault of `load` if the subtitle file cannot be loaded; the PES file
+/// is not read then. Otherwise returns the faults of `check`.
 pub fn check_files<S: Source, P: Source>(
     alloc: Global,
     stl: &mut S,
@@ -63,7 +63,7 @@ pub fn check_files<S: Source, P: Source>(
         AreChecked (drawing_within national layout scope) options.now file (P.remaining pes.old)
         result) }
     // A failed read of the subtitle file is reported at the block that was being read; no block
-    // before it has a fault.
+    // before it has a fault other than `Unfinished`.
     ensures stl_read { (fault : LoadFault)
         → result ≡ Err (CheckFault.Subtitles fault)
         → is_load_read_failure fault ≡ true
@@ -73,7 +73,8 @@ pub fn check_files<S: Source, P: Source>(
     ensures pes_read { (index : ℕ)
         → result ≡ Err (CheckFault.Pes index PesFault.Read)
         → FailsAfterValidPackets index (P.remaining pes.old) (P.remaining pes.new) }
-    // If the subtitle file is refused, no byte of the PES file is read. No `Write` is returned.
+    // If the subtitle file cannot be loaded, no byte of the PES file is read. No `Write` is
+    // returned.
     ensures before { failed is_subtitle_fault result ≡ true → pes.new ≡ pes.old }
     ensures is_no_write_fault { failed is_pes_write_failure result ≡ false }
     // For each source, its `Read` is returned exactly if it failed in this call.

@@ -3,8 +3,8 @@
 //!
 //! Combines `sub_checker`, which reports all faults, with `sub_laws` and `sub_trusted`, whose laws
 //! state what the reports mean. Re-exports types and laws of these crates, of `sub_rules` and of
-//! `sub_packets`. `check` accepts exactly the transmissions that are good by the options
-//! (`GoodWithRepeats` in `sub_rules`), and returns the first fault for any other:
+//! `sub_packets`. Unless the source fails, `check` accepts exactly the transmissions that are good
+//! by the options (`GoodWithRepeats` in `sub_rules`), and returns the first fault for any other:
 //!
 //! ```text
 //! check(&programme, &mut source, &options)?; // Accepted { frames: 51, headers: 2 }
