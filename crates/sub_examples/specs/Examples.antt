@@ -51,7 +51,8 @@ abbrev pub header_with_wrong_bit : List ℕ
 header_with_wrong_bit =
     header_of_coded_bytes (0x14 ∷ 0x15 ∷ 0xD0 ∷ 0xD0 ∷ 0x15 ∷ 0xD0 ∷ 0x15 ∷ 0xD0 ∷ 0x02 ∷ 0x15 ∷ [])
 
--- A packet X/0 whose page units can't be decoded. With one more wrong bit it is a header.
+-- A packet X/0 whose page units can't be decoded. With one more wrong bit in that byte it is a
+-- header.
 abbrev pub undecodable_header : List ℕ
 undecodable_header = header_of_coded_bytes (0x15 ∷ 0x15 ∷ 0xD3 ∷ 0xD0 ∷ 0x15 ∷ 0xD0 ∷ 0x15 ∷ 0xD0 ∷
     0x02 ∷
@@ -143,8 +144,9 @@ ExampleOfGoodTransmission =
 abbrev pub fault_number_of : PacketRule → ℕ
 fault_number_of r = (code_of_check_fault (packet_fault r 0 0)).number
 
--- No fault that matters to receivers is reported in the frames from `a` to `b`, except for faults
--- with this number.
+-- Except for faults with this number: frame numbers increase, no packet of the frames from `a` to
+-- `b` breaks a rule that matters to receivers, and no wrong cell or missing header is active at the
+-- end of any of these frames.
 pub record HasNoReceiverFaultExcept
     (number : ℕ) (g : Criteria) (frames : Transmission) (a b : ℕ)
     : Type 0 where
@@ -161,7 +163,7 @@ pub record HasNoReceiverFaultExcept
       frames a b
 
 -- If the expected pages are blank, the only faults that matter to receivers are faults with this
--- number, and a receiver of the transmission has a wrong page or receives no header in time.
+-- number, and the guarantees to receivers fail (`Robust`, `RecoversWithin`).
 pub record IsRuleNeeded (number : ℕ) (transmission : Transmission) (every : ℕ) : Type 0 where
   pub others :
       HasNoReceiverFaultExcept number (criteria_of no_subtitles (options_with_bound every) None)
@@ -207,7 +209,7 @@ pub record ExamplesOfNeededRules : Type 0 where
   -- Row 1 is sent twice with different codes. The check uses the first packet, but a receiver
   -- stores the second.
   pub same_rows : IsRuleNeeded 69 changed_row 1
-  -- Every receiver that receives the row has an exclamation mark that is not expected.
+  -- A receiver that receives the header and the row has an exclamation mark that is not expected.
   pub due_content :
       IsRuleNeeded 72 (one_frame (english_header ∷ row_1 0xA1 ∷ time_filling_header ∷ [])) 1
   -- A receiver that starts after the first frame receives no header within the repeat bound.

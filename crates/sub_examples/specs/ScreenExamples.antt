@@ -30,7 +30,7 @@ ExampleOfEndedPage =
     → Shows page_888 old (english_header ∷ time_filling_header ∷ []) new
     → new.screen ≡ Some blank
 
--- The screen does not change before a header ends the page: rows alone do not change it.
+-- A header of the page does not change the screen if the page was not open, and a row never does.
 abbrev pub ExampleOfPageNotEnded : Type 0
 ExampleOfPageNotEnded =
     (screen : Option Rows) (new : Display)

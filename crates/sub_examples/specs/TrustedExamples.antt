@@ -13,11 +13,11 @@ use Rattle.sub_rules.specs.declared.fault.CheckFault.TheVariants as fault
 abbrev pub AreReportedEvents : List Event → List CheckStep → Type 0
 AreReportedEvents events steps = events_reported_after [] steps ≡ events
 
--- The steps for a PES packet of frame `f` that has a header of the page and no faults.
+-- The steps for a PES packet of frame `f` that has a header that erases the page, and no faults.
 abbrev pub steps_of_good_frame : ℕ → ℕ → List CheckStep
 steps_of_good_frame pes f = AtPes pes ∷ Begins f ∷ Ends f true true ∷ []
 
--- The steps at the end of a file without unread bytes, rejected subtitles and further events.
+-- The steps at the end of a file without unread bytes, unreliable subtitles and further events.
 abbrev pub closing_steps : ℕ → List CheckStep
 closing_steps pes = AtPes pes ∷ Closes false false ∷ []
 
@@ -34,8 +34,8 @@ pub record ExamplesOfTrustedFrames : Type 0 where
       (steps_of_good_frame 0 0
       ++ AtPes 1 ∷ Emits (Reported (fault.Gap 25)) ∷ Begins 50 ∷ Emits (Ended end.Gap 49)
       ∷ Ends 50 true true ∷ closing_steps 2)
-  -- The same two frames occur twice in one file. From the third PES packet on, no frame is clean,
-  -- and the packets may have been sent in the frame before.
+  -- The same two frames occur twice in one file. From the third PES packet on, no frame is clean.
+  -- This packet may have been sent in frame 50, so frame 50 is not clean either.
   pub order :
       AreReportedEvents (Trusted 0 49 ∷ Reported (fault.Order 2) ∷ [])
       (steps_of_good_frame 0 0 ++ steps_of_good_frame 1 50
@@ -46,7 +46,8 @@ pub record ExamplesOfTrustedFrames : Type 0 where
       AreReportedEvents (Reported (fault.Parity 0 1) ∷ Trusted 50 50 ∷ [])
       (AtPes 0 ∷ Begins 0 ∷ Emits (Reported (fault.Parity 0 1)) ∷ Ends 0 true true
       ∷ steps_of_good_frame 1 50 ++ closing_steps 2)
-  -- C11 of the header in frame 0 differs. This does not matter to receivers, so the frame is clean.
+  -- The fault `Mode`, another C11, is reported in frame 0. It does not matter to receivers, so the
+  -- frame is clean.
   pub mode :
       AreReportedEvents (Reported (fault.Mode 0 0) ∷ Trusted 0 50 ∷ [])
       (AtPes 0 ∷ Begins 0 ∷ Emits (Reported (fault.Mode 0 0)) ∷ Ends 0 true true

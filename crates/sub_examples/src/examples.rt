@@ -1,7 +1,7 @@
 //! Transmissions of page 888, byte by byte: a good one, and for each of eight rules that matter to
 //! receivers a transmission that breaks only this one of them and fails at a receiver.
 //!
-//! The examples test the definitions of `specs/`. The functions have no body.
+//! The examples test the definitions of `sub_rules` and `sub_laws`. The functions do nothing.
 ghost use Rattle.sub_examples.specs.Examples.{ExampleOfCleanFrames, ExampleOfGoodTransmission};
 ghost use Rattle.sub_examples.specs.Examples.{ExamplesOfNeededRules};
 ghost use Rattle.sub_examples.specs.TrustedExamples.{ExamplesOfTrustedFrames};
@@ -19,8 +19,8 @@ pub fn examples_of_needed_rules()
     ensures { ExamplesOfNeededRules }
 {}
 
-/// A rejected transmission with clean frames, and the code that a receiver has in one cell after
-/// the first of these frames.
+/// A rejected transmission with clean frames, and the codes that a receiver may have in one cell
+/// after the first of these frames.
 #[tactic(auto, using(crate::proofs::CleanFramesExample::example_of_clean_frames))]
 pub fn example_of_clean_frames()
     ensures { ExampleOfCleanFrames }

@@ -1,6 +1,7 @@
 //! Examples of transmissions and screens, byte by byte.
 //!
-//! The examples test the definitions of `sub_rules` and `sub_laws`. No other crate uses this one.
+//! The examples test the definitions of `ttx_page`, `sub_rules` and `sub_laws`. No other crate uses
+//! this one.
 //!
 //! ```text
 //! example_of_good_transmission: a transmission of two frames, its programme and its options are

@@ -1,7 +1,8 @@
 //! Examples of the time at which a receiver shows a page on its screen, and of a good transmission
 //! that some receivers do not show.
 //!
-//! The examples test the definitions of `specs/`. The functions have no body.
+//! The examples test the definitions of `ttx_page`, `sub_rules` and `sub_laws`. The functions do
+//! nothing.
 ghost use Rattle.sub_examples.specs.ScreenExamples.{ExampleOfEndedPage, ExampleOfUnendedPage};
 ghost use Rattle.sub_examples.specs.ScreenExamples.{ExampleOfRestartedPage, ExampleOfPageNotEnded};
 
