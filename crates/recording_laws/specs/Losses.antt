@@ -84,14 +84,15 @@ abbrev pub units_before_copy : Carrier SentUnit → List SentUnit
 units_before_copy c = if is_recorded_intact c.packet.fate then [] else c.packet ∷ c.before
 
 -- The units after a TS packet with payload if it is recorded intact, otherwise those after its
--- repeat, up to the next TS packet with payload.
+-- repeat, up to the next TS packet with payload that is not its repeat.
 abbrev pub units_after_copy : Carrier SentUnit → List SentUnit
 units_after_copy c =
     if is_recorded_intact c.packet.fate then c.before ++ (option_to_list c.again ++ c.after)
     else c.after
 
--- Fewer than 15 consecutive TS packets with payload are missing or damaged, together with their
--- repeats, at a time. `gone` is the number of such packets directly before the list.
+-- No 15 consecutive TS packets of the PID with payload, the last of them in the list, are missing
+-- or damaged together with their repeats. `gone` is the number of such packets directly before the
+-- list.
 abbrev pub loses_few_in_row : ℕ → List (Carrier SentUnit) → Bool
 loses_few_in_row gone [] = true
 loses_few_in_row gone (c ∷ more) =
@@ -117,16 +118,17 @@ abbrev pub last_carrier : Carrier SentUnit → List (Carrier SentUnit) → Carri
 last_carrier c [] = c
 last_carrier c (d ∷ more) = last_carrier d more
 
--- A unit was damaged after the last TS packet of the PES packet, or after its repeat.
+-- A unit was damaged among those after the last TS packet of the PES packet (`units_after_copy`).
 abbrev pub is_damaged_after : SentPes SentUnit → Bool
 is_damaged_after s = any_unit_damaged (units_after_copy (last_carrier s.first s.others))
 
 -- ---- the PES packets in a recording
 
 -- The bytes of the arriving PES packets, in order, with gap markers. `given` means that an earlier
--- PES packet arrived, and `gap` that PES packets are missing, or a unit was damaged, after it.
--- There is one gap marker between two arriving PES packets if PES packets are missing between them,
--- or if a unit of the PID was damaged between the first intact copies of their first TS packets.
+-- PES packet arrived, and `gap` that PES packets are missing since then (since the start, if none
+-- arrived), or that a unit was damaged after it. There is one gap marker between two arriving PES
+-- packets if PES packets are missing between them, or if a unit of the PID was damaged between the
+-- first intact copies of their first TS packets.
 unfoldable pub arriving_bytes : Bool → Bool → List (SentPes SentUnit) → List ℕ
 arriving_bytes given gap [] = []
 arriving_bytes given gap (s ∷ more) =
@@ -142,7 +144,7 @@ pub record CarriesArrivingPackets (sent : List (SentPes SentUnit)) (bytes : List
   pub marker_follows_packet : has_gap_marker ≡ true → list_any arrives sent ≡ true
   pub bytes_are_equal : bytes ≡ arriving_bytes false false sent ++ gap_marker_where has_gap_marker
 
--- A recording with any number of losses. The multiplexer announced no jumps of the continuity
+-- A recording with any number of losses. The multiplexer announced no jump of the PID's continuity
 -- counter.
 pub record IsRecordingWithLosses (number distance : ℕ) (m : Multiplex SentUnit) (recording : List ℕ)
     : Type 0 where
@@ -158,7 +160,8 @@ pub record IsRecordingWithLosses (number distance : ℕ) (m : Multiplex SentUnit
       (items_of_multiplex m)
   pub left : recording ≡ concat (recorded_units (items_of_multiplex m))
 
--- A recording in which fewer than 15 consecutive TS packets with payload are missing or damaged.
+-- A recording in which fewer than 15 consecutive TS packets of the PID with payload are missing or
+-- damaged, together with their repeats, at a time.
 pub record HasOnlyShortLosses (number distance : ℕ) (m : Multiplex SentUnit) (recording : List ℕ)
     : Type 0 where
   pub losses : IsRecordingWithLosses number distance m recording

@@ -37,9 +37,9 @@ pub record IsRepetition (number : ℕ) (p q : List ℕ) : Type 0 where
 
 -- ---- the grammar of a multiplex
 
--- A carrier: a TS packet of the PID with payload, and the items up to the next such TS packet.
--- These items are TS packets of the PID without payload, TS packets of other PIDs, and at most one
--- repeat of the first packet.
+-- A carrier: a TS packet of the PID with payload, and the items up to the next such TS packet that
+-- is not its repeat. These items are TS packets of the PID without payload, TS packets of other
+-- PIDs, and at most one repeat of the first packet.
 pub record Carrier (A : Type 0) : Type 0 where
   pub packet : A
   pub before : List A
@@ -65,7 +65,8 @@ carriers_of_pes s = s.first ∷ s.others
 abbrev pub carriers_of : {A : Type 0} → List (SentPes A) → List (Carrier A)
 carriers_of sent = flat_map carriers_of_pes sent
 
--- The TS packet of a carrier, followed by the items up to the next TS packet with payload.
+-- The TS packet of a carrier, followed by the items up to the next TS packet with payload that is
+-- not its repeat.
 abbrev pub items_of_carrier : {A : Type 0} → Carrier A → List A
 items_of_carrier c = c.packet ∷ (c.before ++ (option_to_list c.again ++ c.after))
 
@@ -74,8 +75,9 @@ abbrev pub items_of_multiplex : {A : Type 0} → Multiplex A → List A
 items_of_multiplex m = m.lead ++ flat_map items_of_carrier (carriers_of m.sent)
 
 -- Requirements for a carrier of the PID: a TS packet with payload, and the items up to the next TS
--- packet with payload. The packet starts a PES packet exactly if `first` is true. No jump is
--- announced by the items in `before`, which come between the packet and its repeat, if it has one.
+-- packet with payload that is not its repeat. The packet starts a PES packet exactly if `first` is
+-- true. No jump of the PID's counter is announced by the items in `before`, which come between the
+-- packet and its repeat, if it has one.
 pub record IsCarrier {A : Type 0} (packet_of : A → List ℕ) (number : ℕ) (first : Bool)
     (c : Carrier A) : Type 0 where
   pub carries : carries number (packet_of c.packet) ≡ true
@@ -98,7 +100,8 @@ pub record IsSentPes {A : Type 0} (packet_of : A → List ℕ) (number : ℕ) (s
 
 -- A jump of the continuity counter is announced between the packets of the carriers `c` and `d`, by
 -- a packet without payload or by the packet of `d`. In the second case, a receiver can't take the
--- packet of `d` for a repeat, since `c` already has a repeat or the two packets differ.
+-- packet of `d` for a repeat, since `c` already has a repeat, or their bytes 0 to 3 or their
+-- payloads differ.
 abbrev pub IsJumpBetween : {A : Type 0} → (A → List ℕ) → ℕ → Carrier A → Carrier A → Type 0
 IsJumpBetween packet_of number c d =
     (list_any (λ x. pid_announces_jump number (packet_of x)) c.after ≡ true)
@@ -107,7 +110,8 @@ IsJumpBetween packet_of number c d =
     || not (has_same_header_and_payload (packet_of c.packet) (packet_of d.packet))) ≡ true))
 
 -- The packet of carrier `d` may follow the packet of carrier `c`: it has the next continuity
--- counter, or a jump is announced. No jump is announced within a PES packet.
+-- counter, or a jump is announced. If `d` does not start a PES packet, neither its packet nor a
+-- packet in `after` of `c` announces a jump of the PID's counter.
 pub record IsNextCarrier {A : Type 0} (packet_of : A → List ℕ) (number : ℕ) (c d : Carrier A)
     : Type 0 where
   pub counter :

@@ -17,25 +17,25 @@ frame_up_to_pts frame_of packet = frame_of (up_to_pts packet)
 -- The first TS packet of a PES packet contains its PTS.
 --
 -- Without this assumption, a PES packet that was never sent could be read: nine bytes of a PES
--- packet arrive in its first TS packet, 16 packets of the PID are lost, and the next packet is from
--- the middle of another PES packet. Its bytes are then read as a PTS, whose frame may happen to
--- fit.
+-- packet arrive in its first TS packet, 16 packets of the PID with payload are lost, and the next
+-- such packet is from the middle of another PES packet. Its bytes are then read as a PTS, whose
+-- frame may happen to fit.
 abbrev pub FirstPacketContainsPts : ℕ → SentPes SentUnit → Type 0
 FirstPacketContainsPts distance s = 14 ≤ length (payload (sent_packet distance s.first.packet))
 
 -- ---- distances of PES packets as sent
 
--- `between` TS packets with payload come between the start of a PES packet with this frame and that
--- of the first of these PES packets. Those with 16 or more between the starts are more than `pace`
--- frames later.
+-- `between` TS packets with payload, without their repeats, come between the start of a PES packet
+-- with this frame and that of the first of these PES packets. Those with 16 or more between the
+-- starts are more than `pace` frames later.
 abbrev pub AreFarFrom : (List ℕ → ℕ) → ℕ → ℕ → ℕ → List (SentPes SentUnit) → Type 0
 AreFarFrom frame_of pace frame between [] = ⊤
 AreFarFrom frame_of pace frame between (s ∷ more) =
     (16 ≤ between → frame + pace < frame_up_to_pts frame_of s.bytes)
     × AreFarFrom frame_of pace frame (between + length (carriers_of_pes s)) more
 
--- Any two PES packets with 16 or more TS packets with payload between their starts are more than
--- `pace` frames apart, in rising order.
+-- Any two PES packets with 16 or more TS packets with payload, without their repeats, between their
+-- starts are more than `pace` frames apart, in rising order.
 abbrev pub AreFarApart : (List ℕ → ℕ) → ℕ → List (SentPes SentUnit) → Type 0
 AreFarApart frame_of pace [] = ⊤
 AreFarApart frame_of pace (s ∷ more) =

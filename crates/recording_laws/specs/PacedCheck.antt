@@ -31,13 +31,14 @@ pub record AreConsecutiveSent (sent packets : List (List ℕ)) : Type 0 where
   pub sent_bytes_eq : sent ≡ earlier ++ (run ++ (next ∷ later))
   pub last_matches_up_to_pts : up_to_pts next ≡ up_to_pts last
 
--- The law of `check --pace`. Assumptions: the multiplexer announces no jump of the continuity
--- counter, the first TS packet of each PES packet contains its PTS, and two PES packets are more
--- than `pace` frames apart by the clock of the options if 16 or more TS packets with payload come
--- between their starts. If all PES packets in a recording, or a range, form a good transmission by
--- options with this maximum distance, they were sent one after another, for any number of lost TS
--- packets. `check --pace` accepts only such transmissions. So if it accepts a recording, no PES
--- packet is missing between the first and the last that it read.
+-- The law of `check --pace`. Assumptions: the multiplexer announces no jump of the PID's continuity
+-- counter, the first TS packet of each PES packet contains its PTS, and of two PES packets with 16
+-- or more TS packets of the PID with payload, without their repeats, between their starts, the
+-- second is more than `pace` frames later by the clock of the options. If a recording carries only
+-- complete PES packets and gap markers, and all its PES packets, or a range of them, form a good
+-- transmission by options with this maximum distance, they were sent one after another, for any
+-- number of lost TS packets. `check --pace` accepts only such transmissions. So if it accepts a
+-- recording, no PES packet is missing between the first and the last that it read.
 abbrev pub LawOfPacedCheck : Type 0
 LawOfPacedCheck =
     (number distance pace : ℕ) (m : Multiplex SentUnit) (recording : List ℕ)

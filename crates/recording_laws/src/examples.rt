@@ -1,6 +1,7 @@
 //! Examples of recordings: one without losses and one with losses.
 //!
-//! The examples show that the assumptions of the laws can be satisfied. The functions do nothing.
+//! The examples show that the assumptions of `law_of_multiplex` and `law_of_losses` can be
+//! satisfied. The functions do nothing.
 ghost use Rattle.recording_laws.specs.Examples.{ExampleOfLosses, ExampleOfMultiplex};
 
 /// A recording of two PES packets satisfies the definition of a complete recording.

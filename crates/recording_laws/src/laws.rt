@@ -13,43 +13,46 @@ pub fn law_of_multiplex()
     ensures { LawOfMultiplex }
 {}
 
-/// If at most 14 consecutive TS packets with payload are missing or damaged at a time, and the
-/// multiplexer announces no jump of the continuity counter, the recording carries exactly the PES
-/// packets that arrive, unchanged and in order. If a PES packet is missing between two of them,
-/// there is a gap marker between these two.
+/// If at most 14 consecutive TS packets of the PID with payload are missing or damaged at a time,
+/// and the multiplexer announces no jump of the PID's continuity counter, the recording carries,
+/// apart from gap markers, exactly the PES packets that arrive, unchanged and in order. If a PES
+/// packet is missing between two of them, there is a gap marker between these two.
 #[tactic(auto, using(crate::proofs::ArrivingLaw::law_of_losses))]
 pub fn law_of_losses()
     ensures { LawOfLosses }
 {}
 
-/// If at most 14 consecutive TS packets with payload are missing or damaged at a time, and the
-/// multiplexer announces no jump of the continuity counter, PES packets in a recording with no gap
-/// marker between them were sent one after another: no PES packet between the first and the last of
-/// them is missing.
+/// If at most 14 consecutive TS packets of the PID with payload are missing or damaged at a time,
+/// and the multiplexer announces no jump of the PID's continuity counter, consecutive PES packets
+/// in a recording with no gap marker between them were sent one after another: no PES packet
+/// between the first and the last of them is missing.
 pub fn law_of_neighbours()
     ensures { LawOfNeighbours }
 {}
 
-/// Assume that the multiplexer announces no jump of the continuity counter, that the first TS
-/// packet of each PES packet contains its PTS, and that PES packets with 16 or more TS packets with
-/// payload between their starts are sent more than `pace` frames apart. Then PES packets that are
-/// read at most `pace` frames apart, with no gap marker between them, were sent one after another,
-/// for any number of lost TS packets. The last is known to have the sent bytes only up to its PTS.
+/// Assume that the multiplexer announces no jump of the PID's continuity counter, that the first TS
+/// packet of each PES packet contains its PTS, and that of two PES packets with 16 or more TS
+/// packets of the PID with payload, without their repeats, between their starts, the second is more
+/// than `pace` frames later. Then consecutive PES packets of a recording that carries only complete
+/// PES packets and gap markers, each at most `pace` frames later than the one before, with no gap
+/// marker among them, were sent one after another, for any number of lost TS packets. The last is
+/// known to have the sent bytes only up to its PTS.
 pub fn law_of_pace()
     ensures { LawOfPace }
 {}
 
 /// If `check` accepts PES packets of a recording, there is no gap marker among them. If at most 14
-/// consecutive TS packets with payload were missing or damaged at a time, and the multiplexer
-/// announced no jump of the continuity counter, all PES packets that were sent between the first
-/// and the last of them are recorded.
+/// consecutive TS packets of the PID with payload were missing or damaged at a time, and the
+/// multiplexer announced no jump of the PID's continuity counter, all PES packets that were sent
+/// between the first and the last of them are recorded.
 pub fn law_of_complete_file()
     ensures { LawOfCompleteFile }
 {}
 
-/// Under the assumptions of `law_of_pace` about the multiplex, PES packets of a recording that
-/// `check --pace` accepts were sent one after another: none between the first and the last of them
-/// is missing, for any number of lost TS packets.
+/// Under the assumptions of `law_of_pace` about the multiplex, PES packets that `check --pace`
+/// accepts, of a recording that carries only complete PES packets and gap markers, were sent one
+/// after another: none between the first and the last of them is missing, for any number of lost TS
+/// packets.
 pub fn law_of_paced_check()
     ensures { LawOfPacedCheck }
 {}

@@ -1,10 +1,11 @@
-//! Laws about recordings: the PES packets that a multiplexer sends are read again; no loss of at
-//! most 14 consecutive TS packets with payload creates a PES packet; and under three assumptions
-//! about the multiplex, no PES packet is missing between those that `check --pace` accepts.
+//! Laws about recordings: a complete recording carries the PES packets that a multiplexer sent; if
+//! no jump of the continuity counter is announced, no loss of at most 14 consecutive TS packets
+//! with payload of a PID creates a PES packet; and under two more assumptions about the multiplex,
+//! no PES packet is missing between those that `check --pace` accepts.
 //!
 //! `mpeg_ts` defines what the TS packets of a PID carry, and `sub_rules` the rules for a
 //! transmission. This crate contains no program: `specs/` defines what a multiplexer sends and
-//! which losses are possible, and each function is a law.
+//! which losses are possible, and each function is a law or an example.
 //!
 //! ```text
 //! law_of_multiplex: IsMultiplexed number distance packets recording
