@@ -1,5 +1,5 @@
--- One step of copying: a PES packet is read, and then written to a file. Only contracts of
--- functions that the crate does not export use this file.
+-- Copying to a file: each PES packet is read and then written, and so are any bytes after the last
+-- PES packet. No contract of a function that the crate exports uses this file.
 use Rattle.std.specs.Prelude.{◌≡◌, ℕ, ◌<◌, List, [], Bool, true, false, length, take, drop}
 use Rattle.std.specs.Prelude.{Option, Some, Result, Ok, Err}
 use Rattle.std.specs.Io.KnownBytes.{Appends, Keeps}

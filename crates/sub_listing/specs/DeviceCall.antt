@@ -30,8 +30,9 @@ source_call remaining failure_count old new = record {
   new_count = failure_count new;
 }
 
--- The states of an input before and after a call, given the functions for the input's remaining
--- bytes, the remaining bytes of its device, and its number of failed calls.
+-- The states of an input before and after a call, given the functions for its remaining bytes, for
+-- its remaining bytes perhaps without those read before a failure or `Rest`, and for its number of
+-- failed calls.
 abbrev pub read_call :
     {D : Type 0} → (D → Option (List ℕ)) → (D → Option (List ℕ)) → (D → ℕ) → D → D → SourceCall
 read_call known_bytes left failure_count old new = record {

@@ -1,5 +1,5 @@
--- The line that `check --all` prints for each event. The argument `first` is the number of the
--- first PES packet that is read, in its file.
+-- The line that `check --all` prints for each event. PES packets are counted from the number
+-- `first`.
 use Rattle.std.specs.Prelude.{ℕ, ◌+◌, List, [], ◌∷◌, ◌++◌, codes, map}
 use Rattle.stl_rows.specs.declared.fault.LoadFault.{LoadFault}
 use Rattle.sub_rules.specs.Fault.{code_of_check_fault, place_of_fault, code_of_end_rule}
@@ -13,7 +13,8 @@ use Rattle.sub_listing.specs.FaultLine.{frame_time_text, code_text, frame_text, 
 use Rattle.sub_listing.specs.FaultLine.{place_text}
 use Rattle.sub_listing.specs.FaultLine.{counted_from}
 
--- The line for the end of a fault: the rule was broken up to this frame.
+-- The line for the end of a fault, with the last frame at whose end the rule was broken at the
+-- reported place.
 abbrev pub fault_end_line : EndRule → ℕ → List ℕ
 fault_end_line rule frame =
     codes "ended " ++ code_text (code_of_end_rule rule) ++ frame_text frame ++ codes "\n"

@@ -30,7 +30,8 @@ use Rattle.sub_listing.specs.declared.status.Status.{Status}
 
 -- ---- the bytes to copy
 
--- The first `size` bytes are a gap marker: 184 bytes, all FF from byte 6 on.
+-- The PES packet at the front, which has `size` bytes, is a gap marker: 184 bytes, all FF from byte
+-- 6 on.
 abbrev pub begins_with_gap_marker : ℕ → List ℕ → Bool
 begins_with_gap_marker size b = (size == payload_size) && is_all_stuffing (drop 6 (take size b))
 
@@ -91,7 +92,7 @@ pub record IsExtractedWithFault
       f
 
 -- The source failed after `pes` PES packets, which were written to the file. If the bytes after
--- them are not a PES packet, a prefix of these bytes was written too.
+-- them do not begin with a PES packet, a prefix of these bytes, possibly empty, was written too.
 pub record IsExtractedUntilFailure (bytes : List ℕ) (old new : Option (List ℕ)) (pes : ℕ) : Type 0
   where
     pub pes_packets : count_pes_packets pes bytes ≡ pes

@@ -26,8 +26,7 @@ kind_text kind.Refused = codes "refused "
 kind_text kind.Fault = codes "fault "
 kind_text kind.Usage = codes "usage "
 
--- The time of a frame of the day, as `HH:MM:SS:FF`. A number beyond the end of the day is counted
--- from the start of the next day.
+-- The time of a frame of the day, as `HH:MM:SS:FF`. The number is taken modulo the frames of a day.
 abbrev pub frame_time_text : ℕ → List ℕ
 frame_time_text frame = time_text (frame % day)
 

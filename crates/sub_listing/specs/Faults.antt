@@ -1,6 +1,6 @@
--- The line of each fault (not defined by a standard). The kind is `fault` for a failed device, a
--- file that can't be opened, and a lack of memory, `usage` for invalid arguments, and `refused` for
--- any other fault.
+-- The line of each fault (not defined by a standard). The kind is `fault` for a failed device, for
+-- a file that can't or must not be opened or created (`Open`), and for a lack of memory, `usage`
+-- for invalid arguments, and `refused` for any other fault.
 use Rattle.std.specs.Prelude.{ℕ, Bool, codes, if◌then◌else◌}
 use Rattle.sub_io.specs.FaultCode.{FaultCodeValue, fault_code}
 use Rattle.stl_file.specs.Fault.{is_file_read_failure, code_of_normal_fault, code_of_stl_fault}
@@ -32,7 +32,8 @@ use Rattle.sub_request.specs.declared.request.UsageFault.TheVariants as usage
 abbrev pub kind_of_failure : Bool → Kind
 kind_of_failure fails = if fails then kind.Fault else kind.Refused
 
--- The line of a fault that a check found in a subtitle file or a PES file.
+-- The line of a fault of a subtitle file, a PES file or a recording, which a check or another
+-- command found.
 abbrev pub check_line : CheckFault → FaultLine
 check_line f = line_with (kind_of_failure (is_failure f)) (code_of_check_fault f) (place_of_fault f)
 
@@ -60,21 +61,22 @@ packet_line f = line_with kind.Refused (packet_code f) place.Nowhere
 
 -- ---- faults of arguments
 
--- The kind of a fault of the arguments: `fault` if a file can't be opened or memory ran out,
--- otherwise `usage`.
+-- The kind of a fault of the arguments: `fault` for `Open`, a file that can't or must not be opened
+-- or created, and for a lack of memory; otherwise `usage`.
 abbrev pub usage_kind : UsageFault → Kind
 usage_kind usage.Open = kind.Fault
 usage_kind usage.Memory = kind.Fault
 usage_kind _ = kind.Usage
 
--- The line of a fault of the arguments or of the program itself.
+-- The line of a `UsageFault`: invalid arguments, a file that can't or must not be opened or
+-- created, or a lack of memory.
 abbrev pub usage_line : UsageFault → FaultLine
 usage_line f = line_with (usage_kind f) (code_of_usage_fault f) place.Nowhere
 
 -- ---- faults of a file that is written
 
--- The line of a fault of a command that writes a file. The kind is `fault` for a failed device and
--- for a lack of memory, and otherwise `refused`.
+-- The line of a fault of `schedule` or `normal`. The kind is `fault` for a failed device and for a
+-- lack of memory, and otherwise `refused`.
 abbrev pub write_line : WriteFault → FaultLine
 write_line (write.Input (input.Read block)) = stl_line stl.Read block
 write_line (write.Input input.Memory) = usage_line usage.Memory

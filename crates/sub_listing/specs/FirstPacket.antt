@@ -1,12 +1,14 @@
--- The number of the first PES packet that is read. Reports count PES packets from this number.
+-- The number of the first PES packet to read. Reports count PES packets from this number, unless
+-- the source fails before this packet.
 use Rattle.std.specs.Prelude.{◌≡◌, ◌⊎◌, ℕ, ◌+◌, ◌≤◌, Option, Some}
 use Rattle.std.specs.Io.KnownBytes.{Keeps}
 use Rattle.sub_listing.specs.DeviceCall.{SinkCall, SourceCall}
 use Rattle.sub_listing.specs.Listing.{ListingRelation, PrintsListing}
 use Rattle.sub_listing.specs.declared.status.Status.{Status}
 
--- The number of a source's first PES packet in its file, before and after a call, if it is known;
--- and the number of PES packets that were skipped before the first packet to read.
+-- The number, in its file, of the first PES packet to read, or the number of PES packets if there
+-- is no such packet: before and after a call, if it is known. And the number of PES packets that
+-- were skipped before the first packet to read.
 pub record FirstNumber : Type 0 where
   pub known : Option ℕ
   pub left : Option ℕ
@@ -23,9 +25,9 @@ abbrev pub FailsBeforeFirstByte : SourceCall → Type 0
 FailsBeforeFirstByte source =
     (source.new_count ≡ source.old_count + 1) × Keeps source.known source.left
 
--- Reports count PES packets from `number`. If the first PES packet to read was found, `number` is
--- its number in the file. Otherwise the source failed, and `number` is the number of skipped PES
--- packets.
+-- Reports count PES packets from `number`. If the first number is known (`first.known`), it is
+-- `number`; or the source failed before the first PES packet to read, and `number` is the number of
+-- skipped PES packets.
 abbrev pub StartsAt : FirstNumber → SourceCall → ℕ → Type 0
 StartsAt first source number =
     (n : ℕ)
@@ -34,8 +36,7 @@ StartsAt first source number =
     ⊎ ((number ≤ n) × (number ≡ first.skipped) × (first.left ≡ Some n) × FailsBeforeFirstByte
     source)
 
--- A source was listed, with PES packets counted from the number of its first PES packet in the
--- file.
+-- A source was listed, with PES packets counted from the number that `StartsAt` specifies.
 pub record PrintsCountedFrom
     (ListsFrom : ℕ → ListingRelation) (first : FirstNumber) (source : SourceCall) (out : SinkCall)
     (status : Status)

@@ -1,5 +1,5 @@
--- The output if the source of a listing failed: everything was flushed except for the line about
--- the failure.
+-- The output if the source of a listing failed: everything before the line about the failure was
+-- flushed.
 use Rattle.std.specs.Prelude.{◌≡◌, ℕ, Bool, List, Option}
 use Rattle.sub_io.specs.Calls.{PutsByPushes}
 use Rattle.sub_io.specs.Device.{AppendsPrefix}

@@ -1,4 +1,4 @@
--- The lines that the program prints. Each line ends with one newline.
+-- Lines that the program prints, and parts of lines. Each line ends with one newline.
 use Rattle.std.specs.Prelude.{ℕ, ◌+◌, ◌/◌, ◌%◌, ◌==◌, ◌&&◌, nat_le, List, [], ◌∷◌, ◌++◌, codes}
 use Rattle.std.specs.Prelude.{decimal, map, min, length, Bool, if◌then◌else◌, slice_index}
 use Rattle.ttx_packet.specs.Parity.{is_odd, character_code}
@@ -34,7 +34,8 @@ abbrev pub address_line : ℕ → ℕ → List ℕ
 address_line magazine packet_number = codes "magazine " ++ decimal (printed_magazine magazine)
     ++ codes " packet " ++ decimal packet_number ++ codes "\n"
 
--- The name of a control bit after a space, if the bit is set; otherwise no text.
+-- The text `name`, which is a space and the name of a control bit, if the bit is set; otherwise no
+-- text.
 abbrev pub name_if_set : Bool → List ℕ → List ℕ
 name_if_set bit name = if bit then name else []
 
@@ -63,9 +64,8 @@ header_line h = codes "page " ++ hex_digits_of_byte h.page ++ codes " subcode "
 abbrev pub text_line : List ℕ → List ℕ
 text_line bytes = codes "text |" ++ map printed_text_character bytes ++ codes "|\n"
 
--- The number of a PES packet in its file, counted from 0, given its index among the PES packets
--- that are read and the number `first` of the first of these. A number above 2^64 - 1 is printed as
--- 2^64 - 1.
+-- The number of a PES packet in its file, counted from 0, given its index counted from the PES
+-- packet with the number `first`. A number above 2^64 - 1 is printed as 2^64 - 1.
 unfoldable pub number_in_file : ℕ → ℕ → ℕ
 number_in_file first index = min (first + index) 0xFFFF_FFFF_FFFF_FFFF
 
@@ -73,8 +73,9 @@ number_in_file first index = min (first + index) 0xFFFF_FFFF_FFFF_FFFF
 abbrev pub pes_line : ℕ → ℕ → List ℕ
 pes_line number pts = codes "pes " ++ decimal number ++ codes " pts " ++ decimal pts ++ codes "\n"
 
--- The line of a Teletext unit: its number in its PES packet from 0, data_unit_id, field_parity,
--- line_offset, and the packet's 42 bytes in the bit order of Teletext.
+-- The line of a Teletext unit: its number among the Teletext units of its PES packet, from 0;
+-- data_unit_id; the field, 1 or 2; line_offset; and the packet's 42 bytes in the bit order of
+-- Teletext.
 abbrev pub unit_line : ℕ → UnitValue → List ℕ
 unit_line number u = codes "unit " ++ decimal number ++ codes " id 0" ++ decimal u.id
     ++ codes " field " ++ decimal u.field ++ codes " line " ++ decimal u.line ++ codes " "

@@ -1,4 +1,4 @@
--- The complete output of a command, and its exit status.
+-- The output of a command, and its exit status.
 use Rattle.std.specs.Prelude.{◌≡◌, ◌≢◌, ◌⊎◌, ℕ, ◌+◌, ◌==◌, Bool, true, false, nat_le, List, ◌++◌}
 use Rattle.std.specs.Prelude.{drop, Option, Some, None, option_map, if◌then◌else◌}
 use Rattle.ttx_packet.specs.PacketAddress.{address, address_pair}
@@ -16,16 +16,17 @@ use Rattle.sub_listing.specs.declared.status.Status.{Status}
 use Rattle.sub_listing.specs.declared.status.Status.TheVariants.{Done, Refused, Fault}
 use Rattle.sub_listing.specs.declared.fault_line.FaultLine.{FaultLine}
 
--- The complete output of a command, and the exit status if all of it was printed.
+-- The output of a command, or the rest of it after earlier lines, and the exit status if all of it
+-- was printed.
 pub record Listing : Type 0 where
   pub text : List ℕ
   pub status : Status
 
--- The output of a successful command.
+-- The output of a successful command, or the rest of it.
 abbrev pub done : List ℕ → Listing
 done text = record { text = text; status = Done }
 
--- The output of a command that ends with the line of a fault.
+-- The line of a fault, with which the output of a command ends.
 abbrev pub fault_listing : FaultLine → Listing
 fault_listing t = record { text = text_of_fault_line t; status = status_of t.kind }
 
@@ -35,15 +36,15 @@ followed text more = record { text = text ++ more.text; status = more.status }
 
 -- ---- the listing of one Teletext packet
 
--- The listing of a page header, packet X/0 (EN 300 706): its address, its eight coded bytes and its
--- 32 text bytes; or a fault if the coded bytes can't be decoded.
+-- The listing of a page header, packet X/0 (EN 300 706): its address, the contents of its eight
+-- coded bytes, and its 32 text bytes; or a fault if the coded bytes can't be decoded.
 abbrev pub listing_of_header : ℕ → List ℕ → Option Header → Listing
 listing_of_header magazine packet None = fault_listing (packet_line BadHeader)
 listing_of_header magazine packet (Some h) =
     done (address_line magazine 0 ++ header_line h ++ text_line (drop 10 packet))
 
--- The listing of a packet X/1 to X/31 (EN 300 706). Rows 1 to 24 have 40 text bytes, and packets 25
--- to 31 have no text.
+-- The listing of a packet X/1 to X/31 (EN 300 706). Packets X/1 to X/24 are listed with their 40
+-- text bytes, and packets X/25 to X/31 only with their address.
 abbrev pub listing_of_other_packet : ℕ → ℕ → List ℕ → Listing
 listing_of_other_packet magazine packet_number packet = if nat_le packet_number 24
     then done (address_line magazine packet_number ++ text_line (drop 2 packet))
@@ -116,9 +117,9 @@ pub record PrintsListing
   pub cut : ending ≡ None → out.new_count ≢ out.old_count
   pub printed : PrintsOrFails out listing status
 
--- The next PES packet or subtitle was read, and `text` contains its lines. Either any listing of
--- the bytes after it, and there is at least one, may follow these lines; or the listing ends with
--- these lines.
+-- One step of a listing: `text` contains the lines of the next PES packet or subtitle, no line if
+-- the GSI block was read, or the last line. With `None`, any listing of the bytes after it, and
+-- there is at least one, may follow `text`; with a status, the listing ends with `text`.
 abbrev pub ListsNext : ListingRelation → ListingRelation
     → Option (List ℕ) → Option (List ℕ) → List ℕ → Option Status → Type 0
 ListsNext Before After known left text None =

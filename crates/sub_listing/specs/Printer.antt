@@ -8,8 +8,8 @@ use Rattle.sub_listing.specs.EventLines.{event_line, event_lines, max_fault_coun
 use Rattle.sub_listing.specs.EventLines.{fault_count_of_event, fault_count_of_events}
 
 -- The state of the printer: the contents of its sink, if they are known, and the number of the
--- sink's failed calls; the number of faults; whether the sink failed while printing; and the number
--- of the first PES packet in its file.
+-- sink's failed calls; the number of faults; whether the sink failed while the printer printed or
+-- flushed; and the number from which PES packets are counted.
 pub record PrinterValue : Type 0 where
   pub contents : Option (List ℕ)
   pub count : ℕ
@@ -48,8 +48,8 @@ pub record PrintsEvent (old : PrinterValue) (event : Event) (new : PrinterValue)
       new.failed ≡ true → AppendsPrefix old.contents new.contents (event_line old.first event)
   pub counts_failure : new.failed ≡ true → new.count ≡ old.count + 1
 
--- Several events were reported to a printer: all their lines were written, and the faults among
--- them were counted; or the sink failed once, and received a prefix of the lines.
+-- These events were reported to a printer: all their lines were written, and the faults among them
+-- were counted; or the sink failed once, and received a prefix of the lines.
 pub record PrintsEvents (old : PrinterValue) (events : List Event) (new : PrinterValue) : Type 0
   where
     pub keeps_first_number : new.first ≡ old.first
@@ -63,7 +63,8 @@ pub record PrintsEvents (old : PrinterValue) (events : List Event) (new : Printe
         → AppendsPrefix old.contents new.contents (event_lines old.first events)
     pub counts_failure : new.failed ≡ true → new.count ≡ old.count + 1
 
--- The printed lines remain after the printer was flushed. If flushing failed, the sink failed once.
+-- The printed lines remain after the printer was flushed. If the sink had not failed before and
+-- failed during the flush, it failed once.
 pub record StaysPrinted (old new : PrinterValue) : Type 0 where
   pub kept : Keeps old.contents new.contents
   pub fault_count : new.fault_count ≡ old.fault_count

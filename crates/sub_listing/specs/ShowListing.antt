@@ -18,9 +18,9 @@ use Rattle.sub_listing.specs.Listing.{ListingRelation, Lists, Listing, done, fol
 use Rattle.sub_listing.specs.Listing.{fault_listing}
 
 -- The outcome of reading the subtitles after the first `from` TTI blocks. At the end, only skipped
--- blocks remain. After a fault of the format, no subtitle file continues with the bytes that were
--- read; if the file ended too early, no subtitle file ends with them. If the source failed, the
--- fault names the block that was being read.
+-- blocks remain. After a fault of the format, no subtitle file continues there with the bytes that
+-- were read; if the file ended too early, no subtitle file ends there with them. If the source
+-- failed, the fault names the block that was being read.
 abbrev pub ReadsSubtitles : Bool → ℕ → Option (List ℕ) → Outcome → Option (List ℕ) → Type 0
 ReadsSubtitles failed from known ends left =
     (failed ≡ false) × (to : ℕ) × ConsumesSkippedBlocks from to known left
@@ -32,8 +32,9 @@ ReadsSubtitles failed from known (gives s block more) left =
     (following : Option (List ℕ)) × ConsumesSubtitle from block known following s
     × ReadsSubtitles failed block following more left
 
--- No GSI block was read: the source failed within the block, or no subtitle file begins with these
--- bytes; for a file that ends too early, no subtitle file consists of exactly these bytes.
+-- No GSI block of a file for Teletext was read: the source failed within the block, or no file for
+-- Teletext begins with these bytes; for a file that ends too early, no such file consists of
+-- exactly these bytes.
 pub record ReadsWithoutGsi (failed : Bool) (known : Option (List ℕ)) (outcome : Outcome)
     (left : Option (List ℕ)) : Type 0 where
   pub fault : StlFault
@@ -70,13 +71,14 @@ ListsFrom None count = Lists (subtitles_listing count) outcome_of_file ReadsFile
 ListsFrom (Some r) count =
     Lists (subtitles_listing count) (remaining_outcome r) (λ failed. ReadsSubtitles failed r.block)
 
--- Either the reader is not at the end of the file and has found no fault, or the GSI block was not
--- read yet.
+-- Either the reader has reported neither the end of the file nor a fault, and at most one subtitle
+-- for each block; or neither the GSI block nor a subtitle was read yet.
 abbrev pub IsReady : Option ReaderValue → ℕ → Type 0
 IsReady None count = count ≡ 0
 IsReady (Some r) count = (r.progress ≡ Reading) × (count ≤ r.block) × (r.block ≤ max_blocks)
 
--- The maximum number of blocks that the lister can still read.
+-- The maximum number of blocks, with the GSI block, that the lister can still count. A block beyond
+-- these is read, but not counted.
 abbrev pub blocks_left : Option ReaderValue → ℕ
 blocks_left None = max_blocks + 1
 blocks_left (Some r) = max_blocks - r.block

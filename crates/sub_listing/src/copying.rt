@@ -1,4 +1,4 @@
-//! Copies PES packets to a file, each as soon as it has arrived, and then any bytes that are not a
+//! Copies PES packets to a file, each as soon as it has arrived, and then any bytes after the last
 //! PES packet.
 ghost use Rattle.std.specs.Prelude.{◌≡◌, Err, IfOk, OnErr, OnOk, false, length, true};
 ghost use Rattle.std.specs.Io.KnownBytes.{Appends};
@@ -98,8 +98,7 @@ fn write_and_flush<F: Flush>(file: &mut F, bytes: &[u8]) -> Result<(), CopyFault
     }
 }
 
-/// Copies the next PES packet, if there is one, through the buffer `pes_packet`, and flushes the
-/// file.
+/// If there is a next PES packet, copies it through the buffer `pes_packet` and flushes the file.
 ///
 /// # Errors
 ///
@@ -144,8 +143,8 @@ pub fn copy_next<P: PesPackets, F: Flush>(
     }
 }
 
-/// Copies the remaining bytes, which do not begin with a PES packet, and flushes the file after
-/// each read that returns bytes. Reads at most 2^64 - 1 times.
+/// Copies the remaining bytes, such as those after `Rest`, and flushes the file after each read
+/// that returns bytes. Reads at most 2^64 - 1 times.
 ///
 /// # Errors
 ///

@@ -11,7 +11,7 @@ use sub_rules::FaultPlace;
 pub enum Kind {
     /// `refused`: the input is rejected.
     Refused,
-    /// `fault`: a device failed, memory ran out, or a file can't be opened.
+    /// `fault`: a device failed, memory ran out, or a file can't or must not be opened or created.
     Fault,
     /// `usage`: the arguments are invalid.
     Usage,
@@ -27,7 +27,7 @@ pub struct FaultLine {
     /// The place of the fault.
     pub place: FaultPlace,
     /// The number from which the PES packets of `place` are counted, such as the number, in its
-    /// file, of the first PES packet that is read.
+    /// file, of the first PES packet to read.
     pub first: u64,
 }
 

@@ -1,5 +1,5 @@
-//! Prints lines and reports of faults, and implements the commands that need no checker: they show
-//! a packet, list a file, or write a file.
+//! Prints lines and reports of faults, and implements the commands `packet`, `packets`, `show`,
+//! `schedule`, `normal`, `extract`, `--help` and `--version`.
 //!
 //! Uses `sub_request` and `sub_rules`. `sub_answer` passes each request to its command, and uses
 //! this crate to print the reports of the checker and of a receiver.

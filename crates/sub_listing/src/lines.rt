@@ -1,8 +1,8 @@
-//! Makes the lines that the program prints.
+//! Makes lines that the program prints.
 //!
-//! A line is made in memory and then written to a device at once. The functions `push_..` append to
-//! an `ArrayVec`. The constants below are upper bounds of the sizes of parts of lines, and of the
-//! line of a fault or of an event; the proofs show that none is longer.
+//! A line is made in memory before it is written to a device. The functions `push_..` append to an
+//! `ArrayVec`. The constants below are upper bounds of the sizes of parts of lines, and of the line
+//! of a fault or of an event; the proofs show that none is longer.
 ghost use Rattle.std.specs.Prelude.{◌≡◌, ◌+◌, ◌%◌, ◌≤◌, ◌<◌, ◌++◌, length, decimal};
 ghost use Rattle.arrayvec.specs.ArrayVec.{array_vec_len};
 ghost use Rattle.hex.specs.Hex.{encode_lower};
@@ -30,7 +30,7 @@ pub const NUMBER_CAPACITY: usize = 20;
 /// The maximum number of bytes of a subtitle's text in hexadecimal.
 pub const TEXT_DIGITS_CAPACITY: usize = 2016;
 
-/// The room in bytes for a fault's number and name: the number, a space, and at most 16 letters.
+/// The room in bytes for a fault's number and name: the number, a space, and at most 16 characters.
 const CODE_CAPACITY: usize = NUMBER_CAPACITY + 17;
 
 /// The room in bytes for a fault's place.
@@ -73,9 +73,8 @@ pub fn push_number<const N: usize>(line: &mut ArrayVec<u8, N>, word: &[u8], numb
     push_decimal(line, number);
 }
 
-/// Returns the number of a PES packet in its file, given its index among the PES packets that are
-/// read and the number `first` of the first of these. A number above 2^64 - 1 is returned as
-/// 2^64 - 1.
+/// Returns the number of a PES packet in its file, given its index counted from the PES packet with
+/// the number `first`. A number above 2^64 - 1 is returned as 2^64 - 1.
 #[tactic(auto, unfolding(crate::specs::Lines::number_in_file))]
 pub fn number_in_file(first: u64, index: u32) -> u64
     ensures { result ≡ number_in_file first index }
@@ -166,8 +165,8 @@ pub fn push_fault_line<const N: usize>(line: &mut ArrayVec<u8, N>, reported: &Fa
     push_text(line, b"\n");
 }
 
-/// Appends the line of an event: a fault, the end of a fault, skipped PES packets, or trusted
-/// frames. The first PES packet that is read has the number `first` in its file.
+/// Appends the line of an event: a fault, the end of a fault, the last of several skipped PES
+/// packets, or trusted frames. PES packets are counted from the number `first`.
 pub fn push_event<const N: usize>(line: &mut ArrayVec<u8, N>, event: Event, first: u64)
     requires { array_vec_len line.old + LINE_CAPACITY ≤ N }
     ensures { line.new.items ≡ line.old.items ++ event_line first event }
@@ -183,7 +182,8 @@ pub fn push_event<const N: usize>(line: &mut ArrayVec<u8, N>, event: Event, firs
     }
 }
 
-// Appends the line for the end of a fault: the rule was broken up to this frame.
+// Appends the line for the end of a fault: `frame` is the last frame at whose end the rule was
+// broken at the reported place.
 fn push_fault_end<const N: usize>(line: &mut ArrayVec<u8, N>, rule: EndRule, frame: u32)
     requires { array_vec_len line.old + LINE_CAPACITY ≤ N }
     ensures { line.new.items ≡ line.old.items ++ fault_end_line rule frame }
@@ -263,13 +263,12 @@ fn push_frame<const N: usize>(line: &mut ArrayVec<u8, N>, frame: u32)
     push_frame_time(line, frame);
 }
 
-// Appends the time of a frame of the day to a line. A number beyond the end of the day is counted
-// from the start of the next day.
+// Appends the time of a frame of the day to a line. The number is taken modulo the frames of a day.
 fn push_frame_time<const N: usize>(line: &mut ArrayVec<u8, N>, frame: u32)
     requires { array_vec_len line.old + 11 ≤ N }
     ensures items { line.new.items ≡ line.old.items ++ time_text (frame % day) }
     ensures len { array_vec_len line.new ≡ array_vec_len line.old + 11 }
 {
-    // A day has `MAX_PES_PACKETS` frames, one for each PES packet.
+    // A day has `MAX_PES_PACKETS` frames.
     push_time(line, TimeCode::of_frame(frame % MAX_PES_PACKETS));
 }

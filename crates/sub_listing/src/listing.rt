@@ -28,7 +28,7 @@ pub type Text = ArrayVec<u8, LINES_CAPACITY>;
 
 /// Makes the lines of an input, one PES packet or subtitle after another.
 pub trait Lister<I> {
-    /// The lister is not at the end of the input, and has found no fault.
+    /// The lister has reported neither the end of the input nor a fault.
     ghost ready: { Self → Type 0 };
 
     /// An upper bound of the number of PES packets or subtitles that the lister can still list.
@@ -44,7 +44,8 @@ pub trait Lister<I> {
     // The remaining bytes of the input, if they are known.
     ghost known: { I → Option (List ℕ) };
 
-    // The remaining bytes of the input's device, if they are known.
+    // The remaining bytes of the input, if they are known, perhaps without those that were read
+    // before a failure or `Rest`.
     ghost left: { I → Option (List ℕ) };
 
     // The number of failed calls of the input's device.
@@ -97,8 +98,8 @@ pub trait Lister<I> {
 
 /// Lists a file, one PES packet or subtitle after another.
 ///
-/// If the file is rejected, the lines printed before remain. Only one PES packet or subtitle is in
-/// memory at a time, and its lines are written at once.
+/// If the file is rejected, the lines printed before remain. The lines of each PES packet or
+/// subtitle are written before the next one is read.
 pub fn list<I, L: Lister<I>, K: Flush>(lister: &mut L, input: &mut I, out: &mut K) -> Status
     requires ready { L.ready lister.old }
     requires input { CanFail (L.failure_count input.old) }

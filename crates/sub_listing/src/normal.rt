@@ -37,7 +37,7 @@ pub enum InputFault {
 }
 
 /// Writes the normal form of a subtitle file (not defined by a standard), and prints the number of
-/// its subtitles, or the reason why the normal form was not written.
+/// its subtitles, or the reason why the complete normal form was not stored.
 ///
 /// The input is read to its end, or up to the limit after which bytes can't change the result,
 /// before anything is written. The line with the number is printed after the system has stored the

@@ -27,10 +27,10 @@ use ttx_pes::{
     Compared, ComparingReader, MAX_UNITS, NumberedPesPackets, PesPackets, Unit, flush_first,
 };
 
-/// Lists the PES packets of a file (EN 300 472), each with its number in the file, and then the
+/// Lists the PES packets of a source (EN 300 472), each with its number in its file, and then the
 /// number of listed packets, or the line of the fault that ends the listing.
 ///
-/// If the file is rejected, the lines printed before remain. Returns `Fault` if a device failed.
+/// If the source is rejected, the lines printed before remain. Returns `Fault` if a device failed.
 pub fn list_packets<P: NumberedPesPackets, K: Flush>(pes_packets: &mut P, out: &mut K) -> Status
     requires pes_packets { CanFail (P.failure_count pes_packets.old) }
     requires out { CanFail (K.failure_count out.old) }

@@ -21,13 +21,14 @@ use sub_rules::{CheckFault, Event};
 pub struct Printer<'a, K> {
     /// The sink to which the printer writes its lines.
     pub out: &'a mut K,
-    /// The number of faults so far, at most 2^64 - 1.
+    /// The number of faults whose lines were written, at most 2^64 - 1.
     pub fault_count: u64,
-    /// Whether the sink failed.
+    /// Whether the sink failed while the printer printed or flushed.
     pub failed: bool,
     /// Whether the sink's buffer may contain lines of the printer.
     pub pending: bool,
-    /// The number, in its file, of the first PES packet that is read, counted from 0.
+    /// The number from which the lines count PES packets, such as the number, in its file, of the
+    /// first PES packet to read.
     pub first: u64,
 }
 
@@ -36,7 +37,8 @@ impl<'a, K: Flush> Printer<'a, K> {
     ///
     /// # Errors
     ///
-    /// Returns `Stopped` if the sink fails, or has failed before.
+    /// Returns `Stopped` if the sink fails, if it failed in an earlier call of the printer, or if
+    /// it has failed 2^64 - 1 times.
     fn flush(&mut self) -> Result<(), Stopped>
         ensures same { self.new.out.ghost_name ≡ self.old.out.ghost_name }
         ensures lines { FlushesLines
@@ -200,7 +202,8 @@ impl<K: Flush> Live for Printer<'_, K> {
     ///
     /// # Errors
     ///
-    /// Returns `Stopped` if the sink fails, or has failed before.
+    /// Returns `Stopped` if the sink fails, if it failed in an earlier call of the printer, or if
+    /// it has failed 2^64 - 1 times.
     fn flush_pending(&mut self) -> Result<(), Stopped> {
         self.flush()
     }

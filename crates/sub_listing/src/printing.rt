@@ -10,7 +10,7 @@ use crate::lines::{Line, push_fault_line};
 use crate::status::Status;
 use sub_io::{Sink, put_all};
 
-/// Prints a text that is the complete output of a command, and returns `Done`.
+/// Prints the output of a successful command, or the rest of it, and returns `Done`.
 ///
 /// Returns `Fault` if the sink fails; it then received a prefix of the text.
 #[tactic(auto, unfolding(crate::specs::Listing::PrintsOrFails))]

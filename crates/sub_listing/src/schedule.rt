@@ -15,7 +15,8 @@ use sub_io::{Close, Sink, Source};
 use sub_plan::{Options, PlanFault, schedule};
 
 /// Writes the schedule of a subtitle file, one PES packet for each page transmission (EN 300 472),
-/// and prints the number of page transmissions, or the reason why the schedule was not written.
+/// and prints the number of page transmissions, or the reason why the complete schedule was not
+/// stored.
 ///
 /// The programme is loaded before anything is written, and the line with the number is printed
 /// after the system has stored the file. Returns `Fault` if a device failed or memory ran out.

@@ -9,8 +9,8 @@ pub enum Status {
     Done,
     /// Status 1: the input is rejected, and a line gives the reason.
     Refused,
-    /// Status 2: the arguments are invalid, a file cannot be opened, memory ran out, or a device
-    /// failed.
+    /// Status 2: the arguments are invalid, a file can't or must not be opened or created, memory
+    /// ran out, or a device failed.
     Fault,
 }
 

@@ -8,7 +8,7 @@ use crate::printing::print_done;
 use crate::status::Status;
 use sub_io::Sink;
 
-// The line that `--version` prints: the contents of the file VERSION.
+// The line that `--version` prints: the name of the program, and the version in the file VERSION.
 const VERSION: &[u8] = b"subttx 4.0.0\n";
 
 /// Prints the name and the version of the program.

@@ -1,4 +1,5 @@
-//! Runs the commands that write a file, and prints a line about the result.
+//! Runs the commands `schedule` and `normal`, which write a file, and prints a line about the
+//! result.
 ghost use Rattle.std.specs.Prelude.{◌≡◌, ◌≤◌, OnOk, length, true};
 ghost use Rattle.sub_io.specs.Device.{CountsFailureIf, failed};
 ghost use Rattle.sub_listing.specs.Writing.{EndsWithFileResult, is_file_failure, is_input_failure};
