@@ -64,15 +64,15 @@ drawing_of _ = drawing_by English default_layout
 
 -- ---- the answer of each command
 
--- The line and the exit status for an answer of `check`. The argument `first` is the number of the
--- first PES packet in its file.
+-- The line and the exit status for an answer of `check`. PES packets are counted from the number
+-- `first`.
 abbrev pub verdict : ℕ → Result Accepted CheckFault → Listing
 verdict first (Ok a) = done (accepted_line a)
 verdict first (Err f) = fault_listing (counted_from first (check_line f))
 
 -- The command `check` has one answer and prints its line. Unless a device failed or memory ran out,
--- the answer depends only on the bytes of both files. The argument `first` is the number of the
--- first PES packet in its file. `Untouched` means that no byte of the PES file was read.
+-- the answer depends only on the options and the bytes of both files. The argument `first` has the
+-- number of the first PES packet to read. `Untouched` means that no byte of the PES file was read.
 pub record AnswersCheck
     (drawing : Drawing) (options : OptionsValue) (stl pes : SourceCall) (first : FirstNumber)
     (Untouched : Type 0) (out : SinkCall) (status : Status)
@@ -98,10 +98,10 @@ pub record AnswersCheck
       IsStatusOfFiles drawing options stl pes out (PrintsMemory drawing stl.known out.old out.new)
       status
 
--- The output shows the state of a receiver after the frames of the PES file up to TIME, or the
--- fault. In a cell whose byte has even parity, the receiver stores the code that `leaves` returns
--- for the cell's old code, unless it drops the row. The argument `first` is the number of the first
--- PES packet in its file.
+-- The output is the state of a receiver after the frames of the PES file up to TIME, or the fault;
+-- if the sink failed, it is a prefix of this. In a cell whose byte has even parity, the receiver
+-- stores the code that `leaves` returns for the cell's old code, unless it drops the row. PES
+-- packets are counted from the number `first`.
 pub record PrintsReceived
     (leaves : ℕ → ℕ) (listening : Listening) (first : ℕ) (pes : SourceCall) (out : SinkCall)
     (status : Status)
@@ -121,8 +121,8 @@ pub record PrintsReceived
       × FailsListening listening pes.known pes.left f
       × PrintsOrFails out (fault_listing (counted_from first (listen_line f))) status
 
--- The command `listen` prints the state of the receiver, or the fault. The argument `first` is the
--- number of the first PES packet in its file.
+-- The command `listen` prints the state of the receiver, or the fault. The argument `first` has the
+-- number of the first PES packet to read.
 pub record AnswersListen
     (leaves : ℕ → ℕ) (listening : Listening) (pes : SourceCall) (first : FirstNumber)
     (out : SinkCall) (status : Status)
@@ -132,7 +132,7 @@ pub record AnswersListen
   pub starts : StartsAt first pes number
   pub heard : PrintsReceived leaves listening number pes out status
 
--- The bytes of an input before and after a call, and the number of its first PES packet in the
+-- The state of an input before and after a call, and the number of its first PES packet in the
 -- file.
 pub record InputCall : Type 0 where
   pub call : SourceCall
@@ -182,7 +182,8 @@ abbrev pub reads_plain_source : Request → Bool
 reads_plain_source request = reads_input (files_of_request request) && not
     (reads_pes_packets request)
 
--- The first input of the request, or the second input of a check, contains PES packets.
+-- The first input of the request contains PES packets that are listed, received or written, or the
+-- request is a check, whose second input contains PES packets.
 abbrev pub reads_any_pes_packets : Request → Bool
 reads_any_pes_packets request = reads_pes_packets request || reads_two_files
     (files_of_request request)
@@ -272,8 +273,9 @@ WritesBeforeRead (ask.Extract recording pes stream) FirstFails BuffersNothing = 
 WritesBeforeRead _ FirstFails BuffersNothing = ⊤
 
 -- A request was answered from a source and an input of PES packets. `Untouched` means that no byte
--- of the PES packets was read, `BuffersNothing` that the buffer of the output file is empty, and
--- `IsAlone` that everything except the line of a fault was flushed.
+-- of the PES packets was read, `BuffersNothing` that the buffer of the output file is empty if it
+-- was before, and `IsAlone` that everything before the line of a fault was flushed if the buffer of
+-- the output was empty before.
 pub record AnswersFromInputs
     (request : Request) (source pes_packets : InputCall) (Untouched : Type 0) (file out : SinkCall)
     (BuffersNothing IsAlone : Type 0) (status : Status)
@@ -281,13 +283,13 @@ pub record AnswersFromInputs
   -- The output and the output file, for each command.
   pub answers :
       Answers request (first_input request source pes_packets) pes_packets Untouched file out status
-  -- If the device of the recording failed, `extract` has left no bytes in the buffer of the output
-  -- file (`BuffersNothing`).
+  -- If the device of the recording failed, and the buffer of the output file was empty before,
+  -- `extract` has left no bytes in this buffer (`BuffersNothing`).
   pub written :
       WritesBeforeRead request (fails (first_input request source pes_packets)) BuffersNothing
-  -- If the device of the PES file or recording failed, `packets`, `survey` and `check --all` have
-  -- flushed all output before. So at most the line about the failure is still in the buffer
-  -- (`IsAlone`).
+  -- If the device of the PES file or recording failed, and the buffer of the output was empty
+  -- before, `packets`, `survey` and `check --all` have flushed everything before the line about the
+  -- failure (`IsAlone`).
   pub followed :
       FlushesBeforeRead request (fails (first_input request source pes_packets)) (fails pes_packets)
       IsAlone

@@ -74,9 +74,9 @@ pub record FlushesBuffer
       ((result ≡ status) × (new.buffered ≡ []) × (new.count ≡ old.count))
       ⊎ ((result ≡ Fault) × (new.count ≡ old.count + 1))
 
--- Everything before the line of a fault was flushed, and then only this line was written. The sink
--- is given by the functions for its contents, the bytes in its buffer and its number of failed
--- calls, and by the relation for its pushes.
+-- Everything before the line of a fault was flushed, and then only this line, or a prefix of it,
+-- was written. The sink is given by the functions for its contents, the bytes in its buffer and its
+-- number of failed calls, and by the relation for its pushes.
 pub record BuffersOneLineOnly
     {O : Type 0} (contents : O → Option (List ℕ)) (buffer_state : O → List ℕ)
     (failure_count : O → ℕ)
@@ -86,9 +86,9 @@ pub record BuffersOneLineOnly
   pub state_is : state ≡ state_of_sink contents buffer_state failure_count sink
   pub last : BuffersLastLineOnly contents (λ o. length (buffer_state o)) IsPush sink
 
--- Everything before the line of a fault was flushed, and then only this line was written to the
--- buffer. The sink behind the buffer is given by the functions for its contents and its number of
--- failed calls, and by the relation for its pushes.
+-- Everything before the line of a fault was flushed, and then only this line, or a prefix of it,
+-- was written to the buffered sink. The sink behind the buffer is given by the functions for its
+-- contents and its number of failed calls, and by the relation for its pushes.
 abbrev pub BufferHoldsOneLineOnly :
     {D : Type 0}
     → (D → Option (List ℕ)) → (D → ℕ) → (D → List ℕ → Option ℕ → D → Type 0) → BufferedSinkState
@@ -114,7 +114,7 @@ pub record FlushesWithFile
 
 -- A request was answered, and then the output was flushed. `IsFirst`, `IsSecond` and `IsFile`
 -- describe the two sources and the output file. `Untouched` means that no byte of the second source
--- was read, and `IsAlone` that everything except the line of a fault was flushed.
+-- was read, and `IsAlone` that everything before the line of a fault was flushed.
 pub record EndsWith
     (request : Request) (IsFirst IsSecond : InputCall → Type 0) (Untouched : Type 0)
     (IsFile : InputCall → SinkCall → Type 0) (IsAlone : BufferedSinkState → Type 0)
@@ -188,7 +188,7 @@ pub record ReadsPartOfFile
 
 -- An output file that was written through an initially empty buffer, and then closed in its state
 -- after the answer. If the run ends with `Done`, the buffer is empty, no call has failed, and the
--- file is stored.
+-- file is stored if the request writes a file.
 pub record WritesFile
     {O : Type 0} (contents : O → Option (List ℕ)) (failure_count : O → ℕ) (is_stored : O → Bool)
     (IsClose : O → O → Type 0) (request : Request) (result : Status) (file left : O)
@@ -252,8 +252,8 @@ IsSinkOf known IsClose request result (Some file) (Some left) =
 IsSinkOf known IsClose request result None None = IsEmptyFile
 IsSinkOf known IsClose request result created left = λ first call. ⊥
 
--- The files of a request: up to two input files, and an output file; and the part of the first
--- input file that is read.
+-- The files of a request: up to two input files and up to one output file; and the part of the
+-- first input file that is read.
 pub record Devices (I O : Type 0) : Type 0 where
   pub first : Option I
   pub part : Part
@@ -270,8 +270,8 @@ abbrev pub write_devices : {I O : Type 0} → Part → I → O → Devices I O
 write_devices part source file =
     record { first = Some source; part = part; second = None; file = Some file }
 
--- The opened files of a request. The argument `part` is for a first input file of PES packets; any
--- other first input file is read completely.
+-- The opened files of a request. The argument `part` is for a first input file that is no subtitle
+-- file; the part of a subtitle file is always the entire file.
 abbrev pub devices_of : {I O : Type 0} → Part → OpenedFiles I O → Devices I O
 devices_of part Nothing = sources entire_file None None
 devices_of part (ReadStl stl) = sources entire_file (Some stl) None
@@ -336,7 +336,7 @@ pub record EndsWithRelease
   pub ends : EndsOverFiles known IsClose request devices left IsAlone old new result
 
 -- The files that a request names were opened; the request was answered; the output was flushed; and
--- the files were released, in their states after the answer. No other calls were made.
+-- the files were released, in their states after the answer. No other file was opened or released.
 pub record Ends
     {I O : Type 0} (AreMade : List (FileCall I O) → Type 0) (known : FileObservations I O)
     (IsClose : O → O → Type 0) (request : Request) (IsAlone : BufferedSinkState → Type 0)

@@ -38,9 +38,10 @@ use Rattle.sub_listing.specs.FaultLine.{text_of_fault_line}
 use Rattle.sub_listing.specs.declared.status.Status.{Status}
 use Rattle.sub_listing.specs.declared.status.Status.TheVariants.{Fault}
 
--- The answer concerns the subtitle file: it could not be read, or memory ran out, or no
--- transmission can be checked against its reliable subtitles (`Ok None`), since there are none,
--- they overlap, or the file was not read to its end.
+-- The answer concerns only the subtitle file: the file could not be read, or memory ran out, or the
+-- PES file was not checked (`Ok None`), since a fault ended the reading of the subtitle file, or it
+-- has no reliable subtitle, or has one that starts before the TCO of an earlier one, or since the
+-- output failed before.
 abbrev pub concerns_subtitle_file : Result (Option Accepted) CheckFault → Bool
 concerns_subtitle_file (Ok None) = true
 concerns_subtitle_file (Ok (Some a)) = false
@@ -57,8 +58,8 @@ ListsFaultsBefore drawing file events block Memory =
     (findings_within_scope drawing.scope file)
 ListsFaultsBefore drawing file events block kind = ⊥
 
--- The events of the PES file: the events of all its PES packets, whose frames are counted; or, if
--- its source failed, the events of the PES packets before the failure.
+-- The events of the PES file: all events of its PES packets and of its end, and the counts of its
+-- frames; or, if its source failed, the events of the PES packets before the failure.
 abbrev pub ListsPesEvents :
     JudgedValue → OptionsValue → List ℕ → List Event → Result Accepted ℕ → Type 0
 ListsPesEvents judged options bytes events (Ok a) =
@@ -79,9 +80,9 @@ pub record ListsBothFiles
   pub both : events ≡ subtitle_events (faults drawing file) ++ more
   pub listed : IfKnown pes (λ bytes. ListsPesEvents judged options bytes more answer)
 
--- The events of both files: all faults of the subtitle file, and then, if the PES file can be
--- checked against it, all events of the PES file. If a source failed or memory ran out, only the
--- events before that.
+-- The events of both files: all faults of the subtitle file, and then, if the PES file was checked
+-- against it, all events of the PES file. If a source failed or memory ran out, only the events
+-- before that.
 abbrev pub ListsAllEvents :
     Drawing → OptionsValue → List ℕ → Option (List ℕ) → List Event
     → Result (Option Accepted) CheckFault → Type 0
@@ -111,9 +112,8 @@ IsCheckAnswer programme options bytes answer =
     IsCheckedBy programme options bytes answer
     × (IsFalse options.keeps → options.within ≡ 0 → IsChecked programme options bytes answer)
 
--- If the subtitle file has no fault and the PES file was read completely, the first fault among the
--- events determines the answer of `check`, which is correct for the bytes of both files
--- (`IsCheckAnswer`).
+-- If the subtitle file has no fault and the answer has counts, the answer of `check` that follows
+-- from the events and these counts is correct for the bytes of both files (`IsCheckAnswer`).
 abbrev pub FitsCheckAnswer :
     Drawing → OptionsValue → List ℕ → List ℕ → List Event → Result (Option Accepted) CheckFault
     → Type 0
@@ -134,13 +134,14 @@ PrintsMemoryLast drawing known old new =
     × Appends old new (event_lines first events ++ text_of_fault_line (load_line Memory block))
     × IfKnown known (λ file. ListsFaultsBefore drawing file events block Memory)
 
--- The answer after the PES file was read completely, or after its source failed at PES packet `n`.
+-- The answer after a check of the PES file with the counts `a`, or after its source failed at PES
+-- packet `n`.
 abbrev pub read_answer : Result Accepted ℕ → Result (Option Accepted) CheckFault
 read_answer (Ok a) = Ok (Some a)
 read_answer (Err n) = Err (Pes n Read)
 
--- The events of the PES file were reported to a printer. The answer is `given`, unless the
--- printer's sink failed.
+-- The events of the PES file, or those of the PES packets before its source failed, were reported
+-- to a printer. The answer is `given`, unless the printer's sink failed.
 pub record ReportsPes
     (judged : JudgedValue) (options : OptionsValue) (pes : SourceCall) (first : FirstNumber)
     (old new : PrinterValue) (given : Result (Option Accepted) CheckFault)
@@ -154,8 +155,8 @@ pub record ReportsPes
   pub count : CountRisesIf pes.old_count (is_err answer) pes.new_count
   pub read : (n : ℕ) → answer ≡ Err n → FailsAtPesPacket n pes.known pes.left
   pub cut : new.failed ≡ true → IsOk answer
-  -- If all subtitles are reliable, the first fault among the events determines the answer of
-  -- `check`.
+  -- If neither the source nor the printer's sink failed and all subtitles are reliable, the first
+  -- fault among the events or, if there is none, the counts are the answer of `check`.
   pub checked :
       new.failed ≡ false
       → IfKnown pes.known (λ bytes.
@@ -175,8 +176,8 @@ ReportsBothSources stl pes Untouched answer =
     pes.left)
     Untouched (concerns_subtitle_file answer) stl pes answer
 
--- The events of both files were reported to a printer. The answer is `given`, unless the printer's
--- sink failed.
+-- The events that `ListsAllEvents` specifies were reported to a printer. The answer is `given`,
+-- unless the printer's sink failed.
 pub record ReportsBoth
     (drawing : Drawing) (options : OptionsValue) (stl pes : SourceCall) (first : FirstNumber)
     (Untouched : Type 0) (old new : PrinterValue) (given : Result (Option Accepted) CheckFault)
@@ -202,8 +203,8 @@ pub record ReportsBoth
       IfKnown stl.known (λ file. ListsAllEvents drawing options file pes.known events answer)
 
 -- The command `check --all` prints events and has one answer; unless a device failed or memory ran
--- out, both depend only on the bytes of the two files. The argument `first` is the number of the
--- first PES packet in its file. `Untouched` means that no byte of the PES file was read.
+-- out, both depend only on the options and the bytes of the two files. The argument `first` has the
+-- number of the first PES packet to read. `Untouched` means that no byte of the PES file was read.
 pub record AnswersCheckAll
     (drawing : Drawing) (options : OptionsValue) (stl pes : SourceCall) (first : FirstNumber)
     (Untouched : Type 0) (out : SinkCall) (status : Status)
@@ -217,7 +218,8 @@ pub record AnswersCheckAll
   -- of them.
   pub printed : PrintsOrFails out (check_all_listing number events answer) status
   pub sources : ReportsBothSources stl pes Untouched answer
-  -- If the bytes of the files are known, they determine the events.
+  -- If the bytes of the files are known, they determine the events up to a failure of a source or
+  -- a lack of memory.
   pub listed :
       IfKnown stl.known (λ file. ListsAllEvents drawing options file pes.known events answer)
   -- Unless a device failed or memory ran out, the PES file is left unread only if it can't be
@@ -227,7 +229,7 @@ pub record AnswersCheckAll
       → answer ≡ Ok None
       → IfKnown stl.known (λ file. can_judge drawing file ≡ false)
   -- Unless a device failed, memory ran out or the subtitle file has a fault, the answer of `check`,
-  -- which follows from the events, is correct for the bytes of both files.
+  -- which follows from the events and the counts, is correct for the bytes of both files.
   pub checked :
       status ≢ Fault
       → IfKnown stl.known (λ file.

@@ -1,5 +1,5 @@
--- The output of `check --all`: a line for each event, and a last line. The argument `first` is the
--- number of the first PES packet that is read, in its file.
+-- The output of `check --all`: a line for each event, and a last line. PES packets are counted from
+-- the number `first`.
 use Rattle.std.specs.Prelude.{ℕ, ◌==◌, min, List, ◌++◌, codes, decimal, Option, Some, None}
 use Rattle.std.specs.Prelude.{Result, Ok, Err, if◌then◌else◌}
 use Rattle.sub_checker.specs.declared.accepted.Accepted.{Accepted}
@@ -21,9 +21,9 @@ accepted_line a = codes "accepted " ++ decimal a.frames ++ codes " frames "
 abbrev pub fault_count_listing : ℕ → Listing
 fault_count_listing n = record { text = decimal n ++ codes " faults\n"; status = Refused }
 
--- The last line after `refused` faults: the line about a failed device or a lack of memory;
+-- The last line after `refused` faults: the line about a failed source or a lack of memory;
 -- otherwise the number of faults or, if there are none and the PES file was checked, the line of
--- the accepted transmission. `None` means that the PES file can't be checked.
+-- the accepted transmission. `None` means that the PES file was not checked.
 abbrev pub last_listing : ℕ → ℕ → Result (Option Accepted) CheckFault → Listing
 last_listing first refused (Err f) = fault_listing (counted_from first (check_line f))
 last_listing first refused (Ok None) = fault_count_listing refused

@@ -32,8 +32,8 @@ DecidesAccepted (ask.Check stl pes options national layout scope all) files stat
 DecidesAccepted _ files status = ⊤
 
 -- If `open_and_answer` answered a `check` with files in memory, the status is `Done` exactly if
--- their bytes are accepted, unless the output failed or memory ran out. This is true for any
--- standard output. So the clauses about the bytes of files are not empty.
+-- their selected bytes are accepted, unless the output failed or memory ran out. This is true for
+-- any standard output. So the clauses about the bytes of files are not empty.
 abbrev pub LawOfFilesInMemory : (BufferedSinkState → Type 0) → Type 0
 LawOfFilesInMemory IsAlone =
     (request : Request) (before after : MemFilesValue) (old new : BufferedSinkState)

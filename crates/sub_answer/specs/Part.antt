@@ -23,8 +23,9 @@ part_requested (ask.Listen pes listening) = record { stream = pes.stream; range 
 part_requested (ask.Extract recording pes stream) = record { stream = Some stream; range = None }
 part_requested _ = entire_file
 
--- The bytes of the complete PES packets that the selected transport packets carry, with gap markers
--- where data is missing; or the bytes of the file if no transport packets are selected.
+-- The bytes that the selected transport packets carry, with gap markers, as `carried_bytes`
+-- specifies; or the bytes of the file if no transport packets are selected. `None` if the bytes of
+-- the file are not known.
 abbrev pub carried_bytes_if_stream : Option TransportStream → Option (List ℕ) → Option (List ℕ)
 carried_bytes_if_stream None known_bytes = known_bytes
 carried_bytes_if_stream (Some s) known_bytes = option_map
@@ -35,8 +36,9 @@ abbrev pub bytes_in_range : Option PesPacketRangeValue → Option (List ℕ) →
 bytes_in_range None known_bytes = known_bytes
 bytes_in_range (Some r) known_bytes = option_map (range_bytes r) known_bytes
 
--- The number of the first selected PES packet in the file or the stream; the number of PES packets
--- if there are fewer; `None` if a range is selected and the bytes are not known.
+-- The number of the first selected PES packet in the file or the stream or, if there is no such
+-- packet, the number of PES packets with which the file or the stream begins. `None` if a range is
+-- selected and the bytes are not known.
 abbrev pub first_number_in_range : Option PesPacketRangeValue → Option (List ℕ) → Option ℕ
 first_number_in_range None known_bytes = Some 0
 first_number_in_range (Some r) known_bytes = option_map (first_index r) known_bytes

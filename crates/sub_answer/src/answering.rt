@@ -1,7 +1,7 @@
 //! Passes a request to its command, and prints the line about invalid arguments.
 //!
-//! `sub_listing` implements the commands that need no checker. The files in `answering/` implement
-//! the other commands.
+//! The files in `answering/` implement `check`, `listen` and `survey`; `sub_listing` implements the
+//! other commands.
 
 mod check;
 mod check_all;
@@ -43,9 +43,9 @@ use ttx_pes::{FilePesPackets, NumberedPesPackets};
 ///
 /// `first` is the subtitle file or the only input, `second` the PES file of a check, `file` the
 /// output file, and `out` standard output. PES packets are read from the start of a file of PES
-/// packets; a PID or a range that the request gives for them has no effect. Devices that the
-/// request does not name are not used. Returns `Fault` if a device failed or memory ran out;
-/// everything printed before remains.
+/// packets; a PID or a range that the request gives for them has no effect. Of `first`, `second`
+/// and `file`, those that the request does not need are not used. Returns `Fault` if a device
+/// failed or memory ran out; everything printed before remains.
 pub fn answer<S: Source, T: Source, F: Close, K: Flush>(
     alloc: Global,
     request: &Request<'_>,
@@ -67,7 +67,7 @@ pub fn answer<S: Source, T: Source, F: Close, K: Flush>(
         (sink_call F.contents F.failure_count file.old file.new)
         (sink_call K.contents K.failure_count out.old out.new) result }
 
-    // Devices that the request does not name are unchanged.
+    // Inputs and output files that the request does not need are unchanged.
     ensures first { reads_input (files_of_request request.now) ≡ false → first.new ≡ first.old }
     ensures second { reads_two_files (files_of_request request.now) ≡ false → second.new ≡
         second.old }
@@ -118,11 +118,12 @@ pub fn reads_pes_packets(request: &Request<'_>) -> bool
     }
 }
 
-/// Answers a request that `Request::parse` returned, with the PES packets that the request selects.
+/// Answers a request that `Request::parse` returned, with the PES packets that `pes` reads.
 ///
 /// `first` is the subtitle file or the surveyed recording, and `pes` reads the PES packets that are
-/// listed, received, checked or written. Devices that the request does not name are not used.
-/// Returns `Fault` if a device failed or memory ran out; everything printed before remains.
+/// listed, received, checked or written; the caller selects them. Of `first`, `pes` and `file`,
+/// those that the request does not need are not used. Returns `Fault` if a device failed or memory
+/// ran out; everything printed before remains.
 pub fn answer_from_inputs<S: Source, P: NumberedPesPackets, F: Close, K: Flush>(
     alloc: Global,
     request: &Request<'_>,
@@ -148,7 +149,7 @@ pub fn answer_from_inputs<S: Source, P: NumberedPesPackets, F: Close, K: Flush>(
         (K.buffered out.old ≡ 0 → BuffersLastLineOnly K.contents K.buffered K.is_push out.new)
         result }
 
-    // Devices that the request does not name are unchanged.
+    // Inputs and output files that the request does not need are unchanged.
     ensures first { reads_plain_source request.now ≡ false → first.new ≡ first.old }
     ensures pes { reads_any_pes_packets request.now ≡ false → pes.new ≡ pes.old }
     ensures device { P.device pes.new ≡ P.device pes.old }
@@ -210,8 +211,8 @@ fn drawing_of(request: &Request<'_>) -> Drawing
     }
 }
 
-/// Prints the line about invalid arguments, a lack of memory or a file that can't be opened, and
-/// returns `Fault`.
+/// Prints the line about invalid arguments, a lack of memory, or a file that can't or must not be
+/// opened or created, and returns `Fault`.
 ///
 /// If `out` fails, it received a prefix of the line.
 pub fn print_usage_fault<K: Sink>(fault: &UsageFault, out: &mut K) -> Status

@@ -1,5 +1,5 @@
 //! Answers a request, closes the output file, and then flushes the output. If there is no request,
-//! prints the fault.
+//! or its files can't be opened, prints the fault.
 //!
 //! Each kind of request has a function, which passes empty devices for the files that the request
 //! does not name.
@@ -38,7 +38,8 @@ pub fn answer_without_input<K: Sink>(
     answer_both_inputs(alloc, request, &mut first, &mut pes, out)
 }
 
-/// Answers a request that reads a source, and the PES packets of another source.
+/// Answers a request that may read a source and the PES packets of another source, and writes no
+/// file.
 pub fn answer_both_inputs<S: Source, P: NumberedPesPackets, K: Sink>(
     alloc: Global,
     request: &Request<'_>,
@@ -135,7 +136,8 @@ pub fn answer_pes_packets<P: NumberedPesPackets, F: Close, O: FlushPending<F>>(
 // Answers a request with these devices, closes the output file, and then flushes the output.
 //
 // If the status is `Done`, the buffers of the file and of the output are empty, and no call of
-// either sink has failed: the devices have received all bytes, and the output file is stored.
+// either sink has failed: the devices have received all bytes. If the request writes a file, this
+// file is stored then.
 fn answer_and_flush<S: Source, P: NumberedPesPackets, F: Close, O: FlushPending<F>>(
     alloc: Global,
     request: &Request<'_>,
@@ -174,8 +176,8 @@ fn answer_and_flush<S: Source, P: NumberedPesPackets, F: Close, O: FlushPending<
     out.flush_pending(status, file)
 }
 
-/// Prints and flushes the line about invalid arguments, a lack of memory or a file that can't be
-/// opened, and returns `Fault`.
+/// Prints and flushes the line about invalid arguments, a lack of memory, or a file that can't or
+/// must not be opened or created, and returns `Fault`.
 pub fn print_and_flush_usage_fault<K: Sink>(
     fault: &UsageFault,
     out: &mut BufferedSink<'_, K>,

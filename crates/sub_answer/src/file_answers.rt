@@ -31,8 +31,8 @@ use sub_request::{Request, UsageFault};
 /// # Errors
 ///
 /// Returns `Memory` if memory runs out before a file is opened, and `Open` if a file can't be
-/// opened or created, or if the output might overwrite another file. In both cases nothing is
-/// printed.
+/// opened or created, or if creating the output might empty the input or is known to empty the file
+/// that receives standard output. In both cases nothing is printed.
 pub fn open_and_answer<D: FileSystem, K: Sink>(
     alloc: Global,
     files: &mut D,
@@ -155,7 +155,7 @@ fn answer_one_file<D: FileSystem, K: Sink>(
     status
 }
 
-// Answers a request that reads a subtitle file and a file of PES packets.
+// Answers a request that reads a subtitle file, and a file of PES packets or a transport stream.
 fn answer_with_both_files<D: FileSystem, K: Sink>(
     alloc: Global,
     files: &mut D,

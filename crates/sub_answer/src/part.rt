@@ -11,12 +11,12 @@ pub struct Part {
     /// The PID and packet size of the transport packets that carry the PES packets; `None` if the
     /// bytes of the file itself are read.
     pub stream: Option<TransportStream>,
-    /// The selected PES packets, by their numbers in the file; `None` for all.
+    /// The selected PES packets, by their numbers in the file or the stream; `None` for all.
     pub range: Option<PesPacketRange>,
 }
 
-/// Returns the part of its PES file or recording that a request reads. Any other file is read
-/// completely.
+/// Returns the part of its PES file or recording that a request reads: the complete file if the
+/// request selects no part.
 pub fn part_requested(request: &Request<'_>) -> Part
     ensures { result ≡ specs.part_requested request.now }
 {

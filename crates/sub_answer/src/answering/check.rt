@@ -30,7 +30,7 @@ use ttx_pes::{NumberedPesPackets, PesFault};
 
 /// Checks a PES file against a subtitle file, and prints the line of the verdict.
 ///
-/// `stl` is read to its end before any byte of `pes`, and `pes` is not read if `stl` is rejected.
+/// No byte of `pes` is read before `stl` was read to its end, or if `stl` is rejected.
 /// Returns `Done` if the files are accepted, and prints the number of frames from the first to the
 /// last frame of the PES file and the number of headers of the page. Returns `Refused` and prints
 /// the first fault if the files are rejected, and `Fault` if a device failed or memory ran out.
@@ -62,7 +62,7 @@ pub fn print_verdict<S: Source, P: NumberedPesPackets, K: Sink>(
     print_answer(answer.first, answer.result, out)
 }
 
-/// The answer of a check, and the number of the first PES packet in its file; 0 if the subtitle
+/// The answer of a check, and the number from which its PES packets are counted; 0 if the subtitle
 /// file was not loaded.
 #[derive(Clone, Copy)]
 struct Answer {
@@ -153,8 +153,7 @@ fn check_from<P: NumberedPesPackets>(
     }
 }
 
-// Prints the line of an answer. The argument `first` is the number of the first PES packet in its
-// file.
+// Prints the line of an answer. PES packets are counted from the number `first`.
 fn print_answer<K: Sink>(first: u64, answer: Result<Accepted, CheckFault>, out: &mut K) -> Status
     requires { CanFail (K.failure_count out.old) }
     ensures printed { PrintsOrFails (sink_call K.contents K.failure_count out.old out.new)

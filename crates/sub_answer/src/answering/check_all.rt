@@ -1,4 +1,4 @@
-//! `check STL PES --all`: prints every fault of a subtitle file, and then of a PES file.
+//! `check STL PES --all`: prints the faults of a subtitle file, and then the events of a PES file.
 ghost use Rattle.std.specs.Prelude.{◌≡◌, ◌<◌, ◌≤◌, IfErr, OnOk, false, is_err, true};
 ghost use Rattle.sub_io.specs.Device.{CountsFailureIf, failed};
 ghost use Rattle.sub_io.specs.Flushing.{BuffersOnlyWhilePending, KeepsReports};
@@ -26,11 +26,11 @@ use sub_listing::{
 use sub_plan::Options;
 use ttx_pes::{NumberedPesPackets, PesFault};
 
-/// Checks a PES file against a subtitle file. Prints a line for each fault as soon as it is found,
-/// and a line for the last frame at whose end a reported rule is broken, for the last of
-/// consecutive skipped PES packets with the same fault, and for each run of trusted frames. The
-/// faults of the subtitle file are first. The last line is the number of faults, the line of an
-/// accepted transmission, or the line about a failed device or a lack of memory.
+/// Checks a PES file against a subtitle file. Prints a line for each event as soon as it is found:
+/// a fault, the last frame at whose end a reported rule is broken, the last of several consecutive
+/// PES packets that are skipped because of the same fault, or trusted frames. The faults of the
+/// subtitle file are first. The last line is the number of faults, the line of an accepted
+/// transmission, or the line about a failed source or a lack of memory.
 ///
 /// If the subtitle file has faults, the PES file is compared with the reliable subtitles; `pes` is
 /// not read if this is impossible. Returns `Done` if the files are accepted, `Refused` if there is
@@ -191,8 +191,8 @@ fn report_transmission<P: NumberedPesPackets, K: Flush>(
     }
 }
 
-// Prints the last line after `fault_count` faults, and returns the status. The argument `first` is
-// the number of the first PES packet in its file.
+// Prints the last line after `fault_count` faults, and returns the status. PES packets are counted
+// from the number `first`.
 fn print_end<K: Sink>(
     first: u64,
     fault_count: u64,

@@ -18,13 +18,13 @@ use sub_rules::FaultPlace;
 use ttx_page::{Blank, Keep, Page, Receiver};
 use ttx_pes::{NumberedPesPackets, PesPackets};
 
-/// Runs the requested receiver over the PES packets of a file up to TIME, and prints its page, or
-/// the reason why the file is rejected.
+/// Runs the requested receiver over the PES packets of a file up to TIME, and prints its state, or
+/// the line of a fault.
 ///
 /// The receiver is tuned to the page while it has an old page with 3F in every cell. Nothing is
-/// printed before the last packet was received. If complete pages are required, the output is the
-/// receiver's screen, which shows a page after a header of another page has ended it. Otherwise the
-/// receiver has no screen.
+/// printed before reception has ended. If complete pages are required, the printed page is that of
+/// the receiver's screen, which shows a page after a header of another page has ended it. Otherwise
+/// the screen is not used.
 pub fn print_listening<P: NumberedPesPackets, K: Sink>(
     pes: &mut P,
     listening: &Listening,
@@ -59,7 +59,7 @@ pub fn print_listening<P: NumberedPesPackets, K: Sink>(
     }
 }
 
-// Runs a receiver of type `R`, and prints its state.
+// Runs a receiver of type `R`, and prints its state, or the line of a fault.
 fn print_state_of<R: Receiver + Drop, P: NumberedPesPackets, K: Sink>(
     pes: &mut P,
     listening: &Listening,
@@ -84,8 +84,8 @@ fn print_state_of<R: Receiver + Drop, P: NumberedPesPackets, K: Sink>(
     }
 }
 
-// Runs a receiver from the first PES packet, which has the number `first` in its file, and prints
-// the receiver's state.
+// Runs a receiver over the PES packets, which are counted from the number `first`, and prints the
+// receiver's state, or the line of a fault.
 fn print_received<R: Receiver + Drop, P: PesPackets, K: Sink>(
     pes: &mut P,
     first: u64,
