@@ -40,7 +40,8 @@ between least most (Some n) = if nat_le least n && nat_le n most then Some n els
 
 -- The arguments `[--page P] [--origin T] [--complete]` as options with a repeat bound of 1 to
 -- 2,160,000 frames (a day) and a PTS of 33 bits, or the first fault if the page is invalid, or a
--- number is missing or out of range. `complete` is not set for a command without this flag.
+-- number is missing, invalid or out of range. `asks_complete` is false for a command without this
+-- flag.
 abbrev pub options_of : Option ℕ → List Row → Result OptionsValue UsageFault
 options_of every rows = do
   page ← ok_or (page_of_text (argument (codes "page") rows)) fault.BadPage
@@ -59,14 +60,15 @@ options_of every rows = do
       })
 
 -- The argument `[--within N]` as an option: the page must be right within N frames. The fault is
--- `Within` if N is not 0 to 50.
+-- `Within` unless N is a number (`number_of_text`) from 0 to 50.
 abbrev pub with_within_value : OptionsValue → List Row → Result OptionsValue UsageFault
 with_within_value options rows = do
   frames ← ok_or (between 0 50 (number_of_text (argument (codes "within") rows))) fault.Within
   Ok (record options { within = frames })
 
 -- The argument `[--pace K]` as an option: the maximum distance of PES packets, in frames. The fault
--- is `Pace` if K is not 1 to 2,160,000. Without the argument the options do not change.
+-- is `Pace` unless K is a number (`number_of_text`) from 1 to 2,160,000. Without the argument the
+-- options do not change.
 abbrev pub options_with_pace : OptionsValue → List Row → Result OptionsValue UsageFault
 options_with_pace options rows =
     option_map_or
@@ -91,8 +93,8 @@ layout_of rows =
     ok_or (option_map_or layout_of_text (first_of (codes "layout") rows) (Some default_layout))
     fault.BadLayout
 
--- The value of an optional argument: `Some None` if the user left the argument out, `None` if its
--- text is invalid.
+-- The value of an optional argument without a default: `Some None` if the user left the argument
+-- out, `None` if its text is invalid.
 abbrev pub parsed_if_present : {A : Type 0} → (Text → Option A) → Text → List Row → Option
     (Option A)
 parsed_if_present parsed id rows =
@@ -117,7 +119,7 @@ packet_size_of rows =
     ok_or (packet_size_of_text (argument (codes "packet-size") rows)) fault.PacketSize
 
 -- The arguments `[--pid P] [--packet-size S]` as a transport stream. Without a PID the file is no
--- transport stream; the packet size is still checked, but has no effect.
+-- transport stream, and a valid packet size has no effect; an invalid one is still a fault.
 abbrev pub stream_of : List Row → Result (Option TransportStream) UsageFault
 stream_of rows = do
   pid ← ok_or (parsed_if_present pid_of_text (codes "pid") rows) fault.Pid
@@ -141,8 +143,8 @@ abbrev pub survey_pages_of_texts : List Text → Option (List (Option PageIdValu
 survey_pages_of_texts texts =
     option_and_then survey_pages (list_after_texts page_of_text is_same_page [] texts)
 
--- The pages of the arguments `[--page P]..`, or of the option's default; `None` if a page is
--- invalid or given twice, or if there are more than eight pages.
+-- The pages of the arguments `[--page P]..`, or of the option's default; `None` without both, if a
+-- page is invalid or given twice, or if there are more than eight pages.
 abbrev pub survey_pages_of : List Row → Option (List (Option PageIdValue))
 survey_pages_of rows = option_and_then survey_pages_of_texts (all_of (codes "page") rows)
 
@@ -162,7 +164,7 @@ abbrev pub range_of_arguments : List Row → Result (Option PesPacketRangeValue)
 range_of_arguments rows = ok_or (parsed_if_present range_of_text (codes "pes") rows) fault.Range
 
 -- The PES packets to read: the name of a file; the PID and packet size, if the file is a transport
--- stream; and the range of packets, if it is limited.
+-- stream; and the range of packets, if the user gives one.
 pub record PesSelectionValue : Type 0 where
   pub name : Text
   pub stream : Option TransportStream

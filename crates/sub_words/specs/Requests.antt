@@ -158,8 +158,8 @@ survey_request rows = do
   options ← survey_options_of pages rows
   Ok (Survey (argument (codes "recording") rows) options)
 
--- The request of a command, given its name and the values of its arguments. The last case is
--- `survey`, since `clap` accepts no other name.
+-- The request of a command or the first fault of its arguments, given the command's name and the
+-- values of its arguments. The last case is `survey`, since `clap` accepts no other name.
 abbrev pub command_request : Text → List Row → Result Requested UsageFault
 command_request name rows =
     if bytes_eq name (codes "packet") then packet_request rows
@@ -188,7 +188,8 @@ IsReadExactly requested result =
     MatchResult result (λ r. requested ≡ Ok (value_of_request r))
     (λ fault. (requested ≡ Err fault) × (is_found_after_clap fault ≡ true))
 
--- The fault is the fault of the arguments; or memory ran out before the fault was known.
+-- The fault is the fault of the arguments, or `Memory`: memory ran out before the request or the
+-- fault was known.
 abbrev pub IsExpectedFault : Result Requested UsageFault → UsageFault → Type 0
 IsExpectedFault requested fault.Memory = ⊤
 IsExpectedFault requested fault = (requested ≡ Err fault) × (is_found_after_clap fault ≡ true)

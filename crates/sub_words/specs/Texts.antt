@@ -89,7 +89,7 @@ two_digits_at text place =
     then Some (10 * (tens - 0x30) + (units - 0x30))
     else None
 
--- The text has eleven characters, with colons at the places 2, 5 and 8.
+-- The text has eleven bytes, with colons at the places 2, 5 and 8.
 abbrev pub has_colons : List ℕ → Bool
 has_colons text =
     (length text == 11)

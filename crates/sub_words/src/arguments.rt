@@ -27,7 +27,7 @@ use sub_request::{PesSelection, TransportStream, UsageFault};
 use ttx_packet::PageId;
 use ttx_pes::PesPacketRange;
 
-/// Returns the text of an option, or `None` if the user left it out and it has no default.
+/// Returns the text of an argument, or `None` if the user left it out and it has no default.
 #[tactic(auto, using(crate::proofs::CommandLemmas::values))]
 pub fn argument_at<'a>(matches: &ArgMatches<'a>, id: &str) -> Option<&'a str>
     ensures { option_map (λ text. text.now) result
@@ -52,7 +52,7 @@ pub fn flag_at<'a>(matches: &ArgMatches<'a>, id: &str) -> bool
 }
 
 /// Returns the options with this repeat bound, and with the page, the PTS of frame 0 and the flag
-/// for complete pages from the arguments. A missing number counts as out of range.
+/// for complete pages from the arguments. A missing or invalid number counts as out of range.
 ///
 /// # Errors
 ///
@@ -71,8 +71,8 @@ pub fn options_at<'a>(matches: &ArgMatches<'a>, every: Option<u64>) -> Result<Op
     }
 }
 
-/// Returns the options with the number of frames of `--within`. A missing number counts as out of
-/// range.
+/// Returns the options with the number of frames of `--within`. A missing or invalid number counts
+/// as out of range.
 ///
 /// # Errors
 ///
@@ -199,8 +199,9 @@ pub fn packet_size_at<'a>(matches: &ArgMatches<'a>) -> Result<PacketSize, UsageF
     parse_packet_size(text_at(matches, "packet-size")).ok_or(UsageFault::PacketSize)
 }
 
-// Returns the transport stream with the PID of `--pid`, or `None` without `--pid`, in which case
-// the packet size has no effect. The faults are `Pid` and `PacketSize`, in this order.
+// Returns the transport stream with the PID of `--pid` and the size of `--packet-size`, or `None`
+// without `--pid`. The faults are `Pid` and `PacketSize`, in this order; an invalid packet size is
+// a fault even without `--pid`.
 fn stream_at<'a>(matches: &ArgMatches<'a>) -> Result<Option<TransportStream>, UsageFault>
     ensures { result ≡ stream_of (rows_of (found_of matches.now)) }
 {

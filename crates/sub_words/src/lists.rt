@@ -10,7 +10,7 @@ use std::alloc::{AllocError, Allocator};
 /// The maximum number of items in a list of an option.
 const MAX_ITEMS: usize = 64;
 
-/// An item of a list in the text of an option.
+/// An item of a list that one text of an option describes, or several texts, one for each item.
 pub trait Item: Copy {
     /// The function from a text to an item.
     ghost parsed: { List ℕ → Option Self };

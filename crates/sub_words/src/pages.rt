@@ -28,8 +28,9 @@ impl Item for PageId {
     }
 }
 
-/// Returns the pages of a survey, from each `--page`. Returns `None` if a text is no page, if a
-/// page is given twice, or if there are more than eight pages.
+/// Returns the pages of a survey, from each `--page` or from the option's default. Returns `None`
+/// if the option has no default either, if a text is no page, if a page is given twice, or if there
+/// are more than eight pages.
 ///
 /// # Errors
 ///

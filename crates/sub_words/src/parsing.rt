@@ -48,7 +48,7 @@ impl<'a> ParseArguments<'a> for Request<'a> {
     }
 }
 
-// Returns the request of arguments that name a command.
+// Returns the request of the command that the arguments name, or the fault of the arguments.
 fn parse_command<'a>(alloc: Global, arguments: &'a [&'a str]) -> Result<Request<'a>, UsageFault>
     ensures request { IfOk result (IsRequestOfCommand (texts_of arguments.now)) }
     ensures fault { IfErr result (IsFaultOfCommand (texts_of arguments.now)) }

@@ -24,7 +24,7 @@ pub fn parse_receiver(text: &str) -> Option<ReceiverKind>
 
 /// Parses a frame of the day: `HH:MM:SS:FF`, two digits each, at 25 frames per second.
 ///
-/// Returns `None` for any other text.
+/// Returns `None` for any other text, and for an invalid time code.
 #[tactic(auto, unfolding(crate::specs::Texts::frame_of_text))]
 pub fn parse_time(text: &str) -> Option<u32>
     ensures value { result ≡ frame_of_text text.now }

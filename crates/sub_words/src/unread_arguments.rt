@@ -1,6 +1,6 @@
 //! Finds what is wrong with arguments that `clap` refuses, such as the first unknown option.
 //!
-//! Reads the same table of commands as the rules for `clap`. `clap` alone decides whether arguments
+//! Reads the same table of commands as the rules for `clap`, but does not decide whether arguments
 //! are refused. No contract covers the words.
 
 use crate::command::{Argument, arguments_of, is_command};
@@ -79,7 +79,7 @@ struct Scan<'a> {
     value_follows: bool,
     // Whether `--` was read: no later argument is an option.
     is_escaped: bool,
-    // The number of arguments that are no options, such as file names.
+    // The number of positional arguments, such as file names.
     positions: usize,
     // Whether each option in the table of arguments was given.
     given: [bool; 32],

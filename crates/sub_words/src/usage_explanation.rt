@@ -21,9 +21,10 @@ use ttx_packet::PageId;
 /// The line about wrong arguments: `subttx: ARGUMENT VALUE: ADVICE`, and how the command is called.
 #[derive(Clone, Copy)]
 pub struct Explanation<'a> {
-    /// The name of an argument or a command, as in this program's own texts. May be empty.
+    /// The name of an argument or a command, or a word for help. May be empty.
     pub argument: &'a str,
-    /// The text that the user gave, if the line has one. It is escaped when it is printed.
+    /// The text that the user gave, or the option's name in it, if the line has one. It is escaped
+    /// when it is printed.
     pub value: Option<&'a str>,
     /// What is wrong, or what to give instead.
     pub advice: &'a str,
@@ -55,8 +56,8 @@ pub fn explain_usage<E: Eprint>(alloc: Global, arguments: &[&str], errors: &E) {
     }
 }
 
-/// Returns the line about arguments that `Request::parse` refuses: the first wrong argument, the
-/// given value, and what is allowed. Returns `None` if nothing is refused, or memory runs out.
+/// Returns the line about the first fault of arguments that `Request::parse` refuses: what is wrong
+/// or missing, or what is allowed. Returns `None` if nothing is refused, or memory runs out.
 pub fn explanation_of<'a>(alloc: Global, arguments: &'a [&'a str]) -> Option<Explanation<'a>> {
     let fault = match Request::parse(alloc, arguments) {
         Ok(_) => return None,
@@ -95,8 +96,9 @@ fn explain_value<'a>(fault: &UsageFault, matches: &ArgMatches<'a>) -> Option<Exp
     })
 }
 
-// Returns the option with a fault, its name in the table of commands, and its permitted values;
-// `None` for a fault that is not a fault of one option's value.
+// Returns the option with a fault, its name in the table of commands, and what to give instead.
+// Returns `None` for faults that `explain_value` explains itself, and for faults that no value of
+// an argument causes.
 #[rattlefmt::skip]
 fn option_of(fault: &UsageFault) -> Option<(&'static str, &'static str, &'static str)> {
     Some(match fault {
@@ -157,7 +159,8 @@ fn advice_on_page(texts: &[&str], place: usize) -> Option<&'static str> {
     }
 }
 
-// Returns the argument for the output file, which is named like the input.
+// Returns the argument for the output file, which has the name of the input file; the argument's
+// name in the table of commands; and what to give instead.
 fn output_argument(matches: &ArgMatches<'_>) -> (&'static str, &'static str, &'static str) {
     let advice = "give another file than the one that is read";
     if argument_at(matches, "out").is_some() {
@@ -167,7 +170,8 @@ fn output_argument(matches: &ArgMatches<'_>) -> (&'static str, &'static str, &'s
     }
 }
 
-// Returns the first option that is given and whose value is no time.
+// Returns the first option with a time whose value is wrong, its name in the table of commands, and
+// what to give instead. The option is `--at` if no value of `--from` or `--to` is wrong.
 fn time_argument(matches: &ArgMatches<'_>) -> (&'static str, &'static str, &'static str) {
     let advice = "give a time as HH:MM:SS:FF, from 00:00:00:00 to 23:59:59:24";
     if has_wrong_time(matches, "from") {
