@@ -4,7 +4,7 @@ use Rattle.std.specs.Prelude.{Bool, true, false, not, ◌&&◌, ◌==◌}
 use Rattle.sub_files.specs.declared.distinct_files.LookupResult.{LookupResult}
 use Rattle.sub_files.specs.declared.distinct_files.LookupResult.TheVariants.{At, NothingFound}
 
--- The lookup of a name found a file.
+-- The lookup of a name, or of standard output, found a file.
 abbrev pub is_file_found : LookupResult → Bool
 is_file_found (At device inode) = true
 is_file_found _ = false
@@ -23,8 +23,8 @@ differs_from_standard_output (At device inode) (At output_device output_inode) =
     not ((device == output_device) && (inode == output_inode))
 differs_from_standard_output standard_output output = true
 
--- Creating the output does not empty the input file, and is not known to empty the file that
--- receives standard output.
+-- It is known that creating the output does not empty the input file, and not known that it empties
+-- the file that receives standard output.
 abbrev pub may_create : (input standard_output output : LookupResult) → Bool
 may_create input standard_output output =
     differs_from_input input output && differs_from_standard_output standard_output output

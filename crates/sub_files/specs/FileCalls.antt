@@ -14,9 +14,9 @@ pub data FileCall (I O : Type 0) : Type 0 where
   Open : (name : List ℕ) → Option I → FileCall I O
   -- Creates a file for writing; `None` if the file can't be created.
   Create : (name : List ℕ) → Option O → FileCall I O
-  -- Releases a file that was read, in its final state.
+  -- Releases a file that was opened for reading, in its final state.
   ReleaseInput : I → FileCall I O
-  -- Releases a file that was written, in its final state.
+  -- Releases a file that was created for writing, in its final state.
   ReleaseOutput : O → FileCall I O
 
 -- The call relation of a device about which nothing is known: a call may change any state into any

@@ -17,7 +17,7 @@ pub record MemFilesValue : Type 0 where
   pub second : MemFile
   pub room : Option ℕ
 
--- The bytes of the file with this name; `None` if there is no such file.
+-- The bytes of the one of the two existing files that has this name; `None` if neither has it.
 abbrev pub bytes_at : (name : List ℕ) → MemFilesValue → Option (List ℕ)
 bytes_at name files =
     if bytes_eq files.first.name.now name then Some files.first.bytes.now

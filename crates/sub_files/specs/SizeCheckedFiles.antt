@@ -1,4 +1,4 @@
--- A written file whose size is checked again after the file was closed.
+-- A written file whose size is checked after the file was closed.
 use Rattle.std.specs.Prelude.{◌≡◌}
 use Rattle.sub_io.specs.Closing.{Releases}
 use Rattle.sub_io.specs.Counted.{FileValue}

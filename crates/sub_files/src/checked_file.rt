@@ -1,4 +1,4 @@
-//! A written file whose size is checked again after it was closed.
+//! A written file whose size is checked after it was closed.
 //!
 //! Some file systems report a failed write only when the file is closed, and std ignores that
 //! result. So a file that must be stored is closed, and its size is then compared with the number
@@ -19,8 +19,8 @@ pub trait SizeLookup {
     // Relates the device's state and the expected number of bytes to the result of `has_all_bytes`.
     ghost is_size_lookup: { Self → ℕ → Bool → Type 0 };
 
-    /// Returns `true` only if the closed file has this many bytes, or is a pipe, a terminal or
-    /// another device, which stores nothing.
+    /// Returns `true` only if the closed file has this many bytes, or is no regular file, such as a
+    /// pipe or a terminal.
     fn has_all_bytes<W: Write>(&self, file: &IntoFile<W>, length: u64) -> bool
         requires { file.now.device ≡ None }
         ensures { is_size_lookup self.now length result };

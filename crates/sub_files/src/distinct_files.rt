@@ -3,10 +3,11 @@
 ghost use Rattle.std.specs.Prelude.{◌≡◌};
 ghost use Rattle.sub_files.specs.DistinctFiles.{differs_from_standard_output, differs_from_input};
 
-/// The result of looking up a file by its name.
+/// The result of looking up a file by its name, or the file of a standard stream.
 #[derive(Clone, Copy, Debug, PartialEq, Eq)]
 pub enum LookupResult {
-    /// No file has this name; or standard output keeps nothing, or can't be looked up.
+    /// No file has this name; or standard output is a device such as `/dev/null`, or can't be
+    /// looked up; or, for the folder in the place of closed standard streams, no stream is closed.
     NothingFound,
     /// A file with this device and inode.
     At(u64, u64),
@@ -14,8 +15,8 @@ pub enum LookupResult {
     Unknown,
 }
 
-/// Returns whether the output can be created without emptying the input file: the output does not
-/// exist, or both files were found and differ in device or inode.
+/// Returns whether the lookups show that creating the output does not empty the input file: the
+/// output does not exist, or both files were found and differ in device or inode.
 pub fn differs_from_input(input: LookupResult, output: LookupResult) -> bool
     ensures { result ≡ differs_from_input input output }
 {

@@ -1,4 +1,5 @@
-//! Wrappers for devices of std that print on standard error why a call failed.
+//! A wrapper for devices of std that prints on standard error why reading, writing or storing
+//! failed.
 //!
 //! No contract covers the messages; they do not affect any result.
 ghost use Rattle.std.specs.Prelude.{None};
@@ -16,9 +17,10 @@ pub struct ErrorReporter<'a, T, E> {
     name: &'a str,
     errors: &'a E,
     is_standard_output: bool,
-    // Receives the format of the file at the first read.
+    // Receives the format of the file at the first read that succeeds.
     kind: Option<&'a Cell<InputKind>>,
-    // Receives at the first write whether the text begins with a fault of times.
+    // Receives at the first write that succeeds whether the text begins with a fault that times in
+    // the wrong order cause.
     time_fault: Option<&'a Cell<bool>>,
 }
 
@@ -35,8 +37,8 @@ impl<'a, T, E: Eprint> ErrorReporter<'a, T, E> {
         }
     }
 
-    /// Creates a reporter for an input, and stores its format in `kind` when the first bytes are
-    /// read.
+    /// Creates a reporter for an input, which stores the input's format in `kind` at the first read
+    /// that succeeds.
     pub fn input(inner: T, name: &'a str, errors: &'a E, kind: &'a Cell<InputKind>) -> Self {
         ErrorReporter {
             inner,
@@ -48,9 +50,9 @@ impl<'a, T, E: Eprint> ErrorReporter<'a, T, E> {
         }
     }
 
-    /// Creates a reporter for standard output, and stores in `time_fault` whether the first text is
-    /// a fault of a subtitle file's times. It prints no message if the reader of a pipe has exited,
-    /// as `head` does.
+    /// Creates a reporter for standard output, which stores in `time_fault`, if given, whether the
+    /// first text that is written begins with a fault that times in the wrong order cause
+    /// (`is_time_fault`). It prints no message if the reader of a pipe has exited, as `head` does.
     pub fn standard_output(inner: T, errors: &'a E, time_fault: Option<&'a Cell<bool>>) -> Self {
         ErrorReporter {
             inner,

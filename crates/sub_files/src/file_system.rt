@@ -2,8 +2,8 @@
 //! in memory.
 //!
 //! No contract of std says which file the system opens for a name, so clauses specify the calls of
-//! a `FileSystem`, their names and their order. Each file is released at the end, in its state
-//! after the command, so clauses also cover a file after the command's result.
+//! a `FileSystem`, their names and their order. If all files were opened, each is released at the
+//! end, in its state after the command, so clauses also cover a file after the command's result.
 ghost use Rattle.std.specs.Prelude.{◌≡◌, IfSome, Option};
 ghost use Rattle.sub_files.specs.FileCalls.{FileCall, any_file_call};
 
@@ -27,7 +27,7 @@ pub trait FileSystem {
         ensures { is_call self.old (FileCall.LookUp name.now result) self.new };
 
     /// Looks up the file, pipe, terminal or socket that receives standard output. Returns
-    /// `NothingFound` if standard output is a device that keeps nothing, or can't be looked up.
+    /// `NothingFound` if standard output is a device such as `/dev/null`, or can't be looked up.
     fn look_up_standard_output(&mut self) -> LookupResult
         ensures { is_call self.old (FileCall.LookUpStandardOutput result) self.new };
 

@@ -1,7 +1,8 @@
 //! Opened files, with a separate type for each purpose.
 //!
-//! A subtitle file, a file of PES packets and an output file have different types, and only this
-//! module creates them, from the names in a request. So they cannot be confused.
+//! A subtitle file, a file of PES packets (or a transport stream) and an output file have different
+//! types, and only this module creates them, from the names in a request. So they cannot be
+//! confused.
 ghost use Rattle.std.specs.Prelude.{◌≡◌, IfSome, None, false, true};
 ghost use Rattle.sub_files.specs.DistinctFiles.{may_create};
 ghost use Rattle.sub_files.specs.FileCalls.{FileCall};
@@ -33,7 +34,7 @@ impl<F> StlFile<F> {
     }
 }
 
-/// A file of PES packets that was opened for reading. The model is the file.
+/// A file of PES packets or a transport stream that was opened for reading. The model is the file.
 #[derive(Drop)]
 pub struct PesFile<F> {
     file: F,
@@ -46,7 +47,7 @@ impl<F> Model for PesFile<F> {
 }
 
 impl<F> PesFile<F> {
-    /// Returns the opened file of PES packets.
+    /// Returns the opened file, which has PES packets or a transport stream.
     pub fn into_file(self) -> F
         ensures { result ≡ self }
     {
@@ -88,7 +89,8 @@ pub fn open_stl<D: FileSystem>(files: &mut D, stl: &StlInput<'_>) -> Option<StlF
     }
 }
 
-/// Opens a file of PES packets for reading. Returns `None` if the file can't be opened.
+/// Opens a file of PES packets or a transport stream for reading. Returns `None` if the file can't
+/// be opened.
 pub fn open_pes<D: FileSystem>(files: &mut D, pes: &PesInput<'_>) -> Option<PesFile<D::Input>>
     ensures no_failures { IfSome result (λ file. D.Input.failure_count file ≡ 0) }
     ensures call { D.is_call files.old (FileCall.Open pes.now result) files.new }

@@ -1,7 +1,7 @@
 //! Opens the files that a request names.
 //!
-//! The functions return only the opened files. So code that reads or writes these files has no
-//! access to the device that opened them.
+//! `open` returns only the opened files. So code that reads or writes these files has no access to
+//! the device that opened them.
 ghost use Rattle.std.specs.Prelude.{◌≡◌, ◌≤◌, [], ◌∷◌, IfSome, vec_len};
 ghost use Rattle.sub_files.specs.FileCalls.{CallsInOrder, FileCall};
 ghost use Rattle.sub_files.specs.Opening.{HaveNoFailures, OpensWithCalls, total_buffer_size};
@@ -23,9 +23,9 @@ pub enum OpenedFiles<I, O> {
     Nothing,
     /// A subtitle file to read.
     ReadStl(StlFile<I>),
-    /// A file of PES packets to read.
+    /// A file of PES packets or a transport stream to read.
     ReadPes(PesFile<I>),
-    /// A subtitle file and a file of PES packets to read.
+    /// A subtitle file, and a file of PES packets or a transport stream, to read.
     ReadBoth(StlFile<I>, PesFile<I>),
     /// A subtitle file to read, and a created file to write.
     Write(StlFile<I>, CreatedFile<O>),

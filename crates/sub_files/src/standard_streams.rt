@@ -17,7 +17,7 @@ const BAD_DESCRIPTOR: i32 = 9;
 // a file.
 const FOLDER: &str = "/";
 
-/// The folder that is open in the place of a closed standard stream.
+/// The folder that is open in the place of a standard stream, if the stream is closed.
 #[derive(Drop)]
 pub struct StreamInPlace<F> {
     // Stays open as long as files may be opened.

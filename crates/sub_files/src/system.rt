@@ -180,8 +180,8 @@ impl<'a, R: Files + Eprint> FileSystem for SystemFiles<'a, R> {
     }
 }
 
-// Returns whether a file is a device of the main memory, such as `/dev/null`: it keeps nothing, so
-// standard output and an output file may share it.
+// Returns whether a file is a memory device of Linux, such as `/dev/null`. Creating an output there
+// empties nothing, so standard output and an output file may share it.
 fn is_memory_device(file: &Metadata) -> bool {
     // The lowest 8 bits are the minor number, and Linux gives the major number 1 to these devices.
     file.file_type().is_char_device() && file.rdev() >> 8 == 1
@@ -217,8 +217,8 @@ pub struct SystemSizeLookup<'a, R> {
 impl<R: Files + Eprint> SizeLookup for SystemSizeLookup<'_, R> {
     ghost is_size_lookup = { λ _ _ _. Unit {0} };
 
-    /// If the file has all bytes, also synchronises its folder to disk, if opening the folder is
-    /// permitted: a new file can't be found if its entry in the folder is lost.
+    /// If a regular file has all bytes, also synchronises its folder to disk, if opening the folder
+    /// is permitted: a new file can't be found if its entry in the folder is lost.
     fn has_all_bytes<W: Write>(&self, _file: &IntoFile<W>, length: u64) -> bool {
         if !self.is_file {
             return true;
@@ -257,7 +257,7 @@ fn file_length<R: Files>(rt: &R, name: &str) -> io::Result<u64> {
 }
 
 // Synchronises the folder of a file to disk, and returns whether this succeeded. Also returns
-// `true` if opening the folder is not permitted, because it can't be synchronised then.
+// `true` if opening the folder is not permitted, or its file system does not support synchronising.
 fn store_folder<R: Files + Eprint>(rt: &R, name: &str) -> bool {
     let folder = match Path::new(name).parent() {
         Some(folder) if !folder.as_str().is_empty() => folder.as_str(),
