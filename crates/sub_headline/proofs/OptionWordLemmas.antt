@@ -123,8 +123,8 @@ range_is_name (x ∷ xs) range is = λ e.
     let at : x ≡ 0x2D = cc in
     hyphen_begins_no_range xs range (subst (λ (c : ℕ). range_of_text (c ∷ xs) ≡ Some range) at is)
 
--- The state of the argument parser `clap` after the names of both files and the name of an option,
--- before the option's value.
+-- `walk_at_option` is the state of the argument parser `clap` after the names of both files and the
+-- name of an option, before the option's value.
 abbrev walk_at_option : Text → Held → Walk
 walk_at_option id h = record {
   held = h;

@@ -9,8 +9,8 @@ use Rattle.sub_check.specs.CheckedFiles.{IsAccepted, IsAcceptedBy}
 use Rattle.sub_headline.specs.PlainAcceptance.{IsAcceptedInPlainTerms}
 
 -- If `within` is 0 and each header of the page has to erase the page, files are accepted exactly if
--- they contain subtitles and a good transmission of these, with complete pages if the options
--- require them.
+-- they contain subtitles, possibly none, and a good transmission of these, with complete pages if
+-- the options require them.
 abbrev pub LawOfPlainAcceptance : Type 0
 LawOfPlainAcceptance =
     (drawing : Drawing) (options : OptionsValue) (stl pes : List ℕ)
@@ -18,13 +18,14 @@ LawOfPlainAcceptance =
     → options.within ≡ 0
     → IsAcceptedBy drawing options stl pes ↔ IsAccepted drawing options stl pes
 
--- Subtitles are drawn with the English national option and the default layout, and the subtitle
--- file is read completely.
+-- All subtitles of a file for Teletext are drawn, with the English national option and the default
+-- layout.
 abbrev pub default_drawing : Drawing
 default_drawing = drawing_by English default_layout
 
--- If `within` is 0 and each header of the page has to erase the page, files with English subtitles
--- in the default layout are accepted exactly if they satisfy `IsAcceptedInPlainTerms`.
+-- With English subtitles in the default layout, files satisfy `IsAccepted` exactly if they satisfy
+-- `IsAcceptedInPlainTerms`. If `within` is 0 and each header of the page has to erase the page,
+-- these are the accepted files (`LawOfPlainAcceptance`).
 abbrev pub LawOfEnglishAcceptance : Type 0
 LawOfEnglishAcceptance =
     (options : OptionsValue) (stl pes : List ℕ)

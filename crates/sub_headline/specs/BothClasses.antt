@@ -13,8 +13,8 @@ use Rattle.sub_headline.specs.PlainHeadline.{ReceivesPage}
 
 -- Every receiver of the class has the expected page, as `ReceivesPage` specifies, if it receives
 -- the packets as `IsReceivedWithLosses` allows. Excused cells may contain a space. If the receiver
--- drops rows, all cells of a row are excused if the row was lost or any of its bytes was received
--- wrong.
+-- drops rows, all cells of a row are excused if, in the last transmission of the page, the row was
+-- lost or any of its 40 data bytes was received wrong.
 abbrev pub EachReceiverOfClassGets :
     ReceiverClass → PageIdValue → ℕ → List SubtitleValue → Transmission → Type 0
 EachReceiverOfClassGets class page every subtitles transmission =

@@ -1,4 +1,4 @@
--- The options that may follow `check STL RECORDING`, including the national option and the layout.
+-- Options that may follow `check STL RECORDING`, including the national option and the layout.
 use Rattle.std.specs.Prelude.{◌≡◌, ◌<◌, ◌^◌, Bool, List, [], ◌∷◌, Some, codes, fold}
 use Rattle.std.specs.List.{flat_map}
 use Rattle.clap.specs.Words.{Text}

@@ -10,7 +10,7 @@ use Rattle.stl_rows.specs.Line.{has_double_height, boxed_line, row_of}
 use Rattle.stl_rows.specs.TextCode.{is_common, is_within, new_line}
 
 -- The Teletext code for a byte of text (EBU Tech 3264, code table 00; EN 300 706, English sub-set):
--- the same number, except for the characters of the national sub-set. `None` if the byte has no
+-- the same number, or the place of a character of the national sub-set. `None` if the byte has no
 -- code.
 unfoldable pub english_code : ℕ → Option ℕ
 english_code byte =
@@ -79,7 +79,7 @@ abbrev pub page_or_blank : Option SubtitleValue → Rows
 page_or_blank None = blank
 page_or_blank (Some t) = english_page t
 
--- The expected page at a frame: the page of the subtitle with TCI <= frame < TCO, or a blank page
--- if there is no such subtitle.
+-- The expected page at a frame: the page of the first subtitle with TCI <= frame < TCO, or a blank
+-- page if there is no such subtitle.
 abbrev pub english_due_page : List SubtitleValue → ℕ → Rows
 english_due_page subtitles frame = page_or_blank (find (is_due frame) subtitles)

@@ -86,8 +86,8 @@ ImpliesChosenHeadline given files code =
     ForAcceptedCheck given files code (λ o. Headline o.page o.every english_due_page)
 
 -- If the exit code is 0, receivers that drop each row with a byte of even parity also have the
--- expected page. All cells of a row are excused if the row was lost or any of its bytes was
--- received wrong.
+-- expected page. All cells of a row are excused if, in the last transmission of the page, the row
+-- was lost or any of its 40 data bytes was received wrong.
 abbrev pub ImpliesDroppingHeadline : Result (List Text) UsageFault → MemFilesValue → ℕ → Type 0
 ImpliesDroppingHeadline given files code =
     ForAcceptedCheck given files code (λ o. EachReceiverOfClassGets Dropping o.page o.every)

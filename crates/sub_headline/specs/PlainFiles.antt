@@ -15,8 +15,8 @@ pub record AreReadFrom
     (transmission : Transmission)
     : Type 0 where
   -- The subtitle file consists of a GSI block and the TTI blocks of subtitles (EBU Tech 3264),
-  -- between which comments and user data may be. The subtitles of the selected part are
-  -- `subtitles`, in order, and their texts can be drawn completely.
+  -- among which comments and user data may be. The subtitles of the selected part are `subtitles`,
+  -- in order and without overlap, and their texts can be drawn completely.
   pub gsi : List ℕ
   pub subtitle_file : IsFileFor scope stl gsi subtitles
   pub in_order : AreInOrder subtitles

@@ -31,12 +31,13 @@ pub record ReceivesPage
       → (cell new.page row column ≡ cell due row column)
       ⊎ ((cell new.page row column ≡ space) × IsExcused row column)
 
--- Every receiver of page `page` has the expected page, as `ReceivesPage` specifies. This is true
--- for every time at which the receiver is switched on (before packet j of frame g) and every time
--- at which its page is examined (at the end of frame f); for any loss of packets other than page
--- headers; for at most one wrong bit in each byte received; for any page that the receiver
--- contained before, open or not, with or without a header; and for any code that the receiver
--- stores for a byte of even parity.
+-- Every receiver of page `page` that stores rows has the expected page, as `ReceivesPage`
+-- specifies. This is true for every time at which the receiver is switched on (before packet j of
+-- frame g, or after its last packet) and every time at which its page is examined (at the end of
+-- frame f), from the first frame of the transmission to the last; for any loss of packets other
+-- than page headers; for at most one wrong bit in each byte received; for any page that the
+-- receiver contained before, open or not, with or without a header; and whether a cell keeps its
+-- code or becomes a space at a byte of even parity.
 --
 -- A cell is excused if a packet of its row was lost, or received with a wrong byte in the cell's
 -- column. This concerns only packets of the page that were sent after its last header and before a
@@ -60,5 +61,6 @@ pub record Headline
   -- not before the TCO of any subtitle.
   pub covers :
       All (λ t. (first_frame transmission ≤ t.tci) × (t.tco ≤ last_frame transmission)) subtitles
-  -- From the first frame of the transmission to the last, every receiver has the expected page.
+  -- From the first frame of the transmission to the last, every receiver has the expected page, as
+  -- `EachReceiverGets` specifies.
   pub receivers : EachReceiverGets page every (due subtitles) transmission

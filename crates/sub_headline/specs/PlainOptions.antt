@@ -1,6 +1,6 @@
--- The options that may follow `check STL PES`, in any order, and their meaning. The definition of
--- how the argument parser `clap` reads arguments is long; a reader needs only this list, since a
--- proof shows that any request made of these arguments has these options.
+-- Options that may follow `check STL PES`, in any order, and their meaning. The definition of how
+-- the argument parser `clap` reads arguments is long; a reader needs only this list, since a proof
+-- shows that any request made of these arguments has these options.
 use Rattle.std.specs.Prelude.{◌≡◌, ◌<◌, ◌^◌, ℕ, Bool, true, List, [], ◌∷◌, Some, codes, fold}
 use Rattle.std.specs.List.{flat_map}
 use Rattle.clap.specs.Words.{Text}

@@ -89,8 +89,8 @@ frame_of_time_code b at =
     (slice_index b (at + 3))
 
 -- A subtitle (EBU Tech 3264, TTI block). Its first block has SGN at byte 0, SN at 1 and 2, low byte
--- first, TCI at 5, TCO at 9, VP at 13, JC at 14. The text is TF of each block, from byte 16 up to
--- the first 8F.
+-- first, TCI at 5, TCO at 9, VP at 13, JC at 14. The text is TF of each block, from byte 16 on, up
+-- to but not including the first 8F.
 abbrev pub subtitle_of_blocks : List (List ℕ) → SubtitleValue
 subtitle_of_blocks group =
     let b = slice_index_or group 0 [] in

@@ -1,4 +1,4 @@
--- The options that may follow `check STL RECORDING`, in any order, and the parts of both files that
+-- Options that may follow `check STL RECORDING`, in any order, and the parts of both files that
 -- they select.
 use Rattle.std.specs.Prelude.{◌≡◌, ◌<◌, ◌^◌, ℕ, Bool, true, List, [], ◌∷◌, Option, Some, None}
 use Rattle.std.specs.Prelude.{codes, fold}
@@ -24,9 +24,9 @@ use Rattle.sub_headline.specs.PlainOptions.{CheckOption, with_check_option}
 use Rattle.sub_headline.specs.PlainOptions.{arguments_of_check_option}
 use Rattle.sub_headline.specs.PlainArguments.{IsName, default_options}
 
--- One option for a recording, with the text of its value and the meaning of that text: the PID and
--- the size of the transport packets, the range of PES packets, the range of frames in which
--- subtitles begin, or whether open subtitles are accepted; or an option for any files.
+-- One option for a recording, with the text of its value and the meaning of that text: the PID or
+-- the size of the transport packets, the range of PES packets, or the start or the end of the range
+-- of frames in which subtitles begin; the flag for open subtitles; or an option for any files.
 pub data RecordingOption : Type 0 where
   Pid : (text : Text) → (pid : ℕ) → pid_of_text text ≡ Some pid → RecordingOption
   Size : (text : Text) → (size : PacketSize) → packet_size_of_text text ≡ Some size →
@@ -49,9 +49,9 @@ arguments_of_recording_option (To text frame name is) = codes "--to" ∷ text �
 arguments_of_recording_option IncludeOpen = codes "--open" ∷ []
 arguments_of_recording_option (Any choice) = arguments_of_check_option choice
 
--- The settings for reading both files: the options; the PID and the size of the transport packets,
--- if the recording is a transport stream; the range of PES packets; and the part of the subtitle
--- file.
+-- The settings for reading both files: the options; the PID, if the recording is a transport
+-- stream, and the size of its transport packets; the range of PES packets, if it is limited; and
+-- the part of the subtitle file.
 pub record Reading : Type 0 where
   pub options : OptionsValue
   pub pid : Option ℕ
@@ -89,22 +89,24 @@ reading_of parts =
     })
     parts
 
--- The bytes of the complete PES packets in the transport packets with a PID, with gap markers where
--- data is missing; or all bytes if no PID is given.
+-- The PES packets that the transport packets with a PID carry, with gap markers, as `carried_bytes`
+-- specifies; or all bytes if no PID is given.
 abbrev pub bytes_carried_in_pid : Option ℕ → PacketSize → List ℕ → List ℕ
 bytes_carried_in_pid None size bytes = bytes
 bytes_carried_in_pid (Some pid) size bytes = carried_bytes pid (bytes_of size) bytes
 
--- The bytes of the PES packets in a range, or all bytes if no range is given.
+-- The bytes of a range of PES packets, as `range_bytes` specifies; or all bytes if no range is
+-- given.
 abbrev pub pes_packets_in_range : Option PesPacketRangeValue → List ℕ → List ℕ
 pes_packets_in_range None bytes = bytes
 pes_packets_in_range (Some range) bytes = range_bytes range bytes
 
--- The bytes of the selected PES packets of a recording.
+-- The bytes of a recording that the settings select.
 abbrev pub bytes_selected : Reading → List ℕ → List ℕ
 bytes_selected r bytes = pes_packets_in_range r.range (bytes_carried_in_pid r.pid r.size bytes)
 
--- The request to read a recording with this name and these settings.
+-- The selected PES packets of a recording with this name and the PID, packet size and range of
+-- these settings.
 abbrev pub requested_recording : Text → Reading → PesSelectionValue
 requested_recording name r = record {
   name = name;

@@ -1,4 +1,4 @@
--- The end of a run of the program: with the answer to a request, or with a fault of the arguments.
+-- The end of a run of the program: with the answer to a request, or with a fault that prevents it.
 use Rattle.std.specs.Prelude.{◌≡◌, ◌⊎◌, ℕ, List, [], Option, None, Result, Ok, Err, false}
 use Rattle.clap.specs.Words.{Text}
 use Rattle.sub_io.specs.Buffered.{BufferedSinkValue}
@@ -16,7 +16,8 @@ use Rattle.sub_answer.specs.Ending.{FileObservations}
 use Rattle.sub_answer.specs.Ending.{PrintsFault}
 use Rattle.sub_answer.specs.Ending.{state_of_buffer}
 
--- The arguments are a request, which was answered. No other files were opened or released.
+-- The arguments are a request, which was answered. Only the files of the request were opened and
+-- released.
 pub record RunAnswers
     {I O : Type 0} (AreMade : List (FileCall I O) → Type 0) (known : FileObservations I O)
     (IsClose : O → O → Type 0) (given : Result (List Text) UsageFault)

@@ -1,6 +1,6 @@
 //! Proves what exit status 0 of `check` means for receivers and viewers.
 //!
-//! The functions have no body: their contracts are laws about the definitions of `specs/`.
+//! The functions do nothing: their contracts are laws about the definitions of `specs/`.
 #![tactic(auto)]
 
 mod laws;
