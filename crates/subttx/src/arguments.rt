@@ -1,4 +1,4 @@
-//! Gets the arguments of the command line from the system.
+//! Collects the arguments of the command line that the system returned.
 ghost use Rattle.std.specs.Prelude.{◌≡◌, IfErr, IfOk, IfSome, Ok, map, string_bytes};
 ghost use Rattle.sub_words.specs.Commands.{texts_of};
 ghost use Rattle.subttx.specs.Words.{IsUnparsedFault, arguments_given};

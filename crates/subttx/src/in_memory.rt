@@ -1,4 +1,4 @@
-//! Runs the program with files in memory, for which the exit status implies the headline.
+//! Runs the program with files in memory, for which exit status 0 of `check` implies the headline.
 //!
 //! Contracts know nothing about the bytes of the system's files, so the clauses about bytes are
 //! proved for files in memory.
@@ -23,15 +23,16 @@ use sub_io::Sink;
 /// Runs the program with files in memory, in the same way as `main` runs it with the files of the
 /// system.
 ///
-/// For the arguments `check STL PES`, exit status 0 means that the headline is true for the
-/// subtitles and frames in the files. If `--page`, `--every`, `--origin`, `--pace`, `--complete` or
-/// `--all` follow, 0 means that it is true with these options, also for receivers that drop damaged
-/// rows, that the decoded pages of all receivers that are set to region 0000 or 0010 show the
-/// expected characters, and that the bytes match their formats and contain no other subtitles or
-/// frames. Any status other than 2 then decides whether the files are accepted. With `--pid`,
-/// `--packet-size`, `--pes`, `--from`, `--to` or `--open`, status 0 means the same for the selected
-/// parts of a recording and of a subtitle file. With `--option` or `--layout`, it means that the
-/// headline is true for subtitles drawn with this national option or layout.
+/// For the arguments `check STL PES`, where STL and PES do not begin with `-`, exit status 0 means
+/// that the headline is true for the subtitles and frames in the files. If `--page`, `--every`,
+/// `--origin`, `--pace`, `--complete` or `--all` follow, 0 means that it is true with these
+/// options, also for receivers that drop damaged rows, that the decoded pages of all receivers that
+/// are set to region 0000 or 0010 show the expected characters, and that the bytes match their
+/// formats and contain no other subtitles or frames. Any status other than 2 then decides whether
+/// the files are accepted. With `--pid`, `--packet-size`, `--pes`, `--from`, `--to` or `--open`,
+/// status 0 means the same for the selected parts of a recording and of a subtitle file. With
+/// `--option` or `--layout`, it means that the headline is true for subtitles drawn with this
+/// national option or layout.
 pub fn run_in_memory<K: Sink + Drop>(
     alloc: Global,
     given: io::Result<Args>,

@@ -98,8 +98,9 @@ fn run_with_system(rt: &HostRuntime, closed_stream: LookupResult) -> u8 {
 }
 
 // Prints on standard error why the arguments are wrong, or which input has another format than the
-// command reads or times in the wrong order. Prints nothing if memory runs out after an answer. Not
-// inlined, since the stack of a run would then hold the names that only an explanation needs.
+// command reads or times in the wrong order. Prints nothing if neither is so, and may print nothing
+// if memory runs out. Not inlined, since the stack of a run would then hold the names that only an
+// explanation needs.
 #[inline(never)]
 fn explain(rt: &HostRuntime, code: u8, kinds: &InputKinds) {
     let arguments = match env::args(rt) {
