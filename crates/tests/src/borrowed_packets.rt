@@ -8,7 +8,7 @@ use std::process::Abort;
 use sub_io::{FailAt, Live, MemSource, Stopped};
 use ttx_pes::{FilePesPackets, flush_first, has_enough_for_packet};
 
-// Asserts whether `bytes` contain a complete PES packet.
+// Asserts whether `bytes` contain a complete PES packet, or show that no PES packet starts there.
 fn assert_holds(rt: &impl Abort, bytes: &[u8], holds: bool) {
     assert_same_for_case(rt, &has_enough_for_packet(bytes), &holds, &bytes.len());
 }

@@ -42,7 +42,8 @@ impl Source for Borrowed {
     }
 }
 
-// A sink that accepts as many bytes as the last byte of the slice states.
+// A sink that accepts as many bytes as the last byte of the slice states, but at least one and at
+// most all.
 #[derive(Drop)]
 struct LastByteSink;
 

@@ -53,7 +53,7 @@ fn take_four<P: PesPackets>(
     pes_packets.next(given)
 }
 
-/// Reads all PES packets, at most seven, and returns the result after them.
+/// Reads all PES packets, of which there are at most seven, and returns the result after them.
 pub(crate) fn take_all<P: PesPackets>(
     pes_packets: &mut P,
     given: &mut Given<'_>,

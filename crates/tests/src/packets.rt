@@ -28,7 +28,8 @@ fn makes_and_reads_a_header(rt: HostRuntime) {
     );
 }
 
-// Asserts the address, the page and the control bits of a packet with exact code words.
+// Asserts the address, the page and the header of a sent packet. Each is `None` if its code words
+// have a wrong bit.
 fn assert_header_is(
     rt: &impl Abort,
     sent: &[u8; 42],

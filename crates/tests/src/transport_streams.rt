@@ -131,8 +131,8 @@ fn takes_no_wrong_packet(rt: HostRuntime) {
         &[&BEGINS_0, &FIRST, &[0x47, 0x41, 0x01, 0x91], &SECOND],
         &gap,
     );
-    // The adaptation field leaves no room for a payload. In the first case a payload is announced,
-    // in the second case none.
+    // In the first case, the adaptation field leaves no room for the announced payload. In the
+    // second case, a TS packet without payload is scrambled.
     let full: [u8; 5] = [0x47, 0x01, 0x01, 0x31, 0xB7];
     assert_output(
         &rt,
@@ -151,7 +151,8 @@ fn takes_no_wrong_packet(rt: HostRuntime) {
         ],
         &[&FIRST, &GAP_MARKER_HEAD, &GAP_MARKER_REST, &SECOND],
     );
-    // Without a payload, the same adaptation field is valid, and the packet's counter is ignored.
+    // Without a payload, the adaptation field of the first case is valid, and the packet's counter
+    // is ignored.
     assert_output(
         &rt,
         &[
