@@ -3,7 +3,7 @@ ghost use Rattle.sub_io.specs.Device.{CanFail};
 
 use crate::asking::{answer_arguments, answer_with_all_option};
 use crate::text::{
-    first_lines, is_concatenation, status_of, text_after_clean_frames, text_without_zeros,
+    first_lines, is_concatenation, status_of, text_after_trusted_lines, text_without_zeros,
 };
 use fixtures::Watched;
 use std::alloc::Global;
@@ -80,13 +80,13 @@ pub fn reports_every_line<'a>(
         arguments,
         first,
         second,
-        first_lines(text_after_clean_frames(text), 1),
+        first_lines(text_after_trusted_lines(text), 1),
     )
 }
 
-// Returns whether `check --all` agrees with the line that `check` prints. If nothing is rejected,
-// the line is the only output. Otherwise it is the first line that starts with `refused`, and the
-// last line is the number of faults.
+// Returns whether `check --all` agrees with the line that `check` prints. If the line does not
+// start with `refused`, it is the only output. Otherwise it is the first line that is not a
+// `trusted` line, and the last line is the number of faults.
 fn reports_first_line<'a>(
     alloc: Global,
     arguments: &[&'a str],
@@ -101,7 +101,7 @@ fn reports_first_line<'a>(
     let end = if is_refused { b" faults\n" } else { line };
     let has_only_line = is_refused || text == line;
     let is_right = has_only_line
-        && text_after_clean_frames(text).starts_with(line)
+        && text_after_trusted_lines(text).starts_with(line)
         && text.ends_with(end);
     is_right && status == Some(status_of(text))
 }
@@ -155,7 +155,8 @@ fn writes_only_prefix<'a>(
     stops_after_failure && out.inner.written() == text && file.written() == written
 }
 
-/// Returns whether each output that is smaller than a text receives the start of the text.
+/// Returns whether each output that is smaller than a text receives the start of the text and is
+/// not used afterwards, with the status `Fault` and a complete output file.
 pub fn writes_every_prefix<'a>(
     alloc: Global,
     arguments: &'a [&'a str],

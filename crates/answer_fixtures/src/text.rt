@@ -51,7 +51,7 @@ pub(crate) fn text_without_zeros(buffer: &[u8]) -> &[u8] {
 }
 
 /// Returns the text from its first line that is not a `trusted` line.
-pub(crate) fn text_after_clean_frames(text: &[u8]) -> &[u8] {
+pub(crate) fn text_after_trusted_lines(text: &[u8]) -> &[u8] {
     let mut reported = text;
     for (place, byte) in text.iter().enumerate() {
         if !reported.starts_with(b"trusted ") {

@@ -1,5 +1,5 @@
-//! Skips transport packets of other PIDs, and bytes that belong to no transport packet, without
-//! copying them.
+//! Finds bytes that can be skipped together: transport packets of other PIDs, or bytes before the
+//! next sync byte.
 ghost use Rattle.std.specs.Prelude.{◌≡◌, ◌+◌, ◌<◌, ◌≤◌, List, ℕ, [], ◌++◌, drop, take, length};
 ghost use Rattle.std.specs.Prelude.{false, true};
 ghost use Rattle.mpeg_ts.specs.GoodPackets.{loss_size};
@@ -11,7 +11,7 @@ use crate::transport_packet::{PACKET, SYNC_BYTE, pid_of};
 
 // Returns the transport packet at an offset of the bytes.
 #[inline(always)]
-pub(crate) fn packet_in_unit(bytes: &[u8], place: usize) -> &[u8; PACKET]
+pub(crate) fn packet_at_offset(bytes: &[u8], place: usize) -> &[u8; PACKET]
     requires { place + 188 ≤ length bytes.now }
     ensures { result.now ≡ take 188 (drop place bytes.now) }
 {
@@ -70,7 +70,7 @@ pub(crate) fn is_unit_of_pid(bytes: &[u8], place: usize, distance: usize, number
     if bytes.len() - place < distance {
         return false;
     }
-    let packet = packet_in_unit(bytes, place);
+    let packet = packet_at_offset(bytes, place);
     packet[0] == SYNC_BYTE && pid_of(packet) == number
 }
 

@@ -16,7 +16,7 @@ ghost use Rattle.mpeg_ts.specs.Stream.{output_of, has_output, start_of_stream, r
 ghost use Rattle.mpeg_ts.specs.ConsumedStreamBytes.{TakesPrefix};
 
 use crate::joining::Joining;
-use crate::passing::{is_unit_of_pid, junk_size, packet_in_unit, place_after_other_pids};
+use crate::passing::{is_unit_of_pid, junk_size, packet_at_offset, place_after_other_pids};
 use crate::pending_item::Next;
 use crate::transport_packet::{PACKET, SYNC_BYTE, pid_of};
 use crate::window::Window;
@@ -61,7 +61,7 @@ impl Model for Stream {
         s.distance s.lead s.run (length s.window.buffered + s.window.left) s.in_step };
 }
 
-// Returns the number of bytes before the first transport packet of a recording.
+// Returns the number of bytes before the first item of a recording.
 fn lead_bytes_of_size(packet_size: PacketSize) -> usize
     ensures { result ≡ lead_size (bytes_of packet_size) }
 {
@@ -76,7 +76,7 @@ fn packet_at(window: &Window, place: usize) -> &[u8; PACKET]
     requires { place + 188 ≤ length window.now.buffered }
     ensures { result.now ≡ take 188 (drop place window.now.buffered) }
 {
-    packet_in_unit(window.buffered(), place)
+    packet_at_offset(window.buffered(), place)
 }
 
 impl Stream {
@@ -240,7 +240,7 @@ impl Stream {
         self.run += 1;
     }
 
-    // Returns whether skipping the next `count` buffered bytes could count as a loss.
+    // Returns whether the skipped bytes become a loss within the next `count` bytes.
     fn may_complete_loss(&self, count: usize) -> bool
         requires { count ≤ length self.now.window.buffered }
         ensures { result ≡ false → self.now.run < loss_size self.now.distance
@@ -250,8 +250,8 @@ impl Stream {
         self.run < loss && loss <= self.run + count as u64
     }
 
-    // Skips the buffered bytes up to the next sync byte, unless these bytes may become a loss. Then
-    // `skip` handles them one by one.
+    // Skips the buffered bytes before the next sync byte, or all if there is none. Does nothing if
+    // the skipped bytes become a loss within them; then `skip` skips single bytes up to the loss.
     #[inline(never)]
     #[tactic(auto, using(crate::proofs::StreamLemmas::junk))]
     fn skip_junk(&mut self)
@@ -280,7 +280,8 @@ impl Stream {
         }
     }
 
-    // Processes the next item. Returns `false` if the bytes that may be read contain none.
+    // Processes the next item, or several skipped bytes. Returns `false` if the recording ends, or
+    // 2^48 bytes were read, before the next item is determined.
     #[inline(never)]
     #[tactic(auto, using(crate::proofs::StreamLemmas::steps))]
     fn step<S: Source>(&mut self, source: &mut S) -> Result<bool, Failed>
@@ -343,7 +344,7 @@ impl Stream {
             self.lead = 0;
             return true;
         }
-        self.joining.take_packet(packet_in_unit(borrowed, place));
+        self.joining.take_packet(packet_at_offset(borrowed, place));
         let count = place + self.distance;
         source.skip_bytes(count);
         self.window.count_skipped_bytes(count as u64);
@@ -362,7 +363,8 @@ impl Stream {
         self.joining.has_nothing_pending() && !self.joining.has_ended()
     }
 
-    // Reads until an item is pending, the recording ends, or no more output can follow.
+    // Reads until an item is pending, the recording ends, 2^48 bytes were read, or no more output
+    // can follow.
     #[inline(always)]
     #[tactic(auto, using(crate::proofs::StreamLemmas::reads))]
     pub(crate) fn read_ahead<S: Source>(&mut self, source: &mut S) -> Result<(), Failed>
@@ -387,7 +389,7 @@ impl Stream {
     }
 
     // Reads from the source while no item is pending and more output may follow, up to the end of
-    // the recording.
+    // the recording or 2^48 bytes.
     #[inline(always)]
     #[tactic(auto, using(crate::proofs::StreamLemmas::reads))]
     fn read_more<S: Source>(&mut self, source: &mut S) -> Result<(), Failed>
@@ -428,7 +430,7 @@ impl Stream {
         self.joining.take_next()
     }
 
-    // Returns the collected bytes: those of the current PES packet, or only the last payload.
+    // Returns the collected bytes.
     pub(crate) fn bytes(&self) -> &[u8]
         ensures bytes { result.now ≡ self.now.joining.bytes }
         ensures most { length result.now ≤ 1840 }

@@ -110,14 +110,15 @@ pub findings_within_scope-refused : (scope : Scope) (s : List ℕ) (fault : StlF
 unfolding findings_within_scope
 findings_within_scope-refused scope s fault e = grind (arith, nat_tests)
 
--- The first 12,799,873 bytes after the GSI block determine the results: one byte more than 99,999
--- blocks.
-reader_after_gsi-first : (scope : Scope) (r : Result (List ℕ) StlFault) (b : List ℕ)
+-- Given the result for the GSI block, the first 12,799,873 bytes after it determine the results:
+-- one byte more than 99,999 blocks.
+findings_after_opening-first : (scope : Scope) (r : Result (List ℕ) StlFault) (b : List ℕ)
     → findings_after_opening scope (take (128 * 99999 + 1) b) r ≡ findings_after_opening scope b r
-reader_after_gsi-first scope (Err e) b = refl
-reader_after_gsi-first scope (Ok g) b = findings_with_room-first scope 99999 None b
+findings_after_opening-first scope (Err e) b = refl
+findings_after_opening-first scope (Ok g) b = findings_with_room-first scope 99999 None b
 
--- The first 12,800,897 bytes determine the results of a file: one byte more than the longest file.
+-- The first 12,800,897 bytes, one more than the longest file has, determine the results of reading
+-- any bytes as a file for Teletext.
 findings_of_file-first : (s : List ℕ) → findings_of_file (take 12800897 s) ≡ findings_of_file s
 unfolding findings_within_scope checked_gsi_of_file
 findings_of_file-first s = elim (cases_lt 12800897 (length s)) [
@@ -126,7 +127,7 @@ findings_of_file-first s = elim (cases_lt 12800897 (length s)) [
       let size : length (take 12800897 s) ≡ 12800897 = length-take-le 12800897 s (omega arith) in
       rw (size, le-ltb (length s) 1024 (omega arith), take-take 1024 12800897 s (omega arith))
       (rw (drop-take 1024 (128 * 99999 + 1) s)
-      (reader_after_gsi-first whole (checked_gsi false (take 1024 s)) (drop 1024 s)))
+      (findings_after_opening-first whole (checked_gsi false (take 1024 s)) (drop 1024 s)))
 ]
 
 pub outcome_of_file-first : (s : List ℕ) → outcome_of_file (take 12800897 s) ≡ outcome_of_file s

@@ -20,7 +20,7 @@ use Rattle.stl_file.specs.Scope.{begins_outside}
 use Rattle.stl_file.specs.Subtitle.{SubtitleValue}
 use Rattle.stl_file.specs.SubtitleBlocks.{IsBlock}
 use Rattle.stl_file.specs.KeptBlocks.{LawOfScope, LawOfWholeDay, whole_day_scope}
-use Rattle.stl_file.specs.KeptBlocks.{is_read_to_the_end, stays}
+use Rattle.stl_file.specs.KeptBlocks.{has_no_ending_fault, stays}
 use Rattle.stl_file.specs.KeptBlocks.{scope_blocks}
 use Rattle.stl_file.specs.KeptBlocks.{unnumbered, within_for_next_block}
 use Rattle.stl_file.specs.Tti.{cf, ebn, is_skipped_block, max_blocks, tci}
@@ -50,10 +50,10 @@ findings_agree_after_step : (room room' : ℕ) (next next' : Option StartedSubti
     → ((n : Option StartedSubtitle) → step ≡ Ok (More n) → StartedStatesAgree within n n)
     → ((s : SubtitleValue) → step ≡ Ok (Yield s) → StartedStatesAgree within None None)
     → StartedStatesAgree within (skipped_after_first_block b) (skipped_after_first_block b)
-    → ((full cut : Option StartedSubtitle) → StartedStatesAgree within full cut → is_read_to_the_end
-    (next full) ≡ true
+    → ((full cut : Option StartedSubtitle) → StartedStatesAgree within full cut
+    → has_no_ending_fault (next full) ≡ true
     → unnumbered (next full) ≡ unnumbered (next' cut))
-    → is_read_to_the_end (findings_after_block room next b step) ≡ true
+    → has_no_ending_fault (findings_after_block room next b step) ≡ true
     → unnumbered (findings_after_block room next b step) ≡ unnumbered (findings_after_block room'
     next' b step)
 findings_agree_after_step room room' next next' b (Err f) within more give skipped on read =
@@ -70,7 +70,7 @@ read_block_has_subtitle_ebn : (scope : Scope) (begun : Option StartedSubtitle) (
     (room : ℕ)
     (next : Option StartedSubtitle → Findings)
     → is_skipped_block b ≡ false
-    → is_read_to_the_end (findings_after_block room next b (tti_block_step scope begun b)) ≡ true
+    → has_no_ending_fault (findings_after_block room next b (tti_block_step scope begun b)) ≡ true
     → ((ebn b < 240) ⊎ (ebn b ≡ 255)) × (cf b ≡ 0)
 unfolding tti_block_step
 read_block_has_subtitle_ebn scope begun b room next kept read = grind (arith, nat_tests)
@@ -174,7 +174,7 @@ module _ (scope : Scope) (b : List ℕ) (bs : List (List ℕ)) (within : Option 
     (within_for_next_block scope within b)
     full cut
     → room ≤ more
-    → is_read_to_the_end (findings_with_room scope room full (concat bs)) ≡ true
+    → has_no_ending_fault (findings_with_room scope room full (concat bs)) ≡ true
     → unnumbered (findings_with_room scope room full (concat bs))
     ≡ unnumbered (findings_with_room (whole_day_scope scope) more cut
     (concat (scope_blocks scope (within_for_next_block scope within b) bs)))) where
@@ -192,7 +192,7 @@ module _ (scope : Scope) (b : List ℕ) (bs : List (List ℕ)) (within : Option 
       → StartedStatesAgree (within_for_next_block scope within b) n n)
       → ((s : SubtitleValue) → tti_block_step scope begun b ≡ Ok (Yield s)
       → StartedStatesAgree (within_for_next_block scope within b) None None)
-      → is_read_to_the_end (findings_after_block room next b (tti_block_step scope begun b)) ≡ true
+      → has_no_ending_fault (findings_after_block room next b (tti_block_step scope begun b)) ≡ true
       → unnumbered (findings_after_block room next b (tti_block_step scope begun b))
       ≡ unnumbered (findings_with_room (whole_day_scope scope) room' begun
       (concat (scope_blocks scope within (b ∷ bs))))
@@ -215,7 +215,7 @@ module _ (scope : Scope) (b : List ℕ) (bs : List (List ℕ)) (within : Option 
       → StartedStatesAgree (within_for_next_block scope within b) n None)
       → ((s : SubtitleValue) → step ≡ Ok (Yield s) → ⊥)
       → ((f : StlFault) → step ≡ Err f → is_first_block_fault f ≡ false)
-      → is_read_to_the_end (findings_after_block room next b step) ≡ true
+      → has_no_ending_fault (findings_after_block room next b step) ≡ true
       → unnumbered (findings_after_block room next b step)
       ≡ unnumbered (findings_with_room (whole_day_scope scope) room' None
       (concat (scope_blocks scope within (b ∷ bs))))
@@ -256,11 +256,11 @@ any_block_reads_the_same : (scope : Scope) (b : List ℕ) (bs : List (List ℕ))
     (within_for_next_block scope within b)
     full' cut'
     → room ≤ more
-    → is_read_to_the_end (findings_with_room scope room full' (concat bs)) ≡ true
+    → has_no_ending_fault (findings_with_room scope room full' (concat bs)) ≡ true
     → unnumbered (findings_with_room scope room full' (concat bs))
     ≡ unnumbered (findings_with_room (whole_day_scope scope) more cut'
     (concat (scope_blocks scope (within_for_next_block scope within b) bs))))
-    → is_read_to_the_end (findings_after_block room (λ n. findings_with_room scope room n
+    → has_no_ending_fault (findings_after_block room (λ n. findings_with_room scope room n
     (concat bs)) b
     (tti_block_step scope full b)) ≡ true
     → unnumbered (findings_after_block room (λ n. findings_with_room scope room n (concat bs)) b
@@ -322,7 +322,7 @@ any_block_reads_the_same scope b bs (Some false) full cut room room' size kept l
 file_end_reads_the_same : (scope : Scope) (within : Option Bool) (full cut : Option StartedSubtitle)
     (room room' : ℕ)
     → StartedStatesAgree within full cut
-    → is_read_to_the_end (findings_with_room scope room full []) ≡ true
+    → has_no_ending_fault (findings_with_room scope room full []) ≡ true
     → unnumbered (findings_with_room scope room full [])
     ≡ unnumbered (findings_with_room (whole_day_scope scope) room' cut [])
 file_end_reads_the_same scope None full cut room room' begun read =
@@ -345,7 +345,7 @@ cut_blocks_read_the_same : (scope : Scope) (bs : List (List ℕ)) (within : Opti
     → AllByRecursion IsBlock bs
     → StartedStatesAgree within full cut
     → room ≤ room'
-    → is_read_to_the_end (findings_with_room scope room full (concat bs)) ≡ true
+    → has_no_ending_fault (findings_with_room scope room full (concat bs)) ≡ true
     → unnumbered (findings_with_room scope room full (concat bs))
     ≡ unnumbered (findings_with_room (whole_day_scope scope) room' cut
     (concat (scope_blocks scope within bs)))
@@ -393,7 +393,7 @@ module _ (g : List ℕ) (size : length g ≡ 1024) where
 
 cut_file_reads_the_same : (scope : Scope) (bs : List (List ℕ)) (gsi : Result (List ℕ) StlFault)
     → AllByRecursion IsBlock bs
-    → is_read_to_the_end (findings_after_opening scope (concat bs) gsi) ≡ true
+    → has_no_ending_fault (findings_after_opening scope (concat bs) gsi) ≡ true
     → unnumbered (findings_after_opening scope (concat bs) gsi)
     ≡ unnumbered (findings_after_opening (whole_day_scope scope)
     (concat (scope_blocks scope None bs)) gsi)

@@ -11,7 +11,7 @@ use Rattle.stl_file.specs.declared.counts.Counts.{Counts}
 use Rattle.stl_file.specs.declared.fault.StlFault.{StlFault}
 use Rattle.stl_file.specs.declared.fault.NormalFault.{NormalFault}
 use Rattle.stl_file.specs.declared.fault.NormalFault.TheVariants.{Refused, Write}
-use Rattle.stl_file.specs.Tti.{is_subtitle_block, max_blocks}
+use Rattle.stl_file.specs.Tti.{is_unskipped_block, max_blocks}
 use Rattle.stl_file.specs.SubtitleBlocks.{IsBlock, AreLinked, AreSubtitleBlocks, AreBlocksOf}
 use Rattle.stl_file.specs.Reader.{ReaderValue, findings_within_scope, checked_gsi_of_file}
 use Rattle.stl_file.specs.Reader.{outcome_from, outcome_of_file}
@@ -37,7 +37,7 @@ use Rattle.stl_file.proofs.BlocksOfLemmas.{respelling_needs_no_more_blocks}
 -- The blocks of one subtitle have 128 bytes each, and none of the blocks is a comment or user data.
 linked_blocks_are_subtitle_blocks : (sgn_is sn_is : ℕ) (g : List (List ℕ))
     → AreLinked sgn_is sn_is g
-    → AllByRecursion IsBlock g × (filter is_subtitle_block g ≡ g)
+    → AllByRecursion IsBlock g × (filter is_unskipped_block g ≡ g)
 linked_blocks_are_subtitle_blocks sgn_is sn_is [] c = absurd c
 linked_blocks_are_subtitle_blocks sgn_is sn_is (b ∷ []) c = grind (arith, nat_tests)
 linked_blocks_are_subtitle_blocks sgn_is sn_is (b ∷ x ∷ g) c =
@@ -71,7 +71,7 @@ respelled_subtitles_are_blocks (s ∷ ss) (g ∷ gs) h =
         length-append g (joined_groups gs),
       );
       groups = blocks_of s ∷ rest.groups;
-      kept = filter-append is_subtitle_block (blocks_of s) (blocks_of_subtitles ss) ∙ rw
+      kept = filter-append is_unskipped_block (blocks_of s) (blocks_of_subtitles ss) ∙ rw
           (own.1, rest.kept) refl;
       outside = rw (whole_scope_drops_no_group (blocks_of s ∷ rest.groups)) tt;
       are_subtitle_blocks = rw (whole_scope_keeps_all_groups (blocks_of s ∷ rest.groups))

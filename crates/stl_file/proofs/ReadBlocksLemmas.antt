@@ -15,7 +15,7 @@ use Rattle.stl_file.specs.declared.fault.StlFault.TheVariants as fault
 use Rattle.stl_file.specs.declared.resuming.Found.{Found}
 use Rattle.stl_file.specs.declared.resuming.Found.TheVariants as found
 use Rattle.stl_file.specs.Tti.{max_blocks}
-use Rattle.stl_file.specs.Reader.{FailsReading, LastIsSubtitleBlock, block_of_fault}
+use Rattle.stl_file.specs.Reader.{FailsReading, LastIsUnskippedBlock, block_of_fault}
 use Rattle.stl_file.specs.Subtitle.{SubtitleValue}
 use Rattle.stl_file.specs.Reading.{StartedSubtitle, More, Yield, findings_after_block}
 use Rattle.stl_file.specs.Reading.{findings_with_room}
@@ -81,7 +81,7 @@ module _ {scope : Scope} {from : ℕ} {refused : Option StartedSubtitle}
       → (depends_on_end r ≡ true → more ≡ [])
       → findings_with_room scope (max_blocks - block) begun (take n buffer ++ more)
       ≡ findings_after_call scope to next more s r)
-      → (r ≡ Ok found.Subtitle → LastIsSubtitleBlock (h.bytes ++ take n buffer))
+      → (r ≡ Ok found.Subtitle → LastIsUnskippedBlock (h.bytes ++ take n buffer))
       → LeadsToResult scope from to refused next old new s r
   leads to r at whole some cut gives kept =
       let both = Consumes-trans old mid new h.bytes (take n buffer) h.consumed f.bytes in

@@ -9,9 +9,9 @@ use Rattle.stl_file.specs.declared.fault.StlFault.{StlFault}
 use Rattle.stl_file.specs.declared.resuming.Found.{Found}
 use Rattle.stl_file.specs.declared.resuming.Found.TheVariants as found
 use Rattle.stl_file.specs.Fault.{is_cut}
-use Rattle.stl_file.specs.Tti.{is_subtitle_block, max_blocks}
+use Rattle.stl_file.specs.Tti.{is_unskipped_block, max_blocks}
 use Rattle.stl_file.specs.SubtitleBlocks.{IsBlock, AreBlocksOf}
-use Rattle.stl_file.specs.Reader.{EndsWithSubtitleBlock, LastIsSubtitleBlock, Refuses}
+use Rattle.stl_file.specs.Reader.{EndsWithUnskippedBlock, LastIsUnskippedBlock, Refuses}
 use Rattle.stl_file.specs.Reader.{ConsumesSkippedBlocks, ConsumesSubtitle}
 use Rattle.stl_file.specs.Subtitle.{SubtitleValue}
 use Rattle.stl_file.specs.Reading.{StartedSubtitle, fails, findings_from, skipped_subtitle_from}
@@ -50,8 +50,8 @@ stopped_findings_fail to next more s f = grind arith
 is_cut-by : (f : StlFault) → depends_on_end (found_of (Err f)) ≡ true → is_cut f ≡ true
 is_cut-by f e = grind arith
 
--- No subtitle file continues with the bytes that led to a fault. If the fault is `Truncated` or
--- `Unfinished`, a file may continue with these bytes, but no file ends with them.
+-- No subtitle file continues with the bytes that led to a fault, unless the fault is `Truncated` or
+-- `Unfinished`: then a file may continue with these bytes, but no file ends with them.
 pub refuses : (from to : ℕ) (old new : Option (List ℕ)) (s : SubtitleValue)
     (next : Option StartedSubtitle)
     (x : StlFault)
@@ -80,8 +80,8 @@ no_subtitle_has_no_group gs h = grind (arith, nat_tests)
 
 last_block_is_subtitle_block : (prefix b : List ℕ) (bs : List (List ℕ))
     → AllByRecursion IsBlock (b ∷ bs)
-    → LastIsSubtitleBlock (prefix ++ concat (b ∷ bs))
-    → EndsWithSubtitleBlock (b ∷ bs)
+    → LastIsUnskippedBlock (prefix ++ concat (b ∷ bs))
+    → EndsWithUnskippedBlock (b ∷ bs)
 last_block_is_subtitle_block prefix b [] h k = k prefix b (ap (λ (x : List ℕ). prefix ++ x)
     (append-nil b)) h.0
 last_block_is_subtitle_block prefix b (c ∷ bs) h k = last_block_is_subtitle_block (prefix ++ b) c bs
@@ -91,10 +91,10 @@ last_block_is_subtitle_block prefix b (c ∷ bs) h k = last_block_is_subtitle_bl
 -- If the bytes of blocks do not end with a skipped block, and the blocks contain a subtitle, the
 -- list of blocks ends with a block that is not skipped.
 subtitle_blocks_end_the_list : (s : SubtitleValue) (bs : List (List ℕ))
-    → AreBlocksOf s (filter is_subtitle_block bs)
+    → AreBlocksOf s (filter is_unskipped_block bs)
     → AllByRecursion IsBlock bs
-    → LastIsSubtitleBlock (concat bs)
-    → EndsWithSubtitleBlock bs
+    → LastIsUnskippedBlock (concat bs)
+    → EndsWithUnskippedBlock bs
 subtitle_blocks_end_the_list s [] a h k = absurd cc
 subtitle_blocks_end_the_list s (b ∷ bs) a h k = last_block_is_subtitle_block [] b bs h k
 
@@ -110,7 +110,7 @@ found_subtitle_is_consumed from to old new s kept over l =
     let r = accepted_bytes_are_valid_blocks whole (max_blocks - from) None [] l.bytes (s ∷ []) refl
     (let o = rw over at (l.findings [] (λ e. refl)) in grind
     (arith, append-nil, empty_bytes_end_the_findings)) in
-    let are_subtitle_blocks : AreBlocksOf s (filter is_subtitle_block r.blocks) =
+    let are_subtitle_blocks : AreBlocksOf s (filter is_unskipped_block r.blocks) =
     rw r.kept (one_subtitle_has_one_group s r.groups (rw (whole_scope_keeps_all_groups r.groups) at
     r.inside_groups_match)) in
     record {

@@ -10,7 +10,7 @@ use Rattle.std.proofs.lemmas.List.{append-nil, take-append-drop, length-take-le}
 use Rattle.std.proofs.lemmas.Bool.{cases_Bool}
 use Rattle.std.proofs.lemmas.Bool.Decides.{nat_tests}
 use Rattle.stl_file.specs.declared.fault.StlFault.{StlFault}
-use Rattle.stl_file.specs.Tti.{is_subtitle_block, ebn, sgn, sn, text_of_block, is_skipped_block}
+use Rattle.stl_file.specs.Tti.{is_unskipped_block, ebn, sgn, sn, text_of_block, is_skipped_block}
 use Rattle.stl_file.specs.Scope.{begins_outside, is_inside, is_outside}
 use Rattle.stl_file.specs.declared.scope.Scope.{Scope}
 use Rattle.stl_file.specs.SubtitleBlocks.{IsBlock, AreLinked, AreOutside, AreSubtitleBlocks}
@@ -61,7 +61,7 @@ result_without_skipped : (scope : Scope) (bs : List (List ℕ)) (begun : Option 
     → AllByRecursion IsBlock bs
     → length bs ≤ few
     → length bs ≤ room
-    → judged_with_room scope few begun (concat (filter is_subtitle_block bs)) ≡ Ok ss
+    → judged_with_room scope few begun (concat (filter is_unskipped_block bs)) ≡ Ok ss
     → judged_with_room scope room begun (concat bs) ≡ Ok ss
 result_without_skipped scope [] begun few room ss h f le e = grind
     (arith, empty_bytes_end_the_findings)
@@ -74,7 +74,7 @@ result_without_skipped scope (b ∷ bs) begun few room ss h f le e =
           (rw skipped at e))
       | inr kept ↦
           findings_with_enough_room (few - 1) (room - 1)
-          (λ next. findings_with_room scope (few - 1) next (concat (filter is_subtitle_block bs)))
+          (λ next. findings_with_room scope (few - 1) next (concat (filter is_unskipped_block bs)))
           (λ next. findings_with_room scope (room - 1) next (concat bs)) b
           (tti_block_step scope begun b) ss
           (λ next ts.
@@ -83,7 +83,7 @@ result_without_skipped scope (b ∷ bs) begun few room ss h f le e =
           (rw (
             kept,
             findings_take_the_front_block scope few (few - 1) begun b
-                (concat (filter is_subtitle_block bs)) (omega arith)
+                (concat (filter is_unskipped_block bs)) (omega arith)
                 h.0,
           ) at e)
     ])
@@ -123,8 +123,8 @@ linked_blocks_are_read scope (c ∷ tail) room begun b rest o step linked few le
     (omega arith) (omega arith) in
     grind (arith, nat_tests, append_assoc)
 
--- Reading the blocks of a subtitle outside the scope returns only the later subtitles, unless the
--- blocks are too many.
+-- The blocks of a subtitle outside the scope, if they are not too many, do not change the result of
+-- reading: it is the result for the bytes after them.
 outside_group_is_skipped : (scope : Scope) (b : List ℕ) (others : List (List ℕ)) (room : ℕ)
     (rest : List ℕ)
     → AreOutside scope (b ∷ others)
@@ -243,7 +243,7 @@ pub record ReadsAsGroups
   pub few : length blocks ≤ room
   pub bytes : b ≡ concat blocks
   pub groups : List (List (List ℕ))
-  pub kept : before ++ filter is_subtitle_block blocks ≡ joined_groups groups
+  pub kept : before ++ filter is_unskipped_block blocks ≡ joined_groups groups
   pub outside : AllByRecursion (AreOutside scope) (filter (is_outside scope) groups)
   pub inside_groups_match : AllZip AreBlocksOf ss (filter (is_inside scope) groups)
 
@@ -251,8 +251,8 @@ front_block_keeps_reading : (scope : Scope) (room : ℕ) (before k : List (List 
     (ss ts : List SubtitleValue) (groups : List (List (List ℕ)))
     → 128 ≤ length b
     → (r : ReadsAsGroups scope room k (drop 128 b) ts)
-    → (before ++ cond (is_subtitle_block (take 128 b)) (take 128 b ∷ []) []) ++ filter
-    is_subtitle_block r.blocks
+    → (before ++ cond (is_unskipped_block (take 128 b)) (take 128 b ∷ []) []) ++ filter
+    is_unskipped_block r.blocks
     ≡ joined_groups groups
     → AllByRecursion (AreOutside scope) (filter (is_outside scope) groups)
     → AllZip AreBlocksOf ss (filter (is_inside scope) groups)
@@ -333,7 +333,7 @@ step_keeps_reading scope room begun before b ss (Ok (More None)) le rep e go all
           r.inside_groups_match
       | inr out ↦
           let r = go None [] ss refl all in
-          let own = before ++ cond (is_subtitle_block (take 128 b)) (take 128 b ∷ []) [] in
+          let own = before ++ cond (is_unskipped_block (take 128 b)) (take 128 b ∷ []) [] in
           let has = outside_group_adds_nothing scope ss own r.groups out
           (r.outside, r.inside_groups_match) in
           front_block_keeps_reading scope room before [] b ss ss (own ∷ r.groups) le r
@@ -344,7 +344,7 @@ step_keeps_reading scope room begun before b ss (Ok (Yield s)) le rep e go all =
     (length-take-le 128 b le) rep e in
     let c = ok_result_splits s _ ss all in
     let r = go None [] c.0 refl c.1 in
-    let own = before ++ cond (is_subtitle_block (take 128 b)) (take 128 b ∷ []) [] in
+    let own = before ++ cond (is_unskipped_block (take 128 b)) (take 128 b ∷ []) [] in
     let has = inside_group_adds_subtitle scope s c.0 own r.groups t.1 t.0
     (r.outside, r.inside_groups_match) in
     front_block_keeps_reading scope room before [] b ss c.0 (own ∷ r.groups) le r

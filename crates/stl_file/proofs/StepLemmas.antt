@@ -8,7 +8,8 @@ use Rattle.std.proofs.lemmas.List.{append-nil}
 use Rattle.std.proofs.lemmas.Bool.Decides.{nat_tests}
 use Rattle.stl_file.specs.declared.fault.StlFault.{StlFault}
 use Rattle.stl_file.specs.Questions.{Checks, result_of_checks}
-use Rattle.stl_file.specs.Tti.{is_subtitle_block, ebn, cf, sgn, sn, text_of_block, is_skipped_block}
+use Rattle.stl_file.specs.Tti.{ebn, cf, sgn, sn, text_of_block, is_skipped_block}
+use Rattle.stl_file.specs.Tti.{is_unskipped_block}
 use Rattle.stl_file.specs.SubtitleBlocks.{BelongsTo, AreLinked, AreOutside, Begins, AreBlocksOf}
 use Rattle.stl_file.specs.Subtitle.{SubtitleValue}
 use Rattle.stl_file.specs.Scope.{begins_outside, is_outside}
@@ -192,7 +193,7 @@ pub any_block_reaches_state : (scope : Scope) (begun : Option StartedSubtitle)
     → length b ≡ 128
     → Represents scope begun kept
     → tti_block_step scope begun b ≡ Ok r
-    → ReachesState scope (kept ++ cond (is_subtitle_block b) (b ∷ []) []) r
+    → ReachesState scope (kept ++ cond (is_unskipped_block b) (b ∷ []) []) r
 unfolding tti_block_step
 any_block_reaches_state scope begun kept b r size h e =
     grind (arith, nat_tests, append-nil, subtitle_block_reaches_state, unchanged_state_is_reached)
@@ -201,7 +202,7 @@ any_block_reaches_state scope begun kept b r size h e =
 pub yielding_block_is_subtitle_block : (scope : Scope) (begun : Option StartedSubtitle) (b : List ℕ)
     (s : SubtitleValue)
     → tti_block_step scope begun b ≡ Ok (Yield s)
-    → is_subtitle_block b ≡ true
+    → is_unskipped_block b ≡ true
 unfolding tti_block_step
 yielding_block_is_subtitle_block scope begun b s e = grind (arith, nat_tests)
 

@@ -6,7 +6,7 @@ use Rattle.std.proofs.lemmas.List.Sums.{count_by-le-length, length-filter}
 use Rattle.std.specs.Prelude.{filter}
 use Rattle.std.specs.List.{AllByRecursion, flat_map, concat}
 use Rattle.std.proofs.lemmas.List.{append-nil}
-use Rattle.stl_file.specs.Tti.{is_subtitle_block, ebn, text_of_block}
+use Rattle.stl_file.specs.Tti.{is_unskipped_block, ebn, text_of_block}
 use Rattle.stl_file.specs.SubtitleBlocks.{IsBlock, BelongsTo, AreLinked, AreBlocksOf}
 use Rattle.stl_file.specs.Subtitle.{SubtitleValue, IsSubtitle}
 use Rattle.stl_file.proofs.TimeCodeLemmas.{in_day}
@@ -18,13 +18,13 @@ pub length-concat : (bs : List (List ℕ))
 length-concat [] h = refl
 length-concat (x ∷ bs) h = grind (arith, nat_tests, length-append, length-concat bs h.1)
 
-pub filtering_adds_no_blocks : (bs : List (List ℕ)) → length (filter is_subtitle_block bs) ≤ length
+pub filtering_adds_no_blocks : (bs : List (List ℕ)) → length (filter is_unskipped_block bs) ≤ length
     bs
 filtering_adds_no_blocks bs = omega (
   arith,
-  length-filter is_subtitle_block bs,
+  length-filter is_unskipped_block bs,
   count_by-le-length
-      is_subtitle_block bs,
+      is_unskipped_block bs,
 )
 
 pub linked_first_block_belongs : (sgn_is sn_is : ℕ) (b : List ℕ) (bs : List (List ℕ))

@@ -37,12 +37,12 @@ scope_blocks scope within (b ∷ bs) =
 abbrev pub whole_day_scope : Scope → Scope
 whole_day_scope scope = record scope { from = 0; to = day }
 
--- The reader reaches the end of the file: no fault ends reading, though subtitles may be rejected.
-abbrev pub is_read_to_the_end : Findings → Bool
-is_read_to_the_end no_more = true
-is_read_to_the_end (breaks f block) = false
-is_read_to_the_end (finds s block more) = is_read_to_the_end more
-is_read_to_the_end (refuses f block more) = is_read_to_the_end more
+-- No fault ends the reading of the file, though subtitles may be rejected.
+abbrev pub has_no_ending_fault : Findings → Bool
+has_no_ending_fault no_more = true
+has_no_ending_fault (breaks f block) = false
+has_no_ending_fault (finds s block more) = has_no_ending_fault more
+has_no_ending_fault (refuses f block more) = has_no_ending_fault more
 
 -- Sets all block numbers in the results to 0, to compare results apart from block numbers.
 abbrev pub unnumbered : Findings → Findings
@@ -59,7 +59,7 @@ LawOfScope =
     (scope : Scope) (gsi : List ℕ) (blocks : List (List ℕ))
     → length gsi ≡ gsi_size
     → AllByRecursion IsBlock blocks
-    → is_read_to_the_end (findings_within_scope scope (gsi ++ concat blocks)) ≡ true
+    → has_no_ending_fault (findings_within_scope scope (gsi ++ concat blocks)) ≡ true
     → unnumbered (findings_within_scope scope (gsi ++ concat blocks))
     ≡ unnumbered (findings_within_scope (whole_day_scope scope)
     (gsi ++ concat (scope_blocks scope None blocks)))

@@ -12,7 +12,7 @@ use Rattle.stl_file.specs.Fault.{is_cut, is_file_read_failure, is_file_format_fa
 use Rattle.stl_file.specs.Gsi.{gsi_size, checked_gsi}
 use Rattle.stl_file.specs.Scope.{whole}
 use Rattle.stl_file.specs.declared.scope.Scope.{Scope}
-use Rattle.stl_file.specs.Tti.{max_blocks, is_subtitle_block}
+use Rattle.stl_file.specs.Tti.{max_blocks, is_unskipped_block}
 use Rattle.stl_file.specs.Subtitle.{SubtitleValue}
 use Rattle.stl_file.specs.SubtitleBlocks.{IsBlock, AreBlocksOf, AreSubtitleBlocks}
 use Rattle.stl_file.specs.Reading.{StartedSubtitle, Findings, breaks, findings_from, finds, no_more}
@@ -20,8 +20,8 @@ use Rattle.stl_file.specs.Reading.{refuses}
 use Rattle.stl_file.specs.Reading.{Outcome, ends, fails, gives, stopped}
 use Rattle.stl_file.specs.File.{IsFileFor}
 
--- The state of a reader: the GSI block, the number of the last TTI block that was read or begun (0
--- before the first), and the progress.
+-- The state of a reader: the GSI block, the number of the last TTI block that was read or begun, or
+-- at which the source failed (0 before the first), and the progress.
 pub record ReaderValue : Type 0 where
   pub gsi : List ℕ
   pub block : ℕ
@@ -41,8 +41,8 @@ yielded_subtitle (Err f) s = Err f
 
 -- ---- the results of all later calls of a reader
 
--- The results for the bytes b after `block` TTI blocks, up to the first fault, if the next block
--- begins a subtitle.
+-- The results for the bytes b after `block` TTI blocks, up to the first fault, if there is no
+-- current subtitle.
 abbrev pub outcome_from : ℕ → List ℕ → Outcome
 outcome_from block b = stopped (findings_from whole block None b)
 
@@ -76,31 +76,31 @@ pub record GivesNextResult
 
 -- ---- the results within one call of a reader
 
--- The block to report for a fault after `block` blocks. `TooManyBlocks` and `Read` are reported for
--- the block after the last block that was read.
+-- The block to report for a fault, if the reader has counted `block` blocks. `TooManyBlocks` and
+-- `Read` are reported for the next block; a truncated block is already counted.
 abbrev pub block_of_fault : ℕ → StlFault → ℕ
 block_of_fault block fault.TooManyBlocks = block + 1
 block_of_fault block fault.Read = block + 1
 block_of_fault block _ = block
 
--- The block to report for a result, given the last block that was read or begun.
+-- The block to report for a result, if the reader has counted `block` blocks.
 abbrev pub reported_block : ℕ → Result (Option SubtitleValue) StlFault → ℕ
 reported_block block (Err f) = block_of_fault block f
 reported_block block (Ok found) = block
 
--- If the bytes end with a complete block, that block is not a skipped block.
-abbrev pub LastIsSubtitleBlock : List ℕ → Type 0
-LastIsSubtitleBlock bytes =
-    (prefix last : List ℕ) → bytes ≡ prefix ++ last → IsBlock last → is_subtitle_block last ≡ true
+-- If there are at least 128 bytes, the last 128 of them are not a skipped block.
+abbrev pub LastIsUnskippedBlock : List ℕ → Type 0
+LastIsUnskippedBlock bytes =
+    (prefix last : List ℕ) → bytes ≡ prefix ++ last → IsBlock last → is_unskipped_block last ≡ true
 
 -- ---- the bytes that a call of a reader consumes
 
 -- The list of blocks has a last block, and the last block is not skipped: it is neither user data
 -- nor a comment, except that a comment may have a reserved EBN.
-abbrev pub EndsWithSubtitleBlock : List (List ℕ) → Type 0
-EndsWithSubtitleBlock [] = ⊥
-EndsWithSubtitleBlock (b ∷ []) = is_subtitle_block b ≡ true
-EndsWithSubtitleBlock (b ∷ c ∷ bs) = EndsWithSubtitleBlock (c ∷ bs)
+abbrev pub EndsWithUnskippedBlock : List (List ℕ) → Type 0
+EndsWithUnskippedBlock [] = ⊥
+EndsWithUnskippedBlock (b ∷ []) = is_unskipped_block b ≡ true
+EndsWithUnskippedBlock (b ∷ c ∷ bs) = EndsWithUnskippedBlock (c ∷ bs)
 
 -- The bytes consumed are the blocks of the subtitle s, with the skipped blocks before and inside
 -- them. The number of blocks read rises from `from` to `to`.
@@ -109,8 +109,8 @@ pub record ConsumesSubtitle (from to : ℕ) (old new : Option (List ℕ)) (s : S
     pub blocks : List (List ℕ)
     pub counted : from + length blocks ≡ to
     pub each : AllByRecursion IsBlock blocks
-    pub are_subtitle_blocks : AreBlocksOf s (filter is_subtitle_block blocks)
-    pub ends : EndsWithSubtitleBlock blocks
+    pub are_subtitle_blocks : AreBlocksOf s (filter is_unskipped_block blocks)
+    pub ends : EndsWithUnskippedBlock blocks
     pub consumed : Consumes old new (concat blocks)
 
 -- The bytes consumed are only skipped blocks, followed by the end of the file.
@@ -118,7 +118,7 @@ pub record ConsumesSkippedBlocks (from to : ℕ) (old new : Option (List ℕ)) :
   pub blocks : List (List ℕ)
   pub counted : from + length blocks ≡ to
   pub each : AllByRecursion IsBlock blocks
-  pub skipped : filter is_subtitle_block blocks ≡ []
+  pub skipped : filter is_unskipped_block blocks ≡ []
   pub consumed : Consumes old new (concat blocks)
   pub ended : IsAtEnd new
 
@@ -166,7 +166,7 @@ pub record FailsReading
 -- skipped blocks before and inside them. For `None`: only skipped blocks, up to the end of the
 -- file. For a fault of the format: bytes with which no file continues, or, for a truncated file,
 -- ends. If the source failed, the failure was at block `to`. Before the call, `from` blocks were
--- read, and the next block begins a subtitle.
+-- read, and there was no current subtitle.
 abbrev pub ConsumesByResult :
     ℕ → ℕ → Option (List ℕ) → Option (List ℕ) → Result (Option SubtitleValue) StlFault → Type 0
 ConsumesByResult from to old new (Ok (Some s)) = ConsumesSubtitle from to old new s

@@ -12,12 +12,12 @@ use Rattle.stl_file.specs.Fault.{is_cut, is_first_block_fault}
 use Rattle.stl_file.specs.Subtitle.{SubtitleValue}
 use Rattle.stl_file.specs.Reading.{StartedSubtitle, Findings, breaks, findings_from, finds, no_more}
 use Rattle.stl_file.specs.Reading.{refuses}
-use Rattle.stl_file.specs.Reader.{LastIsSubtitleBlock, checked_gsi_of_file}
+use Rattle.stl_file.specs.Reader.{LastIsUnskippedBlock, checked_gsi_of_file}
 use Rattle.stl_file.specs.declared.scope.Scope.{Scope}
 
--- The state of a reader: the scope, the number of the last TTI block that was read or begun (0
--- before the first), the progress, and, until reading ends, the rejected subtitle whose later
--- blocks may follow.
+-- The state of a reader: the scope, the number of the last TTI block that was read or begun, or at
+-- which the source failed (0 before the first), the progress, and, until reading ends, the rejected
+-- subtitle whose later blocks may follow.
 pub record ResumingValue : Type 0 where
   pub scope : Scope
   pub block : ℕ
@@ -69,7 +69,7 @@ pub record LeadsToResult (scope : Scope) (from to : ℕ) (refused next : Option 
       → findings_from scope from refused (bytes ++ more)
       ≡ findings_after_call scope to next more s result
   pub ended : depends_on_end result ≡ true → IsAtEnd new
-  pub kept : result ≡ Ok found.Subtitle → LastIsSubtitleBlock bytes
+  pub kept : result ≡ Ok found.Subtitle → LastIsUnskippedBlock bytes
 
 -- The progress of a reader after a call, by the call's result.
 abbrev pub progress_after_finding : Result Found StlFault → Progress
@@ -77,13 +77,14 @@ progress_after_finding (Err f) = Broken
 progress_after_finding (Ok found.End) = AtEnd
 progress_after_finding (Ok _) = Reading
 
--- If a subtitle is rejected, the fault is a fault of its first block.
+-- If a subtitle is rejected, the fault is in CS, JC, VP, TCI or TCO of its first block.
 abbrev pub IsFirstBlockFaultIfRefused : Found → Type 0
 IsFirstBlockFaultIfRefused (found.Refused f) = is_first_block_fault f ≡ true
 IsFirstBlockFaultIfRefused _ = ⊤
 
 -- The result of a call, after the reader has read blocks up to the last block of a subtitle, the
--- end of the file or a fault. A fault of a subtitle's first block only rejects the subtitle.
+-- end of the file or a fault. A fault in CS, JC, VP, TCI or TCO of a subtitle's first block only
+-- rejects the subtitle.
 abbrev pub found_of : Result Bool StlFault → Result Found StlFault
 found_of (Ok true) = Ok found.Subtitle
 found_of (Ok false) = Ok found.End

@@ -6,7 +6,7 @@ use Rattle.stl_file.specs.TimeCode.{frame_from_bytes, is_valid_time_field}
 use Rattle.stl_file.specs.Tti.{block_size, max_blocks_of_subtitle, first_reserved_ebn}
 use Rattle.stl_file.specs.Tti.{last_block_ebn}
 use Rattle.stl_file.specs.Tti.{not_cumulative, no_comment, tci, tco}
-use Rattle.stl_file.specs.Tti.{sgn, sn, ebn, cs, vp, jc, cf, text_of_block, is_subtitle_block}
+use Rattle.stl_file.specs.Tti.{sgn, sn, ebn, cs, vp, jc, cf, text_of_block, is_unskipped_block}
 use Rattle.stl_file.specs.Subtitle.{SubtitleValue}
 use Rattle.stl_file.specs.Scope.{begins_outside, is_inside, is_outside}
 use Rattle.stl_file.specs.declared.scope.Scope.{Scope}
@@ -36,8 +36,9 @@ AreLinked sgn_is sn_is (b ∷ []) = BelongsTo sgn_is sn_is b × (ebn b ≡ last_
 AreLinked sgn_is sn_is (b ∷ c ∷ bs) =
     BelongsTo sgn_is sn_is b × (ebn b < first_reserved_ebn) × AreLinked sgn_is sn_is (c ∷ bs)
 
--- The block b can be the first of the subtitle s: it has CS 0 and the fields of s, and their values
--- are valid. The text is not compared, since s also has the text of later blocks.
+-- The block b has the fields of a first block of the subtitle s: CS 0, and SGN, SN, VP, JC, TCI and
+-- TCO of s with valid values. EBN and CF are not checked here. The text is not compared, since s
+-- also has the text of later blocks.
 pub record Begins (s : SubtitleValue) (b : List ℕ) : Type 0 where
   pub cumulative : cs b ≡ not_cumulative
   pub sgn_is : sgn b ≡ s.sgn
@@ -80,6 +81,6 @@ pub record AreSubtitleBlocks (scope : Scope) (most : ℕ) (bs : List (List ℕ))
   pub each : AllByRecursion IsBlock bs
   pub few : length bs ≤ most
   pub groups : List (List (List ℕ))
-  pub kept : filter is_subtitle_block bs ≡ flat_map (λ group. group) groups
+  pub kept : filter is_unskipped_block bs ≡ flat_map (λ group. group) groups
   pub outside : AllByRecursion (AreOutside scope) (filter (is_outside scope) groups)
   pub are_subtitle_blocks : AllZip AreBlocksOf ts (filter (is_inside scope) groups)

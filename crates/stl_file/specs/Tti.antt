@@ -29,7 +29,7 @@ max_blocks = 99999
 abbrev pub max_blocks_of_subtitle : ℕ
 max_blocks_of_subtitle = 9
 
--- The first reserved EBN: a subtitle continues after each smaller EBN.
+-- The first reserved EBN: a subtitle continues after each of its blocks with a smaller EBN.
 abbrev pub first_reserved_ebn : ℕ
 first_reserved_ebn = 0xF0
 
@@ -115,5 +115,5 @@ is_skipped_block b =
     || ((nat_lt (ebn b) first_reserved_ebn || (ebn b == last_block_ebn)) && (cf b == comment_flag))
 
 -- The block is not skipped. So it may be a comment with a reserved EBN, which is a fault.
-abbrev pub is_subtitle_block : List ℕ → Bool
-is_subtitle_block b = not (is_skipped_block b)
+abbrev pub is_unskipped_block : List ℕ → Bool
+is_unskipped_block b = not (is_skipped_block b)

@@ -15,7 +15,7 @@ use Rattle.ttx_page.specs.Page.{Rows, blank, blank_row}
 use Rattle.stl_file.specs.Subtitle.{SubtitleValue}
 use Rattle.stl_rows.specs.declared.national.National.{National}
 use Rattle.stl_rows.specs.PlainPage.{line_faults, line_in_row, lines, page_of_lines, drawn_plainly}
-use Rattle.stl_rows.specs.PlainPage.{subtitle_faults}
+use Rattle.stl_rows.specs.PlainPage.{plain_drawing_faults}
 use Rattle.stl_rows.specs.Line.{code_in_column, boxed_line, row_of, start_column}
 use Rattle.stl_rows.specs.LineByLine.{FitsRow, draw_line}
 use Rattle.stl_rows.specs.TextCode.{first_of, faults_of_codes, text_codes}
@@ -134,7 +134,7 @@ pub is_drawn-end : {jc vp row : ℕ} {page : Rows} {all : List (List ℕ)}
 is_drawn-end h = rw (h.drawn_and_left_are_all, append-nil) (sym h.shown)
 
 drawn_subtitle_has_no_faults : (n : National) (t : SubtitleValue) → IsOk (drawn_plainly n t) →
-    subtitle_faults n t ≡ []
+    plain_drawing_faults n t ≡ []
 unfolding drawn_plainly
 drawn_subtitle_has_no_faults n t ok = grind (arith, nat_tests)
 
@@ -152,7 +152,7 @@ unfolding drawn_plainly
 drawn-page n t ok = rw (drawn_subtitle_has_no_faults n t ok) refl
 
 pub drawn-first : (n : National) (t : SubtitleValue)
-    → MatchOption (first_of (subtitle_faults n t)) (IsOk (drawn_plainly n t))
+    → MatchOption (first_of (plain_drawing_faults n t)) (IsOk (drawn_plainly n t))
     (λ f. drawn_plainly n t ≡ Err f)
 unfolding drawn_plainly
 drawn-first n t = grind (arith, nat_tests)

@@ -48,7 +48,7 @@ use Rattle.stl_rows.proofs.KeepingLemmas.{judged-refused}
 use Rattle.stl_rows.proofs.KeepingLemmas.{judged-start, judged_with_kept, none-first}
 use Rattle.stl_rows.proofs.KeepingLemmas.{all_kept_means_no_faults}
 use Rattle.stl_rows.proofs.KeepingLemmas.{judged_subtitles_with_bits-subtitles}
-use Rattle.stl_file.specs.KeptBlocks.{is_read_to_the_end}
+use Rattle.stl_file.specs.KeptBlocks.{has_no_ending_fault}
 use Rattle.stl_file.specs.Reading.{StartedSubtitle, findings_from}
 use Rattle.stl_file.specs.Tti.{max_blocks}
 use Rattle.stl_file.specs.declared.scope.Scope.{Scope}
@@ -162,7 +162,7 @@ pub record LoadingInvariant (drawing : Drawing) (file : List ℕ) (left : Findin
     (kept : KeptRecords) (early : List LoadFault) : Type 0 where
   pub same : faults drawing file ≡ early ++ faults_after drawing before left
   pub judged : reliable_subtitles_of drawing file ≡ judged_with_kept drawing before kept left
-  pub whole : is_read_to_the_end (findings_within_scope drawing.scope file) ≡ is_read_to_the_end
+  pub whole : has_no_ending_fault (findings_within_scope drawing.scope file) ≡ has_no_ending_fault
       left
   pub ends_after : (rest : List LoadFault) (at : ℕ)
       → EndsSubtitleAfter drawing before rest at left
@@ -337,7 +337,7 @@ module _ {drawing : Drawing} {file : List ℕ} {left : Findings} {before : Optio
         ≡ record { judged = all_kept kept; is_before_unreliable = kept.is_before_unreliable }
     judged_equals_kept = rw is at on.judged ∙ judged-end drawing before kept
 
-    read_to_the_end : is_read_to_the_end (findings_within_scope drawing.scope file) ≡ true
+    read_to_the_end : has_no_ending_fault (findings_within_scope drawing.scope file) ≡ true
     read_to_the_end = rw is at on.whole
 
     pub reported-all : faults drawing file ≡ early
@@ -380,7 +380,7 @@ module _ {drawing : Drawing} {file : List ℕ} {left : Findings} {before : Optio
       → left ≡ breaks fault block
       → can_judge drawing file ≡ false
   can_judge-broken is =
-      let broken : is_read_to_the_end (findings_within_scope drawing.scope file) ≡ false = rw is at
+      let broken : has_no_ending_fault (findings_within_scope drawing.scope file) ≡ false = rw is at
       on.whole
       in
       rw broken refl

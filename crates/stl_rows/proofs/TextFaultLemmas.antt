@@ -13,7 +13,7 @@ use Rattle.stl_rows.specs.declared.national.National.{National}
 use Rattle.stl_rows.specs.declared.text_code.TextCode.{TextCode}
 use Rattle.stl_rows.specs.declared.text_code.TextCode.TheVariants.{Cell, NoCell, NewLine, Refused}
 use Rattle.stl_rows.specs.declared.text_faults.OpenLine.{OpenLine}
-use Rattle.stl_rows.specs.PlainPage.{line_fault_kinds, line_faults, subtitle_faults}
+use Rattle.stl_rows.specs.PlainPage.{line_fault_kinds, line_faults, plain_drawing_faults}
 use Rattle.stl_rows.specs.Line.{has_cells, has_start_box_code, has_double_height, boxed_line}
 use Rattle.stl_rows.specs.LineByLine.{empty_line, next_empty_line, prepared_lines}
 use Rattle.stl_rows.specs.LineByLine.{shape_fault_kinds, first_fault_of_codes}
@@ -135,7 +135,7 @@ first_fault_of_codes-is (c ∷ ss) before cells line h =
 
 pub first_fault_of_codes-faults : (n : National) (t : SubtitleValue)
     → first_fault_of_codes None (empty_line 0 t.vp false) (text_codes n 0 t.text) ≡ first_of
-    (subtitle_faults n t)
+    (plain_drawing_faults n t)
 first_fault_of_codes-faults n t =
     first_fault_of_codes-is (text_codes n 0 t.text) None [] (empty_line 0 t.vp false)
     (shape-none 0 t.vp false)

@@ -11,7 +11,7 @@ use Rattle.std.specs.List.{list_any}
 use Rattle.stl_file.specs.Reader.{findings_within_scope}
 use Rattle.stl_file.specs.Reading.{Findings, breaks, finds, no_more, refuses}
 use Rattle.stl_file.specs.Subtitle.{SubtitleValue}
-use Rattle.stl_file.specs.KeptBlocks.{is_read_to_the_end}
+use Rattle.stl_file.specs.KeptBlocks.{has_no_ending_fault}
 use Rattle.stl_rows.specs.declared.layout.Drawing.{Drawing}
 use Rattle.stl_rows.specs.declared.times.Times.{Times}
 use Rattle.stl_rows.specs.DrawnPage.{drawn}
@@ -26,7 +26,8 @@ pub record ReliableSubtitle : Type 0 where
   pub subtitle : SubtitleValue
   pub is_after_unreliable : Bool
 
--- The reliable subtitles of a file, and whether an unreliable subtitle follows the last one.
+-- The reliable subtitles of a file, and whether an unreliable subtitle follows the last one; if
+-- there is none, whether the file has an unreliable subtitle.
 pub record ReliableSubtitles : Type 0 where
   pub judged : List ReliableSubtitle
   pub is_before_unreliable : Bool
@@ -83,28 +84,29 @@ abbrev pub has_any_subtitle : List ReliableSubtitle → Bool
 has_any_subtitle [] = false
 has_any_subtitle (j ∷ js) = true
 
--- A transmission can be checked against the reliable subtitles of the file: the file was read to
--- its end, and it has at least one reliable subtitle, none of which starts before the TCO of an
+-- A transmission can be checked against the reliable subtitles of the file: no fault ended reading,
+-- and the file has at least one reliable subtitle, none of which starts before the TCO of an
 -- earlier one.
 abbrev pub can_judge : Drawing → List ℕ → Bool
 can_judge drawing file =
     let judged = (reliable_subtitles_of drawing file).judged in
-    is_read_to_the_end (findings_within_scope drawing.scope file) && has_any_subtitle judged &&
+    has_no_ending_fault (findings_within_scope drawing.scope file) && has_any_subtitle judged &&
     are_in_order judged
 
 -- ---- frames with an unknown expected page
 
--- The frame is in a gap before, between or after the reliable subtitles in the list, and the gap
--- contains an unreliable subtitle (for the last gap: `other`). The first gap begins at `start`,
--- which is the TCO of the subtitle before the list, or 0 if there is none; the last gap has no end.
+-- The frame is in a gap before, between or after the reliable subtitles in the list, and at this
+-- place the file has an unreliable subtitle, whatever its times (for the last gap: `other`). The
+-- first gap begins at `start`, which is the TCO of the subtitle before the list, or 0 if there is
+-- none; the last gap has no end.
 abbrev pub is_undecided_from : ℕ → List ReliableSubtitle → Bool → ℕ → Bool
 is_undecided_from start [] other frame = nat_le start frame && other
 is_undecided_from start (j ∷ js) other frame =
     (nat_le start frame && nat_lt frame j.subtitle.tci && j.is_after_unreliable)
     || is_undecided_from j.subtitle.tco js other frame
 
--- The expected page is unknown at this frame, because the frame is in a gap with an unreliable
--- subtitle.
+-- The expected page is unknown at this frame, because the frame is in a gap where the file has an
+-- unreliable subtitle.
 abbrev pub is_undecided : ReliableSubtitles → ℕ → Bool
 is_undecided all frame = is_undecided_from 0 all.judged all.is_before_unreliable frame
 
@@ -138,7 +140,7 @@ all_judged_of_programme j = record {
 unfoldable pub is_undecided_in : JudgedValue → ℕ → Bool
 is_undecided_in j frame = is_undecided (all_judged_of_programme j) frame
 
--- The file of a `JudgedProgramme` has at least one unreliable subtitle.
+-- The file of a `JudgedProgramme` has at least one unreliable subtitle within the scope.
 abbrev pub has_unreliable_subtitle : JudgedValue → Bool
 has_unreliable_subtitle j = j.is_before_unreliable || list_any (λ bit. bit) j.after_unreliable_bits
 

@@ -9,7 +9,7 @@ use Rattle.stl_file.specs.File.{IsFileFor}
 use Rattle.stl_file.specs.Gsi.{gsi_size}
 use Rattle.stl_file.specs.Reader.{block_of_byte, findings_within_scope}
 use Rattle.stl_file.specs.SubtitleBlocks.{IsBlock}
-use Rattle.stl_file.specs.KeptBlocks.{whole_day_scope, is_read_to_the_end, scope_blocks}
+use Rattle.stl_file.specs.KeptBlocks.{whole_day_scope, has_no_ending_fault, scope_blocks}
 use Rattle.stl_file.specs.Subtitle.{SubtitleValue}
 use Rattle.stl_file.specs.Reading.{Findings, breaks, finds, no_more, refuses}
 use Rattle.stl_rows.specs.declared.layout.Drawing.{Drawing}
@@ -113,7 +113,7 @@ LawOfParts =
     (drawing : Drawing) (gsi : List ℕ) (blocks : List (List ℕ))
     → length gsi ≡ gsi_size
     → AllByRecursion IsBlock blocks
-    → is_read_to_the_end (findings_within_scope drawing.scope (gsi ++ concat blocks)) ≡ true
+    → has_no_ending_fault (findings_within_scope drawing.scope (gsi ++ concat blocks)) ≡ true
     → (kinds_of (faults drawing (gsi ++ concat blocks))
     ≡ kinds_of (faults (full_day_drawing drawing)
     (gsi ++ concat (scope_blocks drawing.scope None blocks))))

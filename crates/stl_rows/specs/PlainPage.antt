@@ -1,5 +1,5 @@
--- The drawn page of a subtitle with the default layout, or the first fault of drawing: each line is
--- one row below the line before, and gets a box if it has cells but no start box.
+-- The drawn page of a valid subtitle with the default layout, or the first fault of drawing: each
+-- line is one row below the line before, and gets a box if it has cells but no start box.
 use Rattle.std.specs.Prelude.{ℕ, ◌+◌, ◌-◌, Bool, false, ◌&&◌, List, [], ◌∷◌, ◌++◌, Result, Ok, Err}
 use Rattle.std.specs.Prelude.{◌==◌, nat_lt, if◌then◌else◌, map, length, slice_index_or}
 use Rattle.std.specs.List.{range_with_len}
@@ -44,10 +44,10 @@ line_faults number row is_below_double_height (line ∷ lines) =
     map (fault_of number) (line_fault_kinds row is_below_double_height line)
     ++ line_faults (number + 1) (row + 1) (has_double_height line) lines
 
--- All faults of a subtitle in the order of reports: faults of the text by byte, then faults of the
--- lines by line.
-abbrev pub subtitle_faults : National → SubtitleValue → List RowFault
-subtitle_faults national t =
+-- All faults of drawing a subtitle plainly, in the order of reports: faults of the text by byte,
+-- then faults of the lines by line.
+abbrev pub plain_drawing_faults : National → SubtitleValue → List RowFault
+plain_drawing_faults national t =
     faults_of_codes (text_codes national 0 t.text) ++ line_faults 0 t.vp false (lines national t)
 
 -- ---- the plainly drawn page of a subtitle
@@ -68,4 +68,5 @@ value_unless_error (e ∷ es) value = Err e
 -- The plainly drawn page of a subtitle, or the first fault of drawing the subtitle.
 unfoldable pub drawn_plainly : National → SubtitleValue → Result Rows RowFault
 drawn_plainly national t =
-    value_unless_error (subtitle_faults national t) (page_of_lines t.jc t.vp (lines national t))
+    value_unless_error (plain_drawing_faults national t)
+    (page_of_lines t.jc t.vp (lines national t))

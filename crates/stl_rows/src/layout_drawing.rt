@@ -1,4 +1,4 @@
-//! Draws the page of a subtitle by a layout other than the default layout.
+//! Draws the page of a subtitle by the items of a layout.
 
 ghost use Rattle.std.specs.Prelude.{◌≡◌, ◌+◌, ◌*◌, ◌-◌, ◌<◌, ◌≤◌, ◌++◌, ◌∷◌, [], length, map, Some};
 ghost use Rattle.std.specs.Prelude.{IfErr, IfSome, OnOk, None};
@@ -26,15 +26,15 @@ use arrayvec::ArrayVec;
 use ttx_page::Page;
 
 // The bytes of a text, or the cells of a text with 8A for each new line.
-type TextCells = ArrayVec<u8, 1008>;
+type TextBuffer = ArrayVec<u8, 1008>;
 
 // Replaces the bytes of a text that the layout item `strip` names by 80, a byte without a cell.
-fn text_after_strip(items: &LayoutItems, text: &[u8]) -> TextCells
+fn text_after_strip(items: &LayoutItems, text: &[u8]) -> TextBuffer
     requires { length text.now ≤ 1008 }
     ensures value { result.items ≡ text_after_strip items.now text.now }
     ensures few { length result.items ≤ 1008 }
 {
-    let mut bytes = TextCells::new();
+    let mut bytes = TextBuffer::new();
     for byte in text {
         bytes.push(if items.strips_byte(*byte) {
             0x80
@@ -47,7 +47,7 @@ fn text_after_strip(items: &LayoutItems, text: &[u8]) -> TextCells
 
 // Decodes a text into its cells, with 8A for each new line, or returns the fault of the first
 // rejected byte.
-fn read_cells(national: National, text: &[u8], cells: &mut TextCells) -> Result<(), RowFault>
+fn read_cells(national: National, text: &[u8], cells: &mut TextBuffer) -> Result<(), RowFault>
     requires none { cells.old.items ≡ [] }
     requires at_most_1008 { length text.now ≤ 1008 }
     ensures cells { OnOk result
@@ -148,7 +148,8 @@ struct Place {
 }
 
 impl Place {
-    // Returns the first fault of a line at this position on the page.
+    // Returns the first fault of a line at this position on the page, or `None` if the line has no
+    // fault or takes no row.
     #[tactic(auto, unfolding(crate::specs::LineByLayout::line_fault_at))]
     fn fault(&self, items: &LayoutItems, row_shift: u16, line: &[u8]) -> Option<RowFault>
         requires { row_shift ≤ 2271 }
@@ -164,7 +165,8 @@ impl Place {
         })
     }
 
-    // Returns the kind of the first fault of a line at this position on the page.
+    // Returns the kind of the first fault of a line at this position on the page, or `None` if the
+    // line has no fault.
     #[tactic(auto, unfolding(crate::specs::DrawnPage::placed_fault_kinds))]
     fn fault_kind(&self, items: &LayoutItems, row_shift: u16, line: &[u8]) -> Option<RowFaultKind>
         requires { row_shift ≤ 2271 }
@@ -274,7 +276,7 @@ pub(crate) fn draw_with_layout(
     ensures { result ≡ drawn_by national items.now subtitle.now }
 {
     let text = text_after_strip(items, subtitle.text());
-    let mut cells = TextCells::new();
+    let mut cells = TextBuffer::new();
     read_cells(national, text.as_slice(), &mut cells)?;
     let row_shift = shift_of_lines(items, cells.as_slice());
     let first = Place {

@@ -23,7 +23,7 @@ use Rattle.sub_answer.specs.Answering.{AnswersListen, PrintsReceived}
 use Rattle.sub_listing.specs.DeviceCall.{SinkCall, SourceCall}
 use Rattle.sub_listing.specs.declared.status.Status.{Status}
 use Rattle.sub_answer.specs.ListenListing.{IsOldPage, Listens, listing_of, tuned_to_old_page}
-use Rattle.sub_listing.specs.DisplayLines.{PrintsCompletePage}
+use Rattle.sub_listing.specs.DisplayLines.{PrintsValidPage}
 use Rattle.ttx_page.specs.Page.{Rows}
 use Rattle.sub_listen.specs.declared.listening.ListenFault.{ListenFault}
 use Rattle.sub_request.specs.declared.listening.Listening.{Listening}
@@ -38,7 +38,7 @@ pub listening_starts_from_old_page : (leaves : ℕ → ℕ) (l : Listening) (fir
     → old ≡ tuned_to_old_page page
     → IsOldPage page
     → ReceivesFile leaves l frames unread reported left w old end result
-    → IfOk result (λ _. PrintsCompletePage asks_complete end)
+    → IfOk result (λ _. PrintsValidPage asks_complete end)
     → Listens leaves l first frames unread reported left (listing_of first asks_complete end result)
 listening_starts_from_old_page
     leaves l first frames unread reported left w old end result page asks_complete asks tuned start

@@ -7,7 +7,7 @@ use Rattle.sub_listen.specs.Run.{ReceivesFile}
 use Rattle.sub_rules.specs.Transmission.{Transmission}
 use Rattle.sub_request.specs.declared.listening.Listening.{Listening}
 use Rattle.sub_listen.specs.declared.listening.ListenFault.{ListenFault}
-use Rattle.sub_listing.specs.DisplayLines.{PrintsCompletePage, display_text}
+use Rattle.sub_listing.specs.DisplayLines.{PrintsValidPage, display_text}
 use Rattle.sub_listing.specs.Faults.{check_line}
 use Rattle.sub_listing.specs.Listing.{Listing, done, fault_listing}
 use Rattle.sub_listing.specs.FaultLine.{line_with, counted_from}
@@ -29,16 +29,15 @@ tuned_to_old_page page = record {
   screen = None;
 }
 
--- The line of a fault of `listen`. A packet that is listed as lost but must not be lost is reported
--- with its frame and its number.
+-- The line of a fault of `listen`. A packet that is listed as lost and not skipped, but must not be
+-- lost (`LostHeader`), is reported with its frame and its index in that frame.
 abbrev pub listen_line : ListenFault → FaultLine
 listen_line (listen.File f) = check_line f
 listen_line (listen.LostHeader frame packet) =
     line_with kind.Refused (listen_code (listen.LostHeader frame packet))
     (place.Packet frame packet)
 
--- The output at the end of a run of `listen`. The argument `first` is the number of the first PES
--- packet in its file.
+-- The output at the end of a run of `listen`. PES packets are counted from the number `first`.
 abbrev pub listing_of : ℕ → Bool → Display → Result (Unit {0}) ListenFault → Listing
 listing_of first asks_complete end (Ok _) = done (display_text asks_complete end)
 listing_of first asks_complete end (Err f) = fault_listing (counted_from first (listen_line f))
@@ -60,4 +59,4 @@ pub record Listens
       ReceivesFile leaves l frames unread known left l.options.page (tuned_to_old_page old_page) end
       result
   pub listing_eq : listing ≡ listing_of first l.options.asks_complete end result
-  pub page_is : IfOk result (λ _. PrintsCompletePage l.options.asks_complete end)
+  pub page_is : IfOk result (λ _. PrintsValidPage l.options.asks_complete end)

@@ -18,7 +18,7 @@ use Rattle.sub_checker.specs.PesFileEvents.{ReportsFile}
 use Rattle.sub_checker.specs.declared.accepted.Accepted.{Accepted}
 use Rattle.sub_check.specs.CheckedFiles.{IsChecked, IsCheckedBy, ReportsEvents, all_events_of}
 use Rattle.sub_check.specs.CheckedFiles.{answer_unless_fault, first_answer}
-use Rattle.sub_check.specs.FirstReported.{IsRuleFault}
+use Rattle.sub_check.specs.FirstReported.{IsPesFileFault}
 use Rattle.sub_check.proofs.FirstReportedLemmas.{failed_read_breaks_no_rule, rule_fault_is_proved}
 use Rattle.sub_check.proofs.RuleReportedLemmas.{first_reported_breaks_rule}
 use Rattle.sub_check.proofs.VerdictLemmas.{Decides, IsReadCompletely, ReadsUntilAnswer}
@@ -59,8 +59,8 @@ module _ (programme : ProgrammeValue) (options : OptionsValue) (fine : IsOptions
       → first_reported_fault (all_events_of programme options bytes) ≡ Some f
       → IsAnswerForFirstFault programme options bytes (Err f)
   refused_first f first =
-      let own : IsRuleFault f = rule_fault_is_proved f (first_reported_breaks_rule programme options
-      bytes f first) in
+      let own : IsPesFileFault f = rule_fault_is_proved f (first_reported_breaks_rule programme
+      options bytes f first) in
       answered (Err f) (λ fine. first) (λ pes is. absurd (failed_read_breaks_no_rule f pes own is))
 
   pub answered_first :

@@ -13,7 +13,7 @@ use Rattle.ttx_pes.specs.declared.fault.PesFault.TheVariants.{Read}
 use Rattle.stl_rows.specs.Programme.{ProgrammeValue}
 use Rattle.sub_plan.specs.FrameTime.{clock_of}
 use Rattle.sub_plan.specs.Options.{OptionsValue}
-use Rattle.sub_check.specs.FirstReported.{IsRuleFault, KeepsFirstFault, is_rule_fault}
+use Rattle.sub_check.specs.FirstReported.{IsPesFileFault, KeepsFirstFault, is_pes_file_fault}
 use Rattle.sub_checker.specs.declared.accepted.Accepted.{Accepted}
 use Rattle.sub_rules.specs.Events.{broken_cell, first_reported_fault, unread_fault}
 use Rattle.sub_rules.specs.FrameRules.{Criteria, UnreadReason, criteria_of}
@@ -43,11 +43,11 @@ each_complete [] h = tt
 each_complete (s ∷ frames) h =
     (All-from_recursion IsPacket s.packets h.0, each_complete frames h.1)
 
-pub rule_fault_is_proved : (f : CheckFault) → is_rule_fault f ≡ true → IsRuleFault f
+pub rule_fault_is_proved : (f : CheckFault) → is_pes_file_fault f ≡ true → IsPesFileFault f
 rule_fault_is_proved f e = grind (arith, nat_tests)
 
 pub failed_read_breaks_no_rule : (f : CheckFault) (pes : ℕ)
-    → IsRuleFault f
+    → IsPesFileFault f
     → (let r : Result Accepted CheckFault = Err f in r) ≡ Err (fault.Pes pes Read)
     → ⊥
 failed_read_breaks_no_rule f pes own is =
@@ -61,7 +61,7 @@ nothing_after_first_fault f new (x ∷ xs) (mid, keeps, rest) = let none = keeps
 -- A report sink that stores the first broken rule stores the first fault among the events, if that
 -- fault is a broken rule.
 pub kept_fault_is_first_reported : (new : Option CheckFault) (xs : List Event)
-    → ((f : CheckFault) → first_reported_fault xs ≡ Some f → is_rule_fault f ≡ true)
+    → ((f : CheckFault) → first_reported_fault xs ≡ Some f → is_pes_file_fault f ≡ true)
     → ReportsInOrder KeepsFirstFault None new xs
     → first_reported_fault xs ≡ new
 kept_fault_is_first_reported new [] named reported = sym reported

@@ -43,13 +43,13 @@ use Rattle.sub_laws.proofs.StepTestLemmas.{steps_report_nothing_bad}
 use Rattle.sub_laws.proofs.ReadFileLemmas.{ArePesPacketsSound, IsCausedByBytes, IsSoundPesPacket}
 use Rattle.sub_laws.proofs.ReadFileLemmas.{file_pes_packets_sound}
 use Rattle.sub_check.specs.CheckedFiles.{all_events_of, events_of_first_pes_packets}
-use Rattle.sub_check.specs.FirstReported.{is_rule_fault}
+use Rattle.sub_check.specs.FirstReported.{is_pes_file_fault}
 use Rattle.sub_rules.specs.PesPacketEvents.{events_of_pes_packets}
 use Rattle.sub_rules.specs.Trusted.{events_reported_after}
 use Rattle.sub_rules.specs.declared.active_faults.ActiveFaults.{ActiveFaults}
 
 abbrev is_not_rule_fault : CheckFault → Bool
-is_not_rule_fault f = not (is_rule_fault f)
+is_not_rule_fault f = not (is_pes_file_fault f)
 
 placing_keeps_rule_fault : (pes : ℕ) (f : CheckFault) → is_not_rule_fault f ≡ false →
     is_not_rule_fault (fault_with_pes_number pes f) ≡ false
@@ -203,7 +203,8 @@ module _ (g : Criteria) (left : (f : PesFault) → g.unread ≡ Some (BadPacket 
                   placing_keeps_rule_fault) es own).none;
             }
 
-other_fault_breaks_rule : (f : CheckFault) → is_not_rule_fault f ≡ false → is_rule_fault f ≡ true
+other_fault_breaks_rule : (f : CheckFault) → is_not_rule_fault f ≡ false
+    → is_pes_file_fault f ≡ true
 other_fault_breaks_rule f e = grind (arith, nat_tests)
 
 module _ (programme : ProgrammeValue) (options : OptionsValue) (bytes : List ℕ) where
@@ -215,7 +216,7 @@ module _ (programme : ProgrammeValue) (options : OptionsValue) (bytes : List ℕ
 
   pub first_reported_breaks_rule : (f : CheckFault)
       → first_reported_fault (all_events_of programme options bytes) ≡ Some f
-      → is_rule_fault f ≡ true
+      → is_pes_file_fault f ≡ true
   unfolding all_events_of_pes_packets
   first_reported_breaks_rule f is =
       let g = criteria_of programme options file.unread in
@@ -228,7 +229,7 @@ module _ (programme : ProgrammeValue) (options : OptionsValue) (bytes : List ℕ
 
   pub first_in_prefix_breaks_rule : (n : ℕ) (f : CheckFault)
       → first_reported_fault (events_of_first_pes_packets programme options bytes n) ≡ Some f
-      → is_rule_fault f ≡ true
+      → is_pes_file_fault f ≡ true
   unfolding events_of_pes_packets
   first_in_prefix_breaks_rule n f is =
       let g = criteria_of programme options file.unread in

@@ -1,7 +1,8 @@
 //! The report sink of `check`, which stores the first fault.
 ghost use Rattle.std.specs.Prelude.{◌≡◌, Option, None, Some, IfSome, is_some, false, not, true};
 ghost use Rattle.std.proofs.Common.{refl, subst, sym};
-ghost use Rattle.sub_check.specs.FirstReported.{IsRuleFault, KeepsFirstFault, is_rule_fault};
+ghost use Rattle.sub_check.specs.FirstReported.{IsPesFileFault, KeepsFirstFault};
+ghost use Rattle.sub_check.specs.FirstReported.{is_pes_file_fault};
 ghost use Rattle.sub_rules.specs.declared.fault.CheckFault.{CheckFault};
 
 use std::marker::Model;
@@ -9,8 +10,8 @@ use sub_io::{Live, LiveReportSink, ReportSink, Stopped};
 use sub_rules::{CheckFault, Event};
 use ttx_pes::PesFault;
 
-/// A report sink that stores the first broken rule and stops the check there. It ignores all other
-/// events.
+/// A report sink that stores the first fault in the PES file and stops the check there. It ignores
+/// all other events.
 ///
 /// Its model is the stored fault.
 #[derive(Drop)]
@@ -23,7 +24,7 @@ impl Model for FirstFault {
 
     ghost view = { λ f. f.fault };
 
-    ghost invariant = { λ f. IfSome f.fault IsRuleFault };
+    ghost invariant = { λ f. IfSome f.fault IsPesFileFault };
 }
 
 impl FirstFault {
@@ -38,7 +39,7 @@ impl FirstFault {
     pub fn into_fault(self) -> CheckFault
         requires { is_some self ≡ true }
         ensures kept { self ≡ Some result }
-        ensures own { IsRuleFault result }
+        ensures own { IsPesFileFault result }
     {
         match self.fault {
             Some(fault) => fault,
@@ -52,11 +53,11 @@ impl ReportSink<Event> for FirstFault {
 
     ghost has_stopped = { λ f. is_some f };
 
-    // Stores the fault of the event and stops the check, if a rule is broken.
+    // Stores the fault of the event and stops the check, if the fault is in the PES file.
     #[tactic(auto, using(sub_io::proofs::ReportingLemmas::tellings))]
     fn report(&mut self, item: Event) -> Result<(), Stopped> {
         match item {
-            Event::Reported(fault) if is_rule_fault(&fault) => {
+            Event::Reported(fault) if is_pes_file_fault(&fault) => {
                 self.fault = Some(fault);
                 Err(Stopped)
             }
@@ -95,11 +96,11 @@ impl LiveReportSink<Event> for FirstFault {
     } };
 }
 
-// Returns whether a fault is a broken rule: it is neither a fault of the subtitle file nor a device
-// failure.
-fn is_rule_fault(fault: &CheckFault) -> bool
-    ensures is { result ≡ is_rule_fault fault.now }
-    ensures own { result ≡ true → IsRuleFault fault.now }
+// Returns whether a fault is in the PES file: it is neither a fault of the subtitle file nor a
+// device failure.
+fn is_pes_file_fault(fault: &CheckFault) -> bool
+    ensures is { result ≡ is_pes_file_fault fault.now }
+    ensures own { result ≡ true → IsPesFileFault fault.now }
 {
     match fault {
         CheckFault::Subtitles(_)

@@ -1,5 +1,5 @@
 //! Recognises the format of an input from its first bytes, and explains on standard error that an
-//! input was given in the wrong place, or that its times may start again at midnight.
+//! input has another format than the request reads, or that its times may start again at midnight.
 //!
 //! No contract covers the messages; they do not affect any result.
 
@@ -20,7 +20,7 @@ pub enum InputKind {
 }
 
 /// The formats that the inputs of a run appear to have, in the order in which they were opened, and
-/// whether the answer was a fault of their times.
+/// whether the first printed line is a fault of the order of times.
 #[derive(Drop)]
 pub struct InputKinds {
     /// The format of the file that was opened first.
@@ -91,10 +91,10 @@ fn has_sync_bytes(bytes: &[u8], start: usize, size: usize) -> bool {
     true
 }
 
-/// Prints one line if a refused input appears to be a transport stream that was read without
-/// `--pid`, a subtitle file in the place of PES packets, or one of the other formats in the place
-/// of a subtitle file; or if `check` without `--all` refuses the order of a subtitle file's times.
-/// Otherwise prints nothing.
+/// Prints at most one line: that a refused input appears to be a transport stream that was read
+/// without `--pid`, a subtitle file in the place of PES packets, or one of the other formats in the
+/// place of a subtitle file; or, if `check` without `--all` refuses the order of a subtitle file's
+/// times, how to check a file over midnight.
 pub fn explain_refusal<E: Eprint>(request: &Request<'_>, kinds: &InputKinds, errors: &E) {
     match request.files() {
         FileNames::ReadStl(stl) | FileNames::Write(stl, _) => {
@@ -107,13 +107,13 @@ pub fn explain_refusal<E: Eprint>(request: &Request<'_>, kinds: &InputKinds, err
                 explain_pes_packets(
                     pes.name(),
                     kinds.second.get(),
-                    lacks_no_pid(request),
+                    needs_no_pid(request),
                     errors,
                 );
             }
         }
         FileNames::ReadPes(pes) | FileNames::Extract(pes, _) => {
-            explain_pes_packets(pes.name(), kinds.first.get(), lacks_no_pid(request), errors);
+            explain_pes_packets(pes.name(), kinds.first.get(), needs_no_pid(request), errors);
         }
         FileNames::None => {}
     }
@@ -123,7 +123,7 @@ const EXCHANGED: &str = ": give the subtitle file first (subttx check STL PES)";
 
 // Returns `false` only for a request without `--pid` that with `--pid` would read a transport
 // stream.
-fn lacks_no_pid(request: &Request<'_>) -> bool {
+fn needs_no_pid(request: &Request<'_>) -> bool {
     match request {
         Request::Packets { pes } | Request::Check { pes, .. } | Request::Listen { pes, .. } => {
             pes.stream.is_some()
@@ -156,13 +156,13 @@ fn explain_subtitle_file<E: Eprint>(name: &str, kind: InputKind, advice: &str, e
 
 // Prints a line if an input in the place of PES packets appears to be a transport stream that is
 // read without `--pid`, or a subtitle file.
-fn explain_pes_packets<E: Eprint>(name: &str, kind: InputKind, lacks_no_pid: bool, errors: &E) {
+fn explain_pes_packets<E: Eprint>(name: &str, kind: InputKind, needs_no_pid: bool, errors: &E) {
     let _ = match kind {
-        InputKind::TransportStream(188) if !lacks_no_pid => eprintln!(errors;
+        InputKind::TransportStream(188) if !needs_no_pid => eprintln!(errors;
             "subttx: {name:?} looks like a transport stream: give --pid \
             (subttx survey {name:?} lists PIDs)"
         ),
-        InputKind::TransportStream(size) if !lacks_no_pid => eprintln!(errors;
+        InputKind::TransportStream(size) if !needs_no_pid => eprintln!(errors;
             "subttx: {name:?} looks like a transport stream: give --pid and --packet-size {size} \
             (subttx survey {name:?} lists PIDs)"
         ),

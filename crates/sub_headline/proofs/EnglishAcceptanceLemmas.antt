@@ -51,9 +51,9 @@ subtitle_header_is_english h is = record {
   subtitle = is.subtitle;
   suppressed = is.suppressed;
   displayed = is.displayed;
-  first_option = ap (λ (bits : NationalBits). bits.c12) is.option;
-  second_option = ap (λ (bits : NationalBits). bits.c13) is.option;
-  third_option = ap (λ (bits : NationalBits). bits.c14) is.option;
+  c12_clear = ap (λ (bits : NationalBits). bits.c12) is.option;
+  c13_clear = ap (λ (bits : NationalBits). bits.c13) is.option;
+  c14_clear = ap (λ (bits : NationalBits). bits.c14) is.option;
 }
 
 english_header_is_subtitle_header : (h : Header) → IsEnglishHeader h → IsSubtitleHeader English h
@@ -64,7 +64,7 @@ english_header_is_subtitle_header h is = record {
   subtitle = is.subtitle;
   suppressed = is.suppressed;
   displayed = is.displayed;
-  option = option_eq h is.first_option is.second_option is.third_option;
+  option = option_eq h is.c12_clear is.c13_clear is.c14_clear;
 }
 
 module _ (options : OptionsValue) (subtitles : List SubtitleValue) (transmission : Transmission)

@@ -13,7 +13,7 @@ use Rattle.stl_file.specs.declared.scope.Scope.{Scope}
 use Rattle.stl_file.specs.Subtitle.{SubtitleValue}
 use Rattle.stl_file.specs.SubtitleBlocks.{AreBlocksOf, AreLinked, AreOutside, IsBlock}
 use Rattle.stl_file.specs.TimeCode.{frame_from_bytes, is_valid_time_field}
-use Rattle.stl_file.specs.Tti.{cf, ebn, is_subtitle_block, tci, text_of_block}
+use Rattle.stl_file.specs.Tti.{cf, ebn, is_unskipped_block, tci, text_of_block}
 use Rattle.stl_file.proofs.ScopeLemmas.{whole_scope_keeps_all_groups}
 use Rattle.sub_headline.specs.PlainReading.{groups_of_blocks, belongs_to_subtitle}
 use Rattle.sub_headline.specs.PlainReading.{chunks_of_size, subtitle_of_blocks}
@@ -46,10 +46,10 @@ skipped_block_is_not_of_subtitle : (e c : ℕ)
 skipped_block_is_not_of_subtitle e c is = grind (arith, nat_tests)
 
 filters_agree_by_test : (is : Bool) (b : List ℕ) (bs : List (List ℕ))
-    → is_subtitle_block b ≡ is
-    → AllByRecursion IsNoComment (if is then b ∷ filter is_subtitle_block bs else filter
-    is_subtitle_block bs)
-    → (belongs_to_subtitle b ≡ is) × AllByRecursion IsNoComment (filter is_subtitle_block bs)
+    → is_unskipped_block b ≡ is
+    → AllByRecursion IsNoComment (if is then b ∷ filter is_unskipped_block bs else filter
+    is_unskipped_block bs)
+    → (belongs_to_subtitle b ≡ is) × AllByRecursion IsNoComment (filter is_unskipped_block bs)
 filters_agree_by_test true b bs is none = (
   kept_block_is_of_subtitle (ebn b) (cf b) none.0 is,
   none.1,
@@ -60,11 +60,11 @@ filters_agree_by_test false b bs is none = (
 )
 
 filters_agree_without_comments : (bs : List (List ℕ))
-    → AllByRecursion IsNoComment (filter is_subtitle_block bs)
-    → filter belongs_to_subtitle bs ≡ filter is_subtitle_block bs
+    → AllByRecursion IsNoComment (filter is_unskipped_block bs)
+    → filter belongs_to_subtitle bs ≡ filter is_unskipped_block bs
 filters_agree_without_comments [] none = refl
 filters_agree_without_comments (b ∷ bs) none =
-    let by = filters_agree_by_test (is_subtitle_block b) b bs refl none in rw
+    let by = filters_agree_by_test (is_unskipped_block b) b bs refl none in rw
     (by.0, filters_agree_without_comments bs by.1)
     refl
 
@@ -300,7 +300,7 @@ file_groups_give_subtitles : (scope : Scope) (bytes gsi : List ℕ) (ts : List S
 file_groups_give_subtitles scope bytes gsi ts file =
     let each = all_groups_are_linked scope ts file.rest.groups file.rest.outside
     file.rest.are_subtitle_blocks in
-    let none : AllByRecursion IsNoComment (filter is_subtitle_block file.blocks) =
+    let none : AllByRecursion IsNoComment (filter is_unskipped_block file.blocks) =
     subst (λ (bs : List (List ℕ)). AllByRecursion IsNoComment bs) (sym file.rest.kept)
     (groups_have_no_comment file.rest.groups each) in
     rw (

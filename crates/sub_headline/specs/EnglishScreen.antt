@@ -18,10 +18,10 @@ abbrev pub space_character : ℕ
 space_character = 0x20
 
 -- The character of a cell with this code (EN 300 706, Latin G0 set, Table 35, with the English
--- national option sub-set, Table 36): the same number, except at the places of the sub-set and for
--- 7F, a filled rectangle. A spacing attribute is shown as a space. Receivers that are set to region
--- 0000 or 0010 have this sub-set for C12, C13 and C14 clear; in another region, some of these codes
--- are other characters.
+-- national option sub-set, Table 36): the same number, except at 11 of the 13 places of the sub-set
+-- and for 7F, a filled rectangle. A spacing attribute is shown as a space. Receivers that are set
+-- to region 0000 or 0010 have this sub-set for C12, C13 and C14 clear; in other regions, some of
+-- these codes may be other characters.
 unfoldable pub english_character : ℕ → ℕ
 english_character code =
     if nat_lt code 0x20 then space_character
@@ -53,9 +53,9 @@ LawOfEnglishCharacters =
     → english_code byte ≡ Some code
     → english_character code ≡ text_character byte
 
--- The character in a cell of a page. A decoder shows it only inside a box.
-abbrev pub character_in_cell : Rows → ℕ → ℕ → ℕ
-character_in_cell page row column = english_character (cell page row column)
+-- The character in a cell of an English page. A decoder shows it only inside a box.
+abbrev pub english_character_in_cell : Rows → ℕ → ℕ → ℕ
+english_character_in_cell page row column = english_character (cell page row column)
 
 -- At the end of frame f, each cell of the decoded page of every receiver shows the character of the
 -- expected page, or a space if the cell is excused. The receiver was switched on in frame g, a
@@ -71,9 +71,9 @@ EachDecodedPageReads page subtitles transmission =
     → IsTrue (has_page_header (kind page) (on_air transmission g j f))
     → (row column : ℕ)
     → IsCell row column
-    → (character_in_cell new.page row column
-    ≡ character_in_cell (english_due_page subtitles f) row column)
-    ⊎ ((character_in_cell new.page row column ≡ space_character)
+    → (english_character_in_cell new.page row column
+    ≡ english_character_in_cell (english_due_page subtitles f) row column)
+    ⊎ ((english_character_in_cell new.page row column ≡ space_character)
     × ExcusedBy class
     (IsHitOrLost page (on_air transmission g j f) (arrivals_from_flags arrived got))
     row column)

@@ -21,17 +21,17 @@ use Rattle.sub_headline.specs.PlainFiles.{AreReadFrom}
 
 -- The control bits in the header of an English subtitle page: C4 (erase page), C6 (subtitle) and C7
 -- (suppress header) are set; C5 (newsflash) and C10 (inhibit display) are clear; C12 to C14 are
--- clear, which selects English. C8 (update indicator) and C9 (interrupted sequence) may have any
--- value.
+-- clear, which selects English. C8 (update indicator), C9 (interrupted sequence) and C11
+-- (magazine serial) may have any value.
 pub record IsEnglishHeader (h : Header) : Type 0 where
   pub erases : IsTrue (c4 h)
   pub no_newsflash : IsFalse (c5 h)
   pub subtitle : IsTrue (c6 h)
   pub suppressed : IsTrue (c7 h)
   pub displayed : IsFalse (c10 h)
-  pub first_option : IsFalse (c12 h)
-  pub second_option : IsFalse (c13 h)
-  pub third_option : IsFalse (c14 h)
+  pub c12_clear : IsFalse (c12 h)
+  pub c13_clear : IsFalse (c13 h)
+  pub c14_clear : IsFalse (c14 h)
 
 -- If the packet is a header of the page, it has the control bits of an English subtitle.
 abbrev pub IsControlledInEnglish : PageIdValue → List ℕ → Type 0
@@ -67,10 +67,11 @@ pub record IsEnglishGood
   pub serial : EachPacket (λ one. EachPacket (HaveSameMode one) transmission) transmission
   -- 4. Each header of the page has the control bits of an English subtitle.
   pub control : EachPacket (IsControlledInEnglish o.page) transmission
-  -- 5. While the page is open, each row has odd parity and is repeated unchanged, and there is no
-  -- packet X/25 to X/28 of its magazine.
+  -- 5. While the page is open, each row has odd parity, packets of the same row since the last
+  -- header of the page are equal, and there is no packet X/25 to X/28 of its magazine.
   pub spans : HasCleanSpans o.page transmission
-  -- 6. The first frame contains a header of the page, and so do any `every` consecutive frames.
+  -- 6. The first frame contains a header of the page, and so does at least one of any `every`
+  -- consecutive frames.
   pub opens : HoldsHeader o.page transmission (first_frame transmission)
   pub repeats : Repeats o.page o.every transmission
   -- 7. At the end of each frame, the transmitted page is the expected page.
@@ -79,7 +80,8 @@ pub record IsEnglishGood
   pub paced : KeepsPace o.pace transmission
   pub complete : IsTrue o.asks_complete → Complete transmission o
 
--- The files are accepted: they contain subtitles and a good transmission of these subtitles.
+-- The files are accepted: they contain subtitles, possibly none, and a good transmission of these
+-- subtitles.
 pub record IsAcceptedInPlainTerms (o : OptionsValue) (stl pes : List ℕ) : Type 0 where
   pub subtitles : List SubtitleValue
   pub transmission : Transmission

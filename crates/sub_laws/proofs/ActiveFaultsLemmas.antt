@@ -28,7 +28,7 @@ use Rattle.sub_rules.specs.Events.{unexpected_cell}
 use Rattle.sub_rules.specs.Events.{was_undecided}
 use Rattle.sub_rules.specs.FrameRules.{Criteria, HasHeader, HasRecentPageHeader}
 use Rattle.sub_rules.specs.FrameRules.{IsCompleteIfRequired}
-use Rattle.sub_rules.specs.FrameRules.{HasRecentPesPacket, ShowsDue}
+use Rattle.sub_rules.specs.FrameRules.{HasRecentPesPacket, IsCorrectCell}
 use Rattle.sub_rules.specs.FrameRules.{frame_at, packets_before}
 use Rattle.sub_rules.specs.Transmission.{SentFrame, Transmission}
 use Rattle.sub_rules.proofs.TestLemmas.{first_below_is_least, no_first_below_fails_each, holds}
@@ -158,7 +158,7 @@ module _ (g : Criteria) (frames : Transmission) (n f : ℕ) where
       (packets_before frames n) (g.due f)
 
   wrong_cell_test_is_exact : (row column : ℕ)
-      → Decides (not (is_wrong row column)) (ShowsDue g frames n f row column)
+      → Decides (not (is_wrong row column)) (IsCorrectCell g frames n f row column)
   wrong_cell_test_is_exact row column = grind (arith, nat_tests, right_cell_test_is_exact)
 
   wrong_eq : g.undecided f ≡ false → wrong_cell g frames n f ≡ first_wrong_cell_of_page
@@ -169,7 +169,7 @@ module _ (g : Criteria) (frames : Transmission) (n f : ℕ) where
 
   pub no_wrong_cell_shows_due_page : wrong_cell g frames n f ≡ None → g.undecided f ≡ false
       → (row column : ℕ) → IsCell row column
-      → ShowsDue g frames n f row column
+      → IsCorrectCell g frames n f row column
   unfolding first_wrong_cell_after
   no_wrong_cell_shows_due_page e known row column is =
       (wrong_cell_test_is_exact row column).0
@@ -187,8 +187,8 @@ module _ (g : Criteria) (frames : Transmission) (n f : ℕ) where
     wrong_cell_test_is_exact,
   )
 
-  pub due_page_has_no_wrong_cell : ((row column : ℕ) → IsCell row column → ShowsDue g frames n f row
-      column)
+  pub due_page_has_no_wrong_cell : ((row column : ℕ) → IsCell row column
+      → IsCorrectCell g frames n f row column)
       → wrong_cell g frames n f ≡ None
   due_page_has_no_wrong_cell shows = go (wrong_cell g frames n f) refl
     where

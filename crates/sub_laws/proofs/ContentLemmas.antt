@@ -23,7 +23,7 @@ use Rattle.stl_rows.specs.Programme.{ProgrammeValue}
 use Rattle.sub_plan.specs.Options.{OptionsValue}
 use Rattle.sub_plan.specs.Schedule.{due_page_in}
 use Rattle.sub_rules.specs.Events.{broken_cell, is_late, is_undecided_within}
-use Rattle.sub_rules.specs.FrameRules.{Criteria, ShowsDue, UnreadReason, criteria_of, frame_at}
+use Rattle.sub_rules.specs.FrameRules.{Criteria, IsCorrectCell, UnreadReason, criteria_of, frame_at}
 use Rattle.sub_rules.specs.FrameRules.{packets_before, packets_of_frame}
 use Rattle.sub_rules.specs.Kept.{IsRight}
 use Rattle.sub_rules.specs.PacketRules.{KeepsAllRules}
@@ -122,7 +122,7 @@ module _ (programme : ProgrammeValue) (options : OptionsValue) (unread : Option 
   -- space that was not expected at frame f or in the `within` frames before it.
   record IsBroken (n f : ℕ) (x : ℕ × ℕ) : Type 0 where
     pub is_cell : IsCell x.0 x.1
-    pub wrong : ShowsDue g frames n f x.0 x.1 → ⊥
+    pub wrong : IsCorrectCell g frames n f x.0 x.1 → ⊥
     pub unexpected :
         is_late g frames n f ≡ false
         → MayShow options.keeps options.page (packets_before frames n) g.due (frame_at frames 0) f

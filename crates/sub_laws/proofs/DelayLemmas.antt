@@ -21,7 +21,7 @@ use Rattle.stl_rows.specs.Programme.{ProgrammeValue}
 use Rattle.sub_plan.specs.Options.{OptionsValue}
 use Rattle.sub_plan.specs.Schedule.{due_page_in}
 use Rattle.sub_rules.specs.Kept.{IsRight, LawOfRightCells}
-use Rattle.sub_rules.specs.Repeats.{FinishesRegularly, HasEndedPage, IsDueWithin, IsFinishedFrame}
+use Rattle.sub_rules.specs.Repeats.{FinishesRegularly, IsPageClosed, IsDueWithin, IsFinishedFrame}
 use Rattle.sub_rules.specs.Repeats.{IsCorrectPage, KeepsDueCodes}
 use Rattle.sub_rules.specs.Transmission.{Transmission, on_air, on_air_until}
 use Rattle.sub_laws.specs.WithoutDelay.{LawOfTrustWithoutDelay}
@@ -174,7 +174,7 @@ pub ended_of_complete :
     → CompleteWithin transmission options a b
     → a ≤ f
     → f ≤ b
-    → HasEndedPage options.page transmission f
+    → IsPageClosed options.page transmission f
 ended_of_complete transmission options a b f complete low high = grind (arith, nat_tests)
 
 module _ (programme : ProgrammeValue) (transmission : Transmission) (options : OptionsValue)

@@ -9,7 +9,7 @@ use Rattle.sub_rules.specs.FrameRules.{UnreadReason}
 use Rattle.sub_rules.specs.Transmission.{Transmission, on_air_until}
 use Rattle.sub_rules.specs.declared.end_rule.EndRule.TheVariants.{Incomplete}
 use Rattle.sub_laws.specs.CleanStretch.{HasNoReceiverFault, LawOfUnreportedStretch, HasNoOpenEnd}
-use Rattle.sub_laws.specs.CleanStretch.{criteria_with_refusals}
+use Rattle.sub_laws.specs.CleanStretch.{criteria_if_unreliable}
 use Rattle.sub_laws.specs.OnScreen.{CompleteWithin}
 use Rattle.sub_laws.specs.Sufficient.{IsSufficient}
 use Rattle.sub_laws.specs.ReportedRepeats.{IsSufficientWithRepeats}
@@ -43,16 +43,16 @@ pub complete_unreported :
     (programme : ProgrammeValue) (transmission : Transmission) (options : OptionsValue)
     → (unread : Option UnreadReason) (any_unreliable : Bool) (undecided : ℕ → Bool) (a b : ℕ)
     → options.within ≡ 0
-    → HasNoReceiverFault (criteria_with_refusals programme options unread any_unreliable undecided)
+    → HasNoReceiverFault (criteria_if_unreliable programme options unread any_unreliable undecided)
     transmission a b
     → IsTrue options.asks_complete
-    → HasNoOpenEnd (criteria_with_refusals programme options unread any_unreliable undecided)
+    → HasNoOpenEnd (criteria_if_unreliable programme options unread any_unreliable undecided)
     transmission a b
     → CompleteWithin transmission options a b
 complete_unreported programme transmission options unread any_unreliable undecided a b at_once
     unreported asks
     closed f low high holds =
-    let g = criteria_with_refusals programme options unread any_unreliable undecided in
+    let g = criteria_if_unreliable programme options unread any_unreliable undecided in
     let end = frame_has_an_end transmission a b unreported.stretch unreported.rising f low high in
     let shut =
     ((active_faults_are_exact g transmission end.0 f at_once end.1.1).rules Incomplete).0

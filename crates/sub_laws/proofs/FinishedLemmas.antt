@@ -17,7 +17,7 @@ use Rattle.sub_rules.specs.FrameRules.{Criteria, UnreadReason, end_frame, frame_
 use Rattle.sub_rules.specs.Kept.{IsRight}
 use Rattle.sub_rules.specs.Repeats.{IsFinishedFrame}
 use Rattle.sub_rules.specs.Transmission.{Transmission}
-use Rattle.sub_laws.specs.CleanStretch.{IsEnd, criteria_with_refusals}
+use Rattle.sub_laws.specs.CleanStretch.{IsEnd, criteria_if_unreliable}
 use Rattle.sub_laws.proofs.BrokenPlaceLemmas.{not_not}
 use Rattle.sub_laws.proofs.PrefixLemmas.{RiseTo, frame_has_its_end, end_is_at_least_first}
 use Rattle.sub_laws.proofs.PrefixLemmas.{end_is_on_air}
@@ -37,7 +37,7 @@ module _ (programme : ProgrammeValue) (options : OptionsValue) (unread : Option 
     (any_unreliable : Bool) (undecided : ℕ → Bool) (t : Transmission)
     (rises : RiseTo t (length t)) where
   abbrev g : Criteria
-  g = criteria_with_refusals programme options unread any_unreliable undecided
+  g = criteria_if_unreliable programme options unread any_unreliable undecided
 
   abbrev first : ℕ
   first = frame_at t 0

@@ -7,7 +7,8 @@ use Rattle.std.specs.List.{concat}
 use Rattle.stl_file.specs.Reader.{findings_within_scope}
 use Rattle.stl_file.specs.Reading.{Findings, breaks, finds, no_more, refuses}
 use Rattle.stl_file.specs.Subtitle.{SubtitleValue}
-use Rattle.stl_file.specs.KeptBlocks.{LawOfScope, whole_day_scope, is_read_to_the_end, scope_blocks}
+use Rattle.stl_file.specs.KeptBlocks.{LawOfScope, whole_day_scope, scope_blocks}
+use Rattle.stl_file.specs.KeptBlocks.{has_no_ending_fault}
 use Rattle.stl_file.specs.KeptBlocks.{unnumbered}
 use Rattle.stl_rows.specs.declared.layout.Drawing.{Drawing}
 use Rattle.stl_rows.specs.DrawnPage.{drawn}
@@ -18,11 +19,11 @@ use Rattle.stl_rows.specs.Loading.{full_day_drawing}
 use Rattle.stl_rows.specs.Programme.{ProgrammeValue, times_of}
 use Rattle.sub_rules.specs.FrameRules.{is_due_undecided}
 use Rattle.sub_rules.specs.PesPacketEvents.{all_events_of_pes_packets}
-use Rattle.sub_laws.specs.CleanStretch.{criteria_with_refusals}
+use Rattle.sub_laws.specs.CleanStretch.{criteria_if_unreliable}
 use Rattle.sub_laws.specs.JudgedFiles.{LawOfEqualReports, LawOfJudgedParts}
 
 -- Whether a file was read to its end does not depend on block numbers.
-reading_ignores_block_numbers : (left : Findings) → is_read_to_the_end left ≡ is_read_to_the_end
+reading_ignores_block_numbers : (left : Findings) → has_no_ending_fault left ≡ has_no_ending_fault
     (unnumbered left)
 reading_ignores_block_numbers no_more = refl
 reading_ignores_block_numbers (breaks f block) = refl
@@ -87,14 +88,14 @@ module _ (drawing : Drawing) (one other : Findings) (same : unnumbered one ≡ u
       ∙ sym (judging_ignores_block_numbers drawing None false other)
       ∙ judging_ignores_the_day drawing None false other
 
-  equal_findings_are_read_the_same : is_read_to_the_end one ≡ is_read_to_the_end other
-  equal_findings_are_read_the_same = reading_ignores_block_numbers one ∙ ap is_read_to_the_end same
+  equal_findings_are_read_the_same : has_no_ending_fault one ≡ has_no_ending_fault other
+  equal_findings_are_read_the_same = reading_ignores_block_numbers one ∙ ap has_no_ending_fault same
       ∙ sym (reading_ignores_block_numbers other)
 
   judges_same :
-      (is_read_to_the_end one && has_any_subtitle (following drawing None false one).judged
+      (has_no_ending_fault one && has_any_subtitle (following drawing None false one).judged
       && are_in_order (following drawing None false one).judged)
-      ≡ (is_read_to_the_end other && has_any_subtitle (following (full_day_drawing drawing) None
+      ≡ (has_no_ending_fault other && has_any_subtitle (following (full_day_drawing drawing) None
       false other).judged
       && are_in_order (following (full_day_drawing drawing) None false other).judged)
   judges_same =
@@ -104,7 +105,7 @@ module _ (drawing : Drawing) (one other : Findings) (same : unnumbered one ≡ u
       equal_findings_are_read_the_same
       ∙ ap
       (λ (all : ReliableSubtitles).
-      is_read_to_the_end other && has_any_subtitle all.judged && are_in_order all.judged)
+      has_no_ending_fault other && has_any_subtitle all.judged && are_in_order all.judged)
       equal_findings_are_judged_the_same
 
 pub judging_needs_used_blocks_only : LawOfScope → LawOfJudgedParts
@@ -124,19 +125,19 @@ pub law_of_equal_reports : LawOfEqualReports
 law_of_equal_reports one other options unread pes_packets programme any_unreliable undecided =
     ap
     (λ (p : ProgrammeValue).
-    all_events_of_pes_packets (criteria_with_refusals p options unread (has_unreliable_subtitle one)
+    all_events_of_pes_packets (criteria_if_unreliable p options unread (has_unreliable_subtitle one)
     (is_due_undecided one))
     pes_packets)
     programme
     ∙ ap
     (λ (b : Bool).
-    all_events_of_pes_packets (criteria_with_refusals other.programme options unread b
+    all_events_of_pes_packets (criteria_if_unreliable other.programme options unread b
     (is_due_undecided one))
     pes_packets)
     any_unreliable
     ∙ ap
     (λ (u : ℕ → Bool).
     all_events_of_pes_packets
-    (criteria_with_refusals other.programme options unread (has_unreliable_subtitle other) u)
+    (criteria_if_unreliable other.programme options unread (has_unreliable_subtitle other) u)
     pes_packets)
     (fun_ext undecided)

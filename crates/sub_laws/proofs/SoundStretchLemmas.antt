@@ -26,7 +26,7 @@ use Rattle.ttx_page.proofs.NoiseStepLemmas.{kind-near, lost_packet_is_no_header}
 use Rattle.ttx_page.proofs.SpanListLemmas.{holds-append_left, holds-append_right}
 use Rattle.ttx_page.proofs.TextStart.{sound_packets_send_text, sending_text_is_sound}
 use Rattle.sub_plan.specs.Options.{OptionsValue}
-use Rattle.sub_rules.specs.Repeats.{HasEndedPage}
+use Rattle.sub_rules.specs.Repeats.{IsPageClosed}
 use Rattle.sub_rules.specs.Transmission.{Transmission, first_frame, packets_between}
 use Rattle.sub_rules.specs.Transmission.{on_air, on_air_until, packets_of}
 use Rattle.sub_laws.specs.LostRows.{IsReceivedWithLosses}
@@ -145,7 +145,7 @@ module _ (keeps : Bool) (transmission : Transmission) (options : OptionsValue) (
       ap (span K) so_far ∙ span-later options.page (before (first_frame transmission)) sent holds
 
   pub ended :
-      HasEndedPage options.page transmission f
+      IsPageClosed options.page transmission f
       → has_page_header K sent ≡ true
       → has_no_page_end K sent ≡ false
   ended shut holds =

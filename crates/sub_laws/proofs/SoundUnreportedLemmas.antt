@@ -21,7 +21,7 @@ use Rattle.sub_rules.specs.Transmission.{Transmission, first_frame}
 use Rattle.sub_rules.specs.declared.packet_rule.PacketRule.{PacketRule}
 use Rattle.sub_rules.specs.declared.packet_rule.PacketRule.TheVariants as rule
 use Rattle.sub_laws.specs.CleanStretch.{HoldsAtPackets, IsEnd, HasNoReceiverFault}
-use Rattle.sub_laws.specs.CleanStretch.{criteria_with_refusals, is_needed_by_receivers}
+use Rattle.sub_laws.specs.CleanStretch.{criteria_if_unreliable, is_needed_by_receivers}
 use Rattle.sub_laws.specs.Repeats.{IsSoundStretchWithRepeats}
 use Rattle.sub_rules.proofs.CodesLemmas.{code_of_column}
 use Rattle.ttx_page.proofs.DifferingLemmas.{zero_difference_equal_columns}
@@ -39,11 +39,11 @@ not_false_is_true b h1 = grind (arith, nat_tests)
 module _ (programme : ProgrammeValue) (transmission : Transmission) (options : OptionsValue)
     (unread : Option UnreadReason) (any_unreliable : Bool) (undecided : ℕ → Bool) (a b : ℕ)
     (unreported :
-    HasNoReceiverFault (criteria_with_refusals programme options unread any_unreliable undecided)
+    HasNoReceiverFault (criteria_if_unreliable programme options unread any_unreliable undecided)
     transmission a
     b) where
   abbrev g : Criteria
-  g = criteria_with_refusals programme options unread any_unreliable undecided
+  g = criteria_if_unreliable programme options unread any_unreliable undecided
 
   kept : (r : PacketRule) → IsTrue (is_needed_by_receivers r) → (r ≡ rule.RowChanged → ⊥)
       → HoldsAtPackets (KeepsRule r g.watched) transmission a b

@@ -21,7 +21,7 @@ use Rattle.sub_rules.specs.Repeats.{FinishesRegularly, IsDueWithin, IsFinishedFr
 use Rattle.sub_rules.specs.Repeats.{KeepsDueCodes, HasFinishedFrame}
 use Rattle.sub_rules.specs.Transmission.{Transmission, on_air_until}
 use Rattle.sub_laws.specs.CleanStretch.{IsEnd, HasNoReceiverFault, HasNoOpenEnd}
-use Rattle.sub_laws.specs.CleanStretch.{criteria_with_refusals}
+use Rattle.sub_laws.specs.CleanStretch.{criteria_if_unreliable}
 use Rattle.sub_laws.specs.Repeats.{FinishesInTime}
 use Rattle.sub_laws.specs.ReportedRepeats.{IsSufficientWithRepeats, LawOfUnreportedRepeats}
 use Rattle.sub_laws.proofs.DueCodeLemmas.{ending_eq, no_unexpected_cell_shows_expected_codes}
@@ -66,11 +66,11 @@ pub record MeetsRequirementsAtEnds (g : Criteria) (t : Transmission) (a b : ℕ)
 
 module _ (programme : ProgrammeValue) (options : OptionsValue) (unread : Option UnreadReason)
     (any_unreliable : Bool) (undecided : ℕ → Bool) (t : Transmission) (a b : ℕ)
-    (still : IsFaultFreeBetween (criteria_with_refusals programme options unread any_unreliable
+    (still : IsFaultFreeBetween (criteria_if_unreliable programme options unread any_unreliable
     undecided) t a b)
   where
     abbrev requested : Criteria
-    requested = criteria_with_refusals programme options unread any_unreliable undecided
+    requested = criteria_if_unreliable programme options unread any_unreliable undecided
 
     pub known : (n f : ℕ) → IsEnd t n f → a ≤ f → f ≤ b → undecided f ≡ false
     known n f end low high = decided_range_includes_frame requested t n f (still.parts n f end low
@@ -147,11 +147,11 @@ module _ (programme : ProgrammeValue) (options : OptionsValue) (unread : Option 
 
 module _ (programme : ProgrammeValue) (options : OptionsValue) (unread : Option UnreadReason)
     (any_unreliable : Bool) (undecided : ℕ → Bool) (t : Transmission) (a b : ℕ)
-    (holds : MeetsRequirementsAtEnds (criteria_with_refusals programme options unread any_unreliable
+    (holds : MeetsRequirementsAtEnds (criteria_if_unreliable programme options unread any_unreliable
     undecided) t a b)
   where
     abbrev criteria : Criteria
-    criteria = criteria_with_refusals programme options unread any_unreliable undecided
+    criteria = criteria_if_unreliable programme options unread any_unreliable undecided
 
     abbrev start : ℕ
     start = frame_at t 0
@@ -306,11 +306,11 @@ module _ (programme : ProgrammeValue) (options : OptionsValue) (unread : Option 
 
 module _ (programme : ProgrammeValue) (options : OptionsValue) (unread : Option UnreadReason)
     (any_unreliable : Bool) (undecided : ℕ → Bool) (t : Transmission) (a b : ℕ)
-    (unreported : HasNoReceiverFault (criteria_with_refusals programme options unread any_unreliable
+    (unreported : HasNoReceiverFault (criteria_if_unreliable programme options unread any_unreliable
     undecided) t a
     b)
   where
-    unreported_stretch_is_fault_free : IsFaultFreeBetween (criteria_with_refusals programme options
+    unreported_stretch_is_fault_free : IsFaultFreeBetween (criteria_if_unreliable programme options
         unread any_unreliable undecided) t a
         b
     unfolding active_faults_at
@@ -335,12 +335,12 @@ module _ (programme : ProgrammeValue) (options : OptionsValue) (unread : Option 
           unreported_stretch_is_fault_free;
     }
 
-    module _ (closed : HasNoOpenEnd (criteria_with_refusals programme options unread any_unreliable
+    module _ (closed : HasNoOpenEnd (criteria_if_unreliable programme options unread any_unreliable
         undecided) t a
         b)
       where
         unreported_stretch_meets_requirements : MeetsRequirementsAtEnds
-            (criteria_with_refusals programme options unread any_unreliable
+            (criteria_if_unreliable programme options unread any_unreliable
             undecided)
             t a b
         unfolding active_faults_at

@@ -1,6 +1,6 @@
--- The events of a transmission report exactly its broken rules: at each place, a fault is reported
--- if and only if a rule is broken there. Rows are compared exactly only after packets without
--- faults.
+-- If `within` is 0, the tests for faults are exact: a fault is found at a place of a transmission,
+-- or is active at the end of a frame, if and only if a rule is broken there. Rows are compared
+-- exactly only after packets without faults.
 use Rattle.std.specs.Prelude.{◌≡◌, ◌↔◌, ℕ, suc, ◌<◌, ◌≤◌, List, [], length, map, Option}
 use Rattle.std.specs.Prelude.{Some, None, IsTrue, IsFalse}
 use Rattle.ttx_packet.specs.PacketAddress.{IsPacket}
@@ -12,7 +12,7 @@ use Rattle.sub_rules.specs.Events.{late_events}
 use Rattle.sub_rules.specs.Events.{order_events, active_faults_at}
 use Rattle.sub_rules.specs.FrameRules.{Criteria, HasHeader, HasRecentPageHeader}
 use Rattle.sub_rules.specs.FrameRules.{IsCompleteIfRequired}
-use Rattle.sub_rules.specs.FrameRules.{HasRecentPesPacket, ShowsDue}
+use Rattle.sub_rules.specs.FrameRules.{HasRecentPesPacket, IsCorrectCell}
 use Rattle.sub_rules.specs.FrameRules.{UnreadReason, criteria_of, end_frame, frame_at}
 use Rattle.sub_rules.specs.Good.{Good}
 use Rattle.sub_rules.specs.Repeats.{GoodWithRepeats}
@@ -33,9 +33,9 @@ use Rattle.sub_laws.specs.OnScreen.{Complete}
 pub record IsFirstWrongCell (g : Criteria) (frames : Transmission) (n f row column : ℕ) : Type 0
   where
     pub is_cell : IsCell row column
-    pub broken : ShowsDue g frames n f row column → ⊥
-    pub above : (r k : ℕ) → IsCell r k → r < row → ShowsDue g frames n f r k
-    pub before : (k : ℕ) → k < column → ShowsDue g frames n f row k
+    pub broken : IsCorrectCell g frames n f row column → ⊥
+    pub above : (r k : ℕ) → IsCell r k → r < row → IsCorrectCell g frames n f r k
+    pub before : (k : ℕ) → k < column → IsCorrectCell g frames n f row k
 
 -- The requirement of each rule that is checked at the end of frame f, after n frames of the
 -- transmission. If the expected page is unknown, any code may be in any cell.
@@ -44,7 +44,7 @@ IsKept end.Content g frames n f =
     IsFalse (g.undecided f)
     → (row column : ℕ)
     → IsCell row column
-    → ShowsDue g frames n f row column
+    → IsCorrectCell g frames n f row column
 IsKept end.Gap g frames n f = HasRecentPageHeader g frames n f
 IsKept end.Incomplete g frames n f = IsCompleteIfRequired g frames n
 IsKept end.Undecided g frames n f = IsFalse (g.undecided f)
@@ -63,15 +63,16 @@ pub record AreActiveFaults (g : Criteria) (frames : Transmission) (n f : ℕ) : 
       → IsFirstWrongCell g frames n f x.0 x.1
 
 -- A packet of 42 bytes that has correct address bytes, follows packets without faults and, if it is
--- a row of the open page, has odd parity. Such rows are equal if they have the same codes.
+-- a row of the open page, has odd parity. Such packets of one row are equal if they have the same
+-- codes.
 pub record IsComparable (w : Watched) (before : List (List ℕ)) (p : List ℕ) : Type 0 where
   pub clean : AreClean w before
   pub whole : IsPacket p
   pub exact : KeepsRule rule.Address w before p
   pub odd : KeepsRule rule.Parity w before p
 
--- At each place of a transmission, a fault is reported if and only if a rule is broken there; for
--- `RowChanged`, if the packet is comparable (`IsComparable`).
+-- A fault is found at a place of a transmission, or is active at the end of a frame, if and only if
+-- a rule is broken there; for `RowChanged`, if the packet is comparable (`IsComparable`).
 pub record ReportsBrokenPlaces (g : Criteria) (frames : Transmission) : Type 0 where
   -- The first frame is not after the first TCI, and each later frame is after the frame before it.
   pub start :
@@ -88,28 +89,28 @@ pub record ReportsBrokenPlaces (g : Criteria) (frames : Transmission) : Type 0 w
   -- The first frame has a header of the page.
   pub header : (first_header_events g frames 0 ≡ []) ↔ HasHeader g frames 0
   -- The active faults at the end of a frame are exact. An active fault is reported if it was not
-  -- active at the end of the frame before.
+  -- active, at the same place, at the frame end before.
   pub ends : (n f : ℕ) → n ≤ length frames → AreActiveFaults g frames n f
-  -- No subtitle ends after the last frame of the transmission.
+  -- The last TCO is not after the last frame of the transmission.
   pub late :
       (late_events g frames ≡ [])
       ↔ ((last : ℕ) → g.last_tco ≡ Some last → last ≤ end_frame frames)
-  -- If there is any event, there is a fault, unless subtitles were rejected: then trusted frames
-  -- are reported even without a fault.
+  -- If each packet has 42 bytes and there is any event, there is a fault, unless there are
+  -- unreliable subtitles: then trusted frames are reported even without a fault.
   pub first :
       IsFalse g.any_unreliable
       → EachPacket IsPacket frames
       → first_reported_fault (all_events_of_pes_packets g (map Sent frames)) ≡ None
       → all_events_of_pes_packets g (map Sent frames) ≡ []
 
--- If `within` is 0, a fault is reported at a place of a transmission if and only if a rule is
--- broken there; for `RowChanged`, if the packet is comparable (`IsComparable`). For wrong text, the
--- fault gives the first wrong cell.
+-- If `within` is 0, a fault is found at a place of a transmission, or is active at the end of a
+-- frame, if and only if a rule is broken there; for `RowChanged`, if the packet is comparable
+-- (`IsComparable`). For wrong text, the fault gives the first wrong cell.
 abbrev pub LawOfBrokenPlaces : Type 0
 LawOfBrokenPlaces = (g : Criteria) (frames : Transmission) → g.within ≡ 0 → ReportsBrokenPlaces g
     frames
 
--- If the subtitles are valid and none was rejected, a PES file has no event if and only if no PES
+-- If the subtitles are valid and none is unreliable, a PES file has no event if and only if no PES
 -- packet is skipped, its frames are good under the options, and the entire file was read. If
 -- `within` is not 0, consecutive PES packets of one frame are merged.
 abbrev pub LawOfEmptyReportRepeats : Type 0
@@ -125,7 +126,7 @@ LawOfEmptyReportRepeats =
     options
     × (unread ≡ None))
 
--- If each header must have C4 (erase page) set, `within` is 0 and no subtitle was rejected, a PES
+-- If each header must have C4 (erase page) set, `within` is 0 and no subtitle is unreliable, a PES
 -- file has no event if and only if no PES packet is skipped, its frames are good, with complete
 -- pages if these are required, and the entire file was read.
 abbrev pub LawOfEmptyReport : Type 0

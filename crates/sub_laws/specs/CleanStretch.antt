@@ -60,7 +60,7 @@ abbrev pub is_needed_by_receivers : PacketRule → Bool
 is_needed_by_receivers r = (fault_row (packet_fault r 0 0)).invalidates
 
 -- The range of frames has none of the faults that affect receivers, apart from `Incomplete`,
--- `Silent` and faults of PES packets, which it may have: frame numbers increase in the entire
+-- `Silent`, `Pes` and `OffFrame`, which it may have: frame numbers increase in the entire
 -- transmission; no packet of the range breaks a rule that affects receivers; no wrong cell or
 -- missing header is active at the end of any of its frames; and the expected page of each frame,
 -- and of the `within` frames of the transmission before it, is known.
@@ -81,28 +81,30 @@ abbrev pub HasNoOpenEnd : Criteria → Transmission → ℕ → ℕ → Type 0
 HasNoOpenEnd g frames a b =
     HoldsAtFrameEnds (λ n f. IsFalse (active_faults_at g frames n f).incomplete) frames a b
 
--- The criteria for these subtitles and options, if other subtitles may have been rejected.
+-- The criteria for these subtitles and options, if there may also be unreliable subtitles.
 -- `undecided` are the frames with an unknown expected page.
-abbrev pub criteria_with_refusals :
+abbrev pub criteria_if_unreliable :
     ProgrammeValue → OptionsValue → Option UnreadReason → Bool → (ℕ → Bool) → Criteria
-criteria_with_refusals programme options unread any_unreliable undecided =
+criteria_if_unreliable programme options unread any_unreliable undecided =
     record (criteria_of programme options unread)
     { any_unreliable = any_unreliable; undecided = undecided }
 
--- If each header must have C4 (erase page) set and `within` is 0, a range of frames without faults
--- that affect receivers meets the sufficient conditions (`IsSufficient`). If complete pages are
+-- If each header must have C4 (erase page) set, `within` is 0 and the frame numbers of the
+-- transmission increase, a range of frames without faults that affect receivers
+-- (`HasNoReceiverFault`) meets the sufficient conditions (`IsSufficient`). If complete pages are
 -- required, and `Incomplete` is not active at the end of any of its frames, its pages are complete.
--- So the report on a rejected transmission shows which part of it is correct for receivers.
+-- So the report on a rejected transmission with increasing frame numbers shows which part of it is
+-- correct for receivers.
 abbrev pub LawOfUnreportedStretch : Type 0
 LawOfUnreportedStretch =
     (programme : ProgrammeValue) (transmission : Transmission) (options : OptionsValue)
     → (unread : Option UnreadReason) (any_unreliable : Bool) (undecided : ℕ → Bool) (a b : ℕ)
     → IsFalse options.keeps
     → options.within ≡ 0
-    → HasNoReceiverFault (criteria_with_refusals programme options unread any_unreliable undecided)
+    → HasNoReceiverFault (criteria_if_unreliable programme options unread any_unreliable undecided)
     transmission a b
     → IsSufficient programme transmission options a b
     × (IsTrue options.asks_complete
-    → HasNoOpenEnd (criteria_with_refusals programme options unread any_unreliable undecided)
+    → HasNoOpenEnd (criteria_if_unreliable programme options unread any_unreliable undecided)
     transmission a b
     → CompleteWithin transmission options a b)

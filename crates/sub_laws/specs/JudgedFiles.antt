@@ -1,10 +1,11 @@
--- The reliable subtitles of a file, of which others may be rejected or outside the requested range.
+-- Laws of the reliable subtitles of a file, whose other subtitles may be unreliable or outside the
+-- requested range.
 use Rattle.std.specs.Prelude.{◌≡◌, ℕ, true, List, ◌++◌, length, None, Option}
 use Rattle.std.specs.List.{AllByRecursion, concat}
 use Rattle.stl_file.specs.Gsi.{gsi_size}
 use Rattle.stl_file.specs.Reader.{findings_within_scope}
 use Rattle.stl_file.specs.SubtitleBlocks.{IsBlock}
-use Rattle.stl_file.specs.KeptBlocks.{is_read_to_the_end, scope_blocks}
+use Rattle.stl_file.specs.KeptBlocks.{has_no_ending_fault, scope_blocks}
 use Rattle.stl_rows.specs.declared.layout.Drawing.{Drawing}
 use Rattle.stl_rows.specs.Judged.{JudgedValue, has_unreliable_subtitle, reliable_subtitles_of}
 use Rattle.stl_rows.specs.Judged.{can_judge}
@@ -14,15 +15,15 @@ use Rattle.sub_rules.specs.FrameRules.{UnreadReason, criteria_of_judged, is_due_
 use Rattle.sub_rules.specs.PesPacketEvents.{all_events_of_pes_packets}
 use Rattle.sub_rules.specs.PesPackets.{PesPacket}
 
--- A range of a subtitle file has the same reliable subtitles as the file without the blocks of all
--- other subtitles, if the file can be read to its end. A transmission can be checked against both
--- or against neither.
+-- A range of a subtitle file has the same reliable subtitles as the file without the blocks of the
+-- subtitles outside the range, if no fault ends the reading of the file. A transmission can be
+-- checked against both or against neither.
 abbrev pub LawOfJudgedParts : Type 0
 LawOfJudgedParts =
     (drawing : Drawing) (gsi : List ℕ) (blocks : List (List ℕ))
     → length gsi ≡ gsi_size
     → AllByRecursion IsBlock blocks
-    → is_read_to_the_end (findings_within_scope drawing.scope (gsi ++ concat blocks)) ≡ true
+    → has_no_ending_fault (findings_within_scope drawing.scope (gsi ++ concat blocks)) ≡ true
     → (reliable_subtitles_of drawing (gsi ++ concat blocks) ≡ reliable_subtitles_of
     (full_day_drawing drawing) (gsi ++ concat (scope_blocks drawing.scope None blocks)))
     × (can_judge drawing (gsi ++ concat blocks)

@@ -16,7 +16,7 @@ use Rattle.ttx_page.specs.Span.{has_page_header, is_open_after}
 use Rattle.stl_rows.specs.Programme.{IsProgramme, ProgrammeValue}
 use Rattle.sub_plan.specs.Options.{IsOptions, OptionsValue}
 use Rattle.sub_rules.specs.Good.{HoldsHeader}
-use Rattle.sub_rules.specs.Repeats.{FinishesRegularly, GoodWithRepeats, HasEndedPage, IsDueWithin}
+use Rattle.sub_rules.specs.Repeats.{FinishesRegularly, GoodWithRepeats, IsPageClosed, IsDueWithin}
 use Rattle.sub_rules.specs.Repeats.{IsCorrectPage, KeepsDueCodes, KeepsRulesWithRepeats}
 use Rattle.sub_rules.specs.Repeats.{HasFinishedFrame}
 use Rattle.sub_rules.specs.Transmission.{IsRising, Transmission, first_frame, last_frame, on_air}
@@ -46,8 +46,8 @@ pub record IsServedIfForgetful
   pub is_open :
       IsTrue (has_page_header (kind options.page) sent || not old.is_open)
       → new.is_open ≡ is_open_after (kind options.page) sent
-  -- Once a header was sent and the receiver's old page is erased, each cell has an allowed code
-  -- (`IsDueWithin`).
+  -- Once a header was sent, if the receiver's old page is erased, or was blank and not open
+  -- (`IsFresh`), each cell has an allowed code (`IsDueWithin`).
   pub codes :
       IsTrue (has_page_header (kind options.page) sent)
       → IsFresh keeps anew options.page sent old
@@ -70,7 +70,7 @@ pub record IsServedIfForgetful
 -- drop a row with an error, if any byte of its row had a wrong bit or the row was lost.
 --
 -- A receiver with old text recovers from the next header with C4 (erase page) set; a receiver with
--- a blank page, or one that erases it at each header, recovers from any header.
+-- a blank page that is not open, or one that erases it at each header, recovers from any header.
 abbrev pub RecoversIfForgetful :
     Bool → Bool → ReceiverClass → ProgrammeValue → Transmission → OptionsValue → ℕ → ℕ → Type 0
 RecoversIfForgetful keeps anew class programme transmission options a b =
@@ -110,7 +110,7 @@ ShownIfForgetful keeps anew class programme transmission options a b =
     → IsTrue (has_page_header (kind options.page) (on_air transmission g j f))
     → IsFresh keeps anew options.page (on_air transmission g j f) old.receiver_state
     → IsCorrectPage keeps programme options.page transmission f
-    → HasEndedPage options.page transmission f
+    → IsPageClosed options.page transmission f
     → (page : Rows)
     × (new.screen ≡ Some page)
     × HoldsDuePage programme f
@@ -127,8 +127,8 @@ pub record FinishesInTime
     : Type 0 where
   -- At least one of any `within` + 1 consecutive frames is finished.
   pub again : FinishesRegularly keeps programme transmission options a b
-  -- At least one frame is finished of each subtitle that begins in the frames from a to b and does
-  -- not end after them.
+  -- At least one frame is finished of each subtitle whose frames, from its TCI to the frame before
+  -- its TCO, are all in the range from a to b.
   pub subtitles :
       All
       (λ t. a ≤ t.tci
@@ -136,7 +136,7 @@ pub record FinishesInTime
       → HasFinishedFrame keeps programme transmission options t.tci (t.tco - 1))
       programme.records
   -- If the transmission begins with frame a, at least one frame from a on is finished of each
-  -- subtitle that began before a, is still due at a, and does not end after frame b.
+  -- subtitle that began before a, is still due at a, and has no frame after b.
   pub begun :
       a ≡ first_frame transmission
       → All
@@ -248,8 +248,8 @@ LawOfRepeatedStretch =
     → MayBeTrustedWithRepeats keeps programme transmission options a b)
 
 -- In all frames of a transmission that is good under the options, receivers recover, and the
--- expected page is on their screens at each frame end with a correct page that has ended. A
--- transmission of valid subtitles meets all guarantees.
+-- expected page is on their screens at each frame end with a correct page that has ended. If its
+-- subtitles are valid, it meets all guarantees.
 abbrev pub LawOfGoodWithRepeats : Type 0
 LawOfGoodWithRepeats =
     (keeps : Bool) (programme : ProgrammeValue) (transmission : Transmission)
@@ -284,10 +284,11 @@ LawOfPlanRepeats =
     → IfSome options.pace (λ frames. options.every ≤ frames)
     → GoodWithRepeats keeps programme (planned programme options serial) options
 
--- If a transmission keeps rules 1 to 6 and is received without errors, a receiver that keeps its
--- page at headers with C4 (erase page) clear, and started with a blank page that was not open or
--- has erased it since, has the code `kept` in each cell at the end of each frame. So if that is not
--- the expected code, the receiver has a wrong code.
+-- If a transmission keeps rules 1 to 6 and the limit for the interval between PES packets, if the
+-- options have one, and is received from its first frame on without errors, a receiver that keeps
+-- its page at headers with C4 (erase page) clear, and started with a blank page that was not open
+-- or has erased it since, has the code `kept` in each cell at the end of each frame. So if that is
+-- not the expected code, the receiver has a wrong code.
 abbrev pub LawOfKeptCodes : Type 0
 LawOfKeptCodes =
     (keeps : Bool) (programme : ProgrammeValue) (transmission : Transmission)

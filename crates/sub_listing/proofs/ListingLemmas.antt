@@ -19,7 +19,7 @@ use Rattle.ttx_pes.specs.declared.progress.Progress.TheVariants.{Reading}
 use Rattle.ttx_pes.proofs.OutcomeLemmas.{outcome_after-next}
 use Rattle.stl_file.specs.Fault as stl_fault
 use Rattle.stl_file.specs.Gsi.{IsGsi, gsi_size}
-use Rattle.stl_file.specs.Reader.{EndsWithSubtitleBlock, ReaderValue, RefusesOpening}
+use Rattle.stl_file.specs.Reader.{EndsWithUnskippedBlock, ReaderValue, RefusesOpening}
 use Rattle.stl_file.specs.Reader.{ConsumesSubtitle, open_result}
 use Rattle.stl_file.specs.Reader.{findings_within_scope, checked_gsi_of_file, remaining_outcome}
 use Rattle.stl_file.specs.Reader.{outcome_of_file}
@@ -260,7 +260,7 @@ gives-packet first index v reported left text few reports lines =
     pes.ends
 
 rises : (from to : ℕ) (blocks : List (List ℕ))
-    → EndsWithSubtitleBlock blocks
+    → EndsWithUnskippedBlock blocks
     → from + length blocks ≡ to
     → from < to
 rises from to [] kept counted = absurd kept

@@ -1,5 +1,5 @@
--- The lines that `listen` prints for a receiver: whether it has received a header of its page,
--- whether the page is open, and each row of its page or screen that is not blank.
+-- The lines that `listen` prints for a receiver: whether it has received a header of its page and,
+-- if it has, whether the page is open, and each row of its page or screen that is not blank.
 use Rattle.std.specs.Prelude.{ℕ, zero, suc, ◌==◌, Bool, true, false, List, [], ◌++◌, codes, map}
 use Rattle.std.specs.Prelude.{length, Option, Some, None, IfSome, IsTrue, if◌then◌else◌}
 use Rattle.std.specs.List.{list_all}
@@ -47,8 +47,8 @@ displayed_page asks_complete d = if asks_complete then d.screen else Some d.rece
 
 -- If the receiver has received a header of its page, the printed page, if any, has 24 rows of 40
 -- codes.
-abbrev pub PrintsCompletePage : Bool → Display → Type 0
-PrintsCompletePage asks_complete d =
+abbrev pub PrintsValidPage : Bool → Display → Type 0
+PrintsValidPage asks_complete d =
     IsTrue d.receiver_state.heard → IfSome (displayed_page asks_complete d) IsPage
 
 -- All lines that `listen` prints for a receiver.

@@ -12,7 +12,7 @@ ghost use Rattle.sub_rules.specs.declared.fault.CheckFault.TheVariants.{Pes};
 
 use crate::copying::{CopyFault, LastPesPacket, copy_next, copy_rest};
 use crate::fault_line::FaultLine;
-use crate::faults::{fault_line_of_check, fault_line_of_file_write};
+use crate::faults::{fault_line_of_check, fault_line_of_failed_write};
 use crate::lines::{Line, push_number, push_text};
 use crate::printing::{print_done, print_fault_line};
 use crate::status::Status;
@@ -51,8 +51,8 @@ pub enum ExtractFault {
 }
 
 /// Writes the PES packets of a source to a file, one after another. PES packets of a recording
-/// (ISO/IEC 13818-1) come with gap markers. Prints the number of PES packets and of gap markers, or
-/// the reason why the output is not a complete file of PES packets.
+/// (ISO/IEC 13818-1) may come with gap markers. Prints the number of PES packets and of gap
+/// markers, or the reason why no complete file of PES packets was stored.
 ///
 /// Each PES packet is flushed as soon as it has arrived, and the line with the numbers is printed
 /// after the system has stored the file. Bytes after the last PES packet are also written. Returns
@@ -97,8 +97,8 @@ pub fn extract_packets<P: PesPackets, F: Close, K: Sink>(
     }
 }
 
-// Copies all PES packets and any bytes after them to the output file, and stores the file if there
-// is no fault.
+// Copies PES packets to the output file as `copy_pes_packets` does, and then stores the file if
+// there is no fault.
 fn write_pes_packets<P: PesPackets, F: Close>(
     pes_packets: &mut P,
     file: &mut F,
@@ -129,8 +129,8 @@ fn write_pes_packets<P: PesPackets, F: Close>(
     }
 }
 
-// Copies all PES packets, and then any bytes that are not a PES packet. Stops if a device fails, or
-// after 2^64 - 1 PES packets.
+// Copies all PES packets, and then any bytes after them. Stops if a device fails, or after 2^64 - 1
+// PES packets.
 fn copy_pes_packets<P: PesPackets, F: Flush>(
     pes_packets: &mut P,
     file: &mut F,
@@ -191,7 +191,7 @@ fn fault_line_of_extract(fault: ExtractFault) -> FaultLine
 {
     match fault {
         ExtractFault::Read { pes } => fault_line_at_pes(PesFault::Read, pes),
-        ExtractFault::Write => fault_line_of_file_write(),
+        ExtractFault::Write => fault_line_of_failed_write(),
         ExtractFault::Empty => fault_line_of_check(CheckFault::Empty),
         ExtractFault::Refused { fault, pes } => fault_line_at_pes(fault, pes),
     }

@@ -37,8 +37,8 @@ pub fn fault_line_of_stl(fault: StlFault, block: u32) -> FaultLine
     }
 }
 
-/// Returns the line of a fault that a check found: `refused`, or `fault` if a device failed or
-/// memory ran out.
+/// Returns the line of a fault of a subtitle file, a PES file or a recording, which a check or
+/// another command found: `refused`, or `fault` if a source failed or memory ran out.
 pub fn fault_line_of_check(fault: CheckFault) -> FaultLine
     ensures { result ≡ check_line fault }
 {
@@ -61,8 +61,8 @@ pub fn fault_line_of_check(fault: CheckFault) -> FaultLine
     }
 }
 
-/// Returns the line for a failed read of a PES file, which names the PES packet `at.pes`, counted
-/// from 0.
+/// Returns the line for a failed read of a PES file or a recording, which names the PES packet
+/// `at.pes`, counted from 0.
 pub fn fault_line_of_failed_read(at: FailedAt) -> FaultLine
     ensures { result ≡ counted_from at.pes (check_line (Pes 0 Read)) }
 {
@@ -74,7 +74,7 @@ pub fn fault_line_of_failed_read(at: FailedAt) -> FaultLine
 }
 
 /// Returns the line for a failure of the output file of `extract`.
-pub fn fault_line_of_file_write() -> FaultLine
+pub fn fault_line_of_failed_write() -> FaultLine
     ensures { result ≡ line_with Kind.Fault (pes_code Write) Nowhere }
 {
     fault_line_without_place(Kind::Fault, PesFault::Write.code())
@@ -87,7 +87,7 @@ pub fn fault_line_of_packet(fault: PacketFault) -> FaultLine
     fault_line_without_place(Kind::Refused, fault.code())
 }
 
-/// Returns the line of a fault of a command that writes a file.
+/// Returns the line of a fault of `schedule` or `normal`.
 pub fn fault_line_of_write(fault: WriteFault) -> FaultLine
     ensures { result ≡ write_line fault }
 {
@@ -109,7 +109,8 @@ pub fn fault_line_of_write(fault: WriteFault) -> FaultLine
     }
 }
 
-/// Returns the line of a fault of the arguments, or of the program itself.
+/// Returns the line about invalid arguments, a file that can't or must not be opened or created, or
+/// a lack of memory.
 pub fn usage_fault_line(fault: &UsageFault) -> FaultLine
     ensures { result ≡ usage_line fault.now }
 {

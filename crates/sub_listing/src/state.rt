@@ -7,7 +7,7 @@ ghost use Rattle.sub_listing.specs.DeviceCall.{CanFail, CountsFault, sink_call};
 ghost use Rattle.sub_listing.specs.Lines.{printed_character};
 ghost use Rattle.sub_listing.specs.Listing.{PrintsOrFails, done};
 ghost use Rattle.ttx_page.specs.Screen.{display};
-ghost use Rattle.sub_listing.specs.DisplayLines.{PrintsCompletePage, display_text, page_text};
+ghost use Rattle.sub_listing.specs.DisplayLines.{PrintsValidPage, display_text, page_text};
 ghost use Rattle.sub_listing.specs.DisplayLines.{row_text};
 ghost use Rattle.sub_listing.specs.DisplayLines.{displayed_page, displayed_text};
 
@@ -46,7 +46,7 @@ pub fn print_state<R: Receiver, K: Sink>(
     requires { CanFail (K.failure_count out.old) }
     ensures printed { PrintsOrFails (sink_call K.contents K.failure_count out.old out.new)
         (done (display_text asks_complete (display (R.state receiver.now) screen.now))) result }
-    ensures page { PrintsCompletePage asks_complete (display (R.state receiver.now) screen.now) }
+    ensures page { PrintsValidPage asks_complete (display (R.state receiver.now) screen.now) }
     ensures count { CountsFault K.failure_count out.old result out.new }
     ensures fault { result ≡ Status.Fault → K.failure_count out.old < K.failure_count out.new }
 {

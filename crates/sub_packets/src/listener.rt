@@ -35,31 +35,35 @@ use ttx_pes::SentUnits;
 
 /// Receives Teletext packets, and stores the page that they show.
 ///
-/// Which rules a packet breaks depends on earlier packets: on the first page header, whether the
-/// page is open, the sub-code of its last header, and the rows received since the page was erased.
-/// The listener stores this state and the expected page.
+/// Which rules a packet breaks depends on earlier packets: on the first page header that could be
+/// decoded, whether the page is open, the sub-code of its last header, and the rows received while
+/// it was open, since the last header that starts a new text, if any. The listener stores this
+/// state and the expected page.
 #[derive(Drop)]
 pub struct Listener {
     /// The page, its national option, whether complete pages are required, and whether repeats may
     /// have C4 (erase page) clear.
     pub watched: Watched,
-    // C11 (magazine serial) of the first page header; `None` before a page header was received.
+    // C11 (magazine serial) of the first page header that could be decoded; `None` if there was
+    // none.
     pub(crate) serial: Option<bool>,
     // Whether the page is open: the next rows belong to it.
     pub(crate) is_open: bool,
     // The sub-code of the last header of the page; `None` before a header of the page was received.
     pub(crate) subcode: Option<u16>,
-    // The rows received while the page was open, since it was last erased; row 1 is at index 0.
+    // The rows received while the page was open, since the last header that starts a new text, if
+    // any; row 1 is at index 0.
     pub(crate) sent: [bool; 24],
     // The rows received since the last header of the page, while the page was open; row 1 is at
     // index 0.
     pub(crate) again: [bool; 24],
     /// The page that the packets show, and the expected page.
     pub comparison: Comparison,
-    /// Whether a packet of the last frame erases the page.
+    /// Whether a packet of the last PES packet, or of the earlier PES packets that are merged with
+    /// it in one frame, starts a new text.
     pub begun: bool,
-    // The number of headers of the page in the last PES packet, if its first Teletext packet erases
-    // the page and none of them breaks a rule.
+    // The number of headers of the page in the last PES packet, if its first Teletext packet starts
+    // a new text and none of its Teletext packets breaks a rule; otherwise `None`.
     last: Option<u8>,
 }
 
@@ -68,7 +72,7 @@ pub struct Listener {
 struct HeardPacket {
     // Whether the packet is a header of the page.
     is_header: bool,
-    // Whether the packet is a header that erases the page.
+    // Whether the packet is a header that starts a new text.
     begins: bool,
     // Whether the packet breaks no rule.
     is_clean: bool,
@@ -125,11 +129,11 @@ impl Listener {
 
     /// Receives the packets of a PES packet, reports the rules that they break, and returns the
     /// number of headers of the page. `again` says that the packets equal those of the previous PES
-    /// packet. `from` is the number of the first packet in its frame: 0, except if the frame has an
-    /// earlier PES packet.
+    /// packet. `from` is the number of the first packet in its frame: 0, or the number of packets
+    /// in the earlier PES packets that are merged with this one in one frame.
     ///
-    /// If packets that begin with a header that erases the page and break no rule are sent again,
-    /// they change nothing, so they are not examined.
+    /// If packets that begin with a header that starts a new text and break no rule are sent again
+    /// at once (`again`), they change nothing, so they are not examined.
     #[inline(always)]
     pub fn hear_pes_packet<A: Taker>(
         &mut self,
@@ -229,8 +233,8 @@ impl Listener {
         units.len()
     }
 
-    // Returns whether a packet can be skipped because it breaks no rule and changes nothing. The
-    // first two bytes show this, or the first ten bytes of a page header.
+    // Returns whether a packet is known to break no rule and to change nothing, so that it can be
+    // skipped. The first two bytes show this, or the first ten bytes of a page header.
     #[inline(always)]
     fn can_be_skipped(&self, is_open: bool, packet: &SentPacket<'_>) -> bool
         requires { is_open ≡ self.now.is_open }
@@ -245,16 +249,16 @@ impl Listener {
         if packet_number != 0 {
             return self.is_closed_for_magazine(is_open, magazine);
         }
-        if self.affects_page(is_open, magazine, packet) {
+        if self.may_change_page(is_open, magazine, packet) {
             return false;
         }
         self.is_skippable_header(magazine, packet)
     }
 
-    // Returns whether a page header in the page's magazine belongs to the page or, if the page is
-    // open, ends it. Only the magazine and the page number are compared.
+    // Returns whether a page header is in the page's magazine and, unless the page is open, has the
+    // page's number without coding errors.
     #[inline(always)]
-    fn affects_page(&self, is_open: bool, magazine: u8, packet: &SentPacket<'_>) -> bool
+    fn may_change_page(&self, is_open: bool, magazine: u8, packet: &SentPacket<'_>) -> bool
         ensures { magazine ≢ self.now.watched.page.magazine → result ≡ false }
     {
         magazine == self.watched.page.magazine()
@@ -269,7 +273,7 @@ impl Listener {
         !(is_open && magazine == self.watched.page.magazine())
     }
 
-    // Returns whether a page header can be skipped because it breaks no rule and changes nothing.
+    // Returns whether a page header has no coding errors and can be skipped (`can_skip_header`).
     //
     // Not inlined into `can_be_skipped`, which would then keep fewer values in registers for other
     // packets.
@@ -285,8 +289,9 @@ impl Listener {
         }
     }
 
-    // Returns whether a page header without coding errors can be skipped because it breaks no rule
-    // and changes nothing.
+    // Returns whether a page header without coding errors can be skipped: it has the C11 of the
+    // first page header that could be decoded, is no header of the page, and does not end the open
+    // page. So it breaks no rule and changes nothing.
     #[inline(always)]
     fn can_skip_header(&self, magazine: u8, header: &Header) -> bool
         ensures { result ≡ can_skip_header magazine header.now self.now }
@@ -341,8 +346,9 @@ impl Listener {
         }
     }
 
-    // Receives a packet, and returns whether it is a header of the page. If a row is sent several
-    // times before the page is erased, the codes of its first packet are kept.
+    // Receives a packet, and returns whether it is a header of the page. If several packets of a
+    // row come while the page is open, the codes of the first are kept until a header starts a new
+    // text.
     #[inline(always)]
     fn hear(&mut self, packet: &Packet, found: PacketKind, page_header: Option<Header>) -> bool
         requires kind { found ≡ kind self.old.watched.page packet.now }
@@ -380,7 +386,8 @@ impl Listener {
         }
     }
 
-    // Returns whether the page is open and the row has not been received since it was last erased.
+    // Returns whether the page is open and the row has not been received, while the page was open,
+    // since the last header that starts a new text, if any.
     fn is_new_row(&self, row: u8) -> bool
         requires { IsRow row }
         ensures { result
@@ -407,8 +414,8 @@ impl Listener {
         self.comparison.clear();
     }
 
-    // Notes a header that does not erase the page: the text stays, and each row that is not blank
-    // must be sent again.
+    // Notes a header that does not erase the page: the page is open, the text stays, and no row
+    // counts as sent since this header.
     fn note_repeated_header(&mut self, subcode: u16)
         ensures { self.new ≡ record self.old {
           is_open = true;

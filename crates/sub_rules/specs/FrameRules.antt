@@ -114,19 +114,20 @@ abbrev pub HasHeader : Criteria → Transmission → ℕ → Type 0
 HasHeader g frames i = has_page_header (kind g.watched.page) (packets_of_frame frames i) ≡ true
 
 -- The cell is correct at the end of frame f, after n entries of the transmission.
-abbrev pub ShowsDue : Criteria → Transmission → ℕ → ℕ → ℕ → ℕ → Type 0
-ShowsDue g frames n f row column =
+abbrev pub IsCorrectCell : Criteria → Transmission → ℕ → ℕ → ℕ → ℕ → Type 0
+IsCorrectCell g frames n f row column =
     IsRight g.watched.keeps g.watched.page (packets_before frames n) (g.due f) row column
 
--- One of the last `every` frames up to frame f has a header of the page, or is before the first
--- frame of the transmission.
+-- One of the last `every` frames up to frame f, or a later frame, has a header of the page, in one
+-- of the first n entries of the transmission; or the first of these `every` frames is before the
+-- first frame of the transmission.
 abbrev pub HasRecentPageHeader : Criteria → Transmission → ℕ → ℕ → Type 0
 HasRecentPageHeader g frames n f =
     (f + 1 < frame_at frames 0 + g.every)
     ⊎ ((j : ℕ) × (j < n) × (f < frame_at frames j + g.every) × HasHeader g frames j)
 
 -- If a pace is required, a PES packet was sent in one of the last frames up to frame f, as many as
--- the pace.
+-- the pace, or later.
 abbrev pub HasRecentPesPacket : Criteria → Transmission → ℕ → ℕ → Type 0
 HasRecentPesPacket g frames n f =
     (pace : ℕ) → g.pace ≡ Some pace → (j : ℕ) × (j < n) × (f < frame_at frames j + pace)

@@ -4,7 +4,7 @@
 -- page; after such a repeat, the page is correct only when each row with text was sent again.
 --
 -- `keeps` says whether repeats may have C4 clear. If `keeps` is false and `within` is 0, the rules
--- are those of `Good`, with complete pages if the options require them.
+-- for valid subtitles are those of `Good`, with complete pages if the options require them.
 use Rattle.std.specs.Prelude.{◌≡◌, ◌↔◌, ℕ, ◌+◌, ◌-◌, ◌<◌, ◌≤◌, ◌⊎◌, Bool, true, false, []}
 use Rattle.std.specs.Prelude.{length, take, slice_index_or, All, IfSome, IsTrue, IsFalse}
 use Rattle.ttx_packet.specs.PageHeader.{HasExactCodeWords}
@@ -33,9 +33,9 @@ IsCorrectPage keeps programme page transmission f =
     → IsCell row column
     → IsRight keeps page (on_air_until transmission f) (due_page_in programme f) row column
 
--- The page has ended by the end of frame f: it is not open.
-abbrev pub HasEndedPage : PageIdValue → Transmission → ℕ → Type 0
-HasEndedPage page transmission f =
+-- The page is not open at the end of frame f.
+abbrev pub IsPageClosed : PageIdValue → Transmission → ℕ → Type 0
+IsPageClosed page transmission f =
     IsFalse (is_open_after (kind page) (on_air_until transmission f))
 
 -- The code is allowed in the cell at the end of frame f: it is a space, or it was expected in the
@@ -88,8 +88,9 @@ pub record KeepsRulesWithRepeats
       → n < length (on_air_until transmission f)
       → ErasesOrRepeats options.asks_complete options.page
       (take n (on_air_until transmission f)) (slice_index_or (on_air_until transmission f) n [])
-  -- Rule 5: since the page was last erased, while it is open, each row has odd parity, all packets
-  -- of the same row are equal, and no packet X/25 to X/28 of the page's magazine is sent.
+  -- Rule 5: while the page is open, each row has odd parity, all packets of the same row since the
+  -- last header that starts a new text, if any, are equal, and no packet X/25 to X/28 of the page's
+  -- magazine is sent.
   pub spans :
       (f n : ℕ)
       → f ≤ last_frame transmission
@@ -100,14 +101,14 @@ pub record KeepsRulesWithRepeats
   pub repeats : Repeats options.page options.every transmission
   pub paced : KeepsPace options.pace transmission
 
--- Frame f is finished: at its end the page is correct and, if complete pages are required, has
--- ended.
+-- Frame f is finished: at its end the page is correct and, if complete pages are required, not
+-- open.
 pub record IsFinishedFrame
     (keeps : Bool) (programme : ProgrammeValue) (transmission : Transmission)
     (options : OptionsValue) (f : ℕ)
     : Type 0 where
   pub whole : IsCorrectPage keeps programme options.page transmission f
-  pub ended : IsTrue options.asks_complete → HasEndedPage options.page transmission f
+  pub ended : IsTrue options.asks_complete → IsPageClosed options.page transmission f
 
 -- At least one of the frames from a to b is finished: its page is correct and, if required,
 -- complete.

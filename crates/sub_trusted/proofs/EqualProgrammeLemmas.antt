@@ -9,7 +9,7 @@ use Rattle.stl_rows.specs.DuePage.{drawn_or_blank, due, ends_at, is_due, tci_of_
 use Rattle.stl_rows.specs.Programme.{ProgrammeValue, first_tci, last_tco}
 use Rattle.sub_plan.specs.Options.{OptionsValue}
 use Rattle.sub_rules.specs.FrameRules.{UnreadReason}
-use Rattle.sub_laws.specs.CleanStretch.{criteria_with_refusals}
+use Rattle.sub_laws.specs.CleanStretch.{criteria_if_unreliable}
 use Rattle.sub_trusted.specs.EqualTrust.{HasOtherSubtitles, IsDueOnlyIfUndecided, LawOfEqualTrust}
 use Rattle.sub_trusted.proofs.EqualLateLemmas.{HasSameCriteria}
 use Rattle.sub_trusted.proofs.EqualTrustLemmas.{stretch_is_trusted_in_both}
@@ -39,7 +39,7 @@ module _ (programme : ProgrammeValue) (options : OptionsValue) (unread : Option 
     (any_unreliable : Bool) (undecided : ℕ → Bool) (records : List SubtitleValue)
     (others : HasOtherSubtitles undecided programme.records records) where
   equal_with :
-      HasSameCriteria (criteria_with_refusals programme options unread any_unreliable undecided)
+      HasSameCriteria (criteria_if_unreliable programme options unread any_unreliable undecided)
       (due programme.drawing records) (tci_of_subtitle_ending_at records)
   unfolding due tci_of_subtitle_ending_at
   equal_with = record {
@@ -60,7 +60,7 @@ law_of_equal_trust programme options unread any_unreliable undecided records pes
     others
     reported
     low high whole =
-    stretch_is_trusted_in_both (criteria_with_refusals programme options unread any_unreliable
+    stretch_is_trusted_in_both (criteria_if_unreliable programme options unread any_unreliable
     undecided)
     (due programme.drawing records) (tci_of_subtitle_ending_at records) (first_tci records)
     (last_tco records)

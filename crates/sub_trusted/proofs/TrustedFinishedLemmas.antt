@@ -11,7 +11,7 @@ use Rattle.sub_rules.specs.FrameRules.{Criteria, UnreadReason}
 use Rattle.sub_rules.specs.Repeats.{HasFinishedFrame}
 use Rattle.sub_rules.specs.Transmission.{Transmission}
 use Rattle.sub_rules.proofs.PrefixEventLemmas.{unfinished_run_start-prefix}
-use Rattle.sub_laws.specs.CleanStretch.{IsEnd, criteria_with_refusals}
+use Rattle.sub_laws.specs.CleanStretch.{IsEnd, criteria_if_unreliable}
 use Rattle.sub_trusted.specs.TrustedFrames.{rising_part}
 use Rattle.sub_trusted.proofs.TrackerStateLemmas.{IsTrustedCorrect}
 use Rattle.sub_laws.proofs.FinishedLemmas.{finished_end_is_finished_page}
@@ -28,12 +28,12 @@ use Rattle.sub_trusted.proofs.TrustedFrameLemmas.{unreported}
 module _ (programme : ProgrammeValue) (options : OptionsValue) (unread : Option UnreadReason)
     (any_unreliable : Bool) (undecided : ℕ → Bool) (frames : Transmission) (from to : ℕ)
     (may : IsTrustedCorrect
-    (criteria_with_refusals programme options unread any_unreliable undecided)
+    (criteria_if_unreliable programme options unread any_unreliable undecided)
     frames
     from to)
   where
     abbrev g : Criteria
-    g = criteria_with_refusals programme options unread any_unreliable undecided
+    g = criteria_if_unreliable programme options unread any_unreliable undecided
 
     abbrev part : Transmission
     part = rising_part frames

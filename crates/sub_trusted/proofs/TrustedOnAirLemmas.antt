@@ -18,7 +18,7 @@ use Rattle.sub_rules.specs.PesPackets.{PesPacket}
 use Rattle.sub_rules.specs.Repeats.{HasFinishedFrame}
 use Rattle.sub_rules.specs.Transmission.{Transmission, first_frame, packets_of}
 use Rattle.sub_rules.specs.declared.event.Event.TheVariants.{Trusted}
-use Rattle.sub_laws.specs.CleanStretch.{HasNoReceiverFault, HasNoOpenEnd, criteria_with_refusals}
+use Rattle.sub_laws.specs.CleanStretch.{HasNoReceiverFault, HasNoOpenEnd, criteria_if_unreliable}
 use Rattle.sub_laws.specs.Repeats.{FinishesInTime}
 use Rattle.sub_laws.specs.ReportedRepeats.{IsSufficientWithRepeats}
 use Rattle.sub_trusted.specs.TrustedFrames.{MatchesReadPackets, LawOfTrustedFrames, LawOfKnownPages}
@@ -49,13 +49,13 @@ module _ (programme : ProgrammeValue) (options : OptionsValue) (unread : Option 
     (any_unreliable : Bool) (undecided : ℕ → Bool) (pes_packets : List PesPacket) (from to : ℕ)
     (reported :
     Contains (all_events_of_pes_packets
-    (criteria_with_refusals programme options unread any_unreliable
+    (criteria_if_unreliable programme options unread any_unreliable
     undecided)
     pes_packets)
     (Trusted from to))
   where
     abbrev g : Criteria
-    g = criteria_with_refusals programme options unread any_unreliable undecided
+    g = criteria_if_unreliable programme options unread any_unreliable undecided
 
     abbrev frames : Transmission
     frames = sent_by_pes_packets g pes_packets
@@ -154,7 +154,7 @@ law_of_trusted_repeats programme options unread any_unreliable undecided pes_pac
     reported =
     record {
       skipped =
-          skipped_packets_are_outside_stretch (criteria_with_refusals programme options unread
+          skipped_packets_are_outside_stretch (criteria_if_unreliable programme options unread
           any_unreliable undecided)
           pes_packets
           from to
@@ -173,7 +173,7 @@ law_of_trusted_frames programme options unread any_unreliable undecided pes_pack
     reported =
     record {
       skipped =
-          skipped_packets_are_outside_stretch (criteria_with_refusals programme options unread
+          skipped_packets_are_outside_stretch (criteria_if_unreliable programme options unread
           any_unreliable undecided)
           pes_packets
           from to

@@ -1,4 +1,4 @@
--- Which frames are trusted does not depend on the contents of rejected subtitles.
+-- Which frames are trusted does not depend on the contents of unreliable subtitles.
 use Rattle.std.specs.Prelude.{◌≡◌, ◌≢◌, ℕ, ◌<◌, ◌≤◌, ◌⊎◌, Bool, List, [], ◌∷◌, Contains, Option}
 use Rattle.std.specs.Prelude.{IsFalse, IsTrue}
 use Rattle.stl_file.specs.Subtitle.{SubtitleValue}
@@ -9,7 +9,7 @@ use Rattle.sub_rules.specs.FrameRules.{Criteria, UnreadReason, criteria_of}
 use Rattle.sub_rules.specs.PesPacketEvents.{all_events_of_pes_packets}
 use Rattle.sub_rules.specs.PesPackets.{PesPacket}
 use Rattle.sub_rules.specs.declared.event.Event.TheVariants.{Trusted}
-use Rattle.sub_laws.specs.CleanStretch.{HoldsAtFrameEnds, criteria_with_refusals}
+use Rattle.sub_laws.specs.CleanStretch.{HoldsAtFrameEnds, criteria_if_unreliable}
 use Rattle.sub_trusted.specs.TrustedFrames.{rising_frames_of}
 
 -- The subtitle ends after it begins, and is expected only in frames whose expected page is unknown.
@@ -40,24 +40,24 @@ AreTrusted g pes_packets from to =
     × (to ≤ last)
     × Contains (all_events_of_pes_packets g pes_packets) (Trusted first last)
 
--- Frames that are trusted although subtitles were rejected are also trusted for a file with any
--- other subtitles in place of the rejected ones, if these are expected only in frames whose
--- expected page was unknown, and if the check against that file has any event. If `within` is not
--- 0, this holds up to each frame with a finished page.
+-- Frames that are trusted although there are unreliable subtitles are also trusted for a file with
+-- any other subtitles in place of the unreliable ones, if each of these has its TCI before its TCO
+-- and is expected only in frames whose expected page was unknown, and if the check against that
+-- file has any event. If `within` is not 0, this holds up to each frame with a finished page.
 abbrev pub LawOfEqualTrust : Type 0
 LawOfEqualTrust =
     (programme : ProgrammeValue) (options : OptionsValue) (unread : Option UnreadReason)
     → (any_unreliable : Bool) (undecided : ℕ → Bool) (records : List SubtitleValue)
     → (pes_packets : List PesPacket) (from to b : ℕ)
     → HasOtherSubtitles undecided programme.records records
-    → Contains (all_events_of_pes_packets (criteria_with_refusals programme options unread
+    → Contains (all_events_of_pes_packets (criteria_if_unreliable programme options unread
     any_unreliable undecided)
     pes_packets)
     (Trusted from to)
     → from ≤ b
     → b ≤ to
     → (0 < options.within
-    → IsFinishedAt (criteria_with_refusals programme options unread any_unreliable undecided)
+    → IsFinishedAt (criteria_if_unreliable programme options unread any_unreliable undecided)
     pes_packets b)
     → all_events_of_pes_packets (criteria_of (record programme { records = records }) options
     unread)

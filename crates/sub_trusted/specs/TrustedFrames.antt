@@ -17,7 +17,7 @@ use Rattle.sub_rules.specs.Transmission.{packets_of}
 use Rattle.sub_rules.specs.Trusted.{has_no_active_faults}
 use Rattle.sub_rules.specs.declared.event.Event.TheVariants.{Trusted}
 use Rattle.sub_laws.specs.CleanStretch.{HoldsAtFrameEnds, HasNoReceiverFault}
-use Rattle.sub_laws.specs.CleanStretch.{criteria_with_refusals}
+use Rattle.sub_laws.specs.CleanStretch.{criteria_if_unreliable}
 use Rattle.sub_laws.specs.OnScreen.{CompleteWithin}
 use Rattle.sub_laws.specs.Stretch.{MayBeTrusted}
 
@@ -87,7 +87,8 @@ pub record StaysAsReadFromFile
 -- ---- guarantees for trusted frames
 
 -- The guarantees for the frames `from` to `to`. Frame `from` has a header of the page, so a
--- receiver that is tuned in recovers. If complete pages are required, the pages of these frames are
+-- receiver that is tuned in at its beginning recovers; one that is tuned in later recovers from the
+-- next header in these frames. If complete pages are required, the pages of these frames are
 -- complete, so the expected page is on screens.
 pub record MayStay
     (programme : ProgrammeValue) (transmission : Transmission) (options : OptionsValue)
@@ -99,18 +100,18 @@ pub record MayStay
 
 -- If each header must have C4 (erase page) set and `within` is 0, the guarantees hold for trusted
 -- frames of a PES file, whatever is on air before and after them. So these frames need no repair.
--- If subtitles were rejected, this holds for the reliable subtitles.
+-- If there are unreliable subtitles, this holds for the reliable ones.
 abbrev pub LawOfTrustedFrames : Type 0
 LawOfTrustedFrames =
     (programme : ProgrammeValue) (options : OptionsValue) (unread : Option UnreadReason)
     → (any_unreliable : Bool) (undecided : ℕ → Bool) (pes_packets : List PesPacket) (from to : ℕ)
     → IsFalse options.keeps
     → options.within ≡ 0
-    → Contains (all_events_of_pes_packets (criteria_with_refusals programme options unread
+    → Contains (all_events_of_pes_packets (criteria_if_unreliable programme options unread
     any_unreliable undecided)
     pes_packets)
     (Trusted from to)
-    → StaysAsReadFromFile (criteria_with_refusals programme options unread any_unreliable undecided)
+    → StaysAsReadFromFile (criteria_if_unreliable programme options unread any_unreliable undecided)
     pes_packets from
     to
     (λ on_air. MayStay programme on_air options from to)
@@ -156,10 +157,10 @@ abbrev pub IsAnythingReported : Criteria → List PesPacket → Type 0
 IsAnythingReported g pes_packets = (all_events_of_pes_packets g pes_packets ≢ []) ⊎ IsTrue
     g.any_unreliable
 
--- If the PES file has any event, or a subtitle was rejected, each range of frames that could be
--- trusted is reported as trusted, in one event, from its first header that erases the page on.
--- Frames that have the guarantees without meeting the conditions of `MayBeReportedAsTrusted` need
--- not be reported.
+-- If the PES file has any event, or the subtitle file has unreliable subtitles, each range of
+-- frames that could be trusted is reported as trusted, in one event, from its first header that
+-- erases the page on. Frames that have the guarantees without meeting the conditions of
+-- `MayBeReportedAsTrusted` need not be reported.
 abbrev pub LawOfAllTrusted : Type 0
 LawOfAllTrusted =
     (g : Criteria) (pes_packets : List PesPacket) (a b i : ℕ)

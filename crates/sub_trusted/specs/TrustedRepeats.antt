@@ -10,14 +10,15 @@ use Rattle.sub_rules.specs.PesPackets.{PesPacket}
 use Rattle.sub_rules.specs.Repeats.{HasFinishedFrame}
 use Rattle.sub_rules.specs.Transmission.{Transmission, packets_of}
 use Rattle.sub_rules.specs.declared.event.Event.TheVariants.{Trusted}
-use Rattle.sub_laws.specs.CleanStretch.{criteria_with_refusals}
+use Rattle.sub_laws.specs.CleanStretch.{criteria_if_unreliable}
 use Rattle.sub_laws.specs.Repeats.{MayBeTrustedWithRepeats}
 use Rattle.sub_trusted.specs.TrustedFrames.{StaysAsReadFromFile}
 
--- The guarantees for the frames `from` to `to`. Frame `from` has a header that erases the page, so
--- a receiver that is tuned in at its beginning recovers. A receiver that is tuned in later recovers
--- if its page was blank or if it erases it at each header; any other receiver recovers from the
--- next header with C4 (erase page) set. If `within` is not 0, at least one frame is finished.
+-- The guarantees for the frames `from` to `to`. Frame `from` has a header that erases the page (any
+-- header of the page, if C4, erase page, must always be set), so a receiver that is tuned in at its
+-- beginning recovers. A receiver that is tuned in later recovers from the next header in these
+-- frames if its page was blank and not open, or if it erases it at each header, and otherwise from
+-- the next one with C4 set. If `within` is not 0, at least one frame is finished.
 pub record MayStayWithRepeats
     (programme : ProgrammeValue) (transmission : Transmission) (options : OptionsValue)
     (from to : ℕ)
@@ -29,19 +30,20 @@ pub record MayStayWithRepeats
       0 < options.within
       → HasFinishedFrame options.keeps programme transmission options from to
 
--- The guarantees hold for trusted frames of a PES file, whatever is on air before and after them.
--- So these frames need no repair. If `within` is not 0, consecutive PES packets of one frame are
--- merged. If subtitles were rejected, this holds for the reliable subtitles.
+-- If the subtitles are valid, the guarantees hold for trusted frames of a PES file, whatever is on
+-- air before and after them. So these frames need no repair. If `within` is not 0, consecutive PES
+-- packets of one frame are merged. If there are also unreliable subtitles, this holds for the
+-- reliable ones.
 abbrev pub LawOfTrustedRepeats : Type 0
 LawOfTrustedRepeats =
     (programme : ProgrammeValue) (options : OptionsValue) (unread : Option UnreadReason)
     → (any_unreliable : Bool) (undecided : ℕ → Bool) (pes_packets : List PesPacket) (from to : ℕ)
     → IsProgramme programme.drawing programme.records
-    → Contains (all_events_of_pes_packets (criteria_with_refusals programme options unread
+    → Contains (all_events_of_pes_packets (criteria_if_unreliable programme options unread
     any_unreliable undecided)
     pes_packets)
     (Trusted from to)
-    → StaysAsReadFromFile (criteria_with_refusals programme options unread any_unreliable undecided)
+    → StaysAsReadFromFile (criteria_if_unreliable programme options unread any_unreliable undecided)
     pes_packets from
     to
     (λ on_air. MayStayWithRepeats programme on_air options from to)

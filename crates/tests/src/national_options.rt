@@ -238,8 +238,8 @@ const NOT_SPANISH: [&[u8]; 6] = [
 #[rattlefmt::skip]
 const NOT_CZECH: [&[u8]; 5] = [&[0xCF, 0x6E], &[0x24], &[0xCF, 0x43], &[0xC2, 0x6F], &[0xA8]];
 
-// Capital letters that Polish has and its sub-set lacks, and letters with another accent. The same
-// holds for the texts of Lithuanian below.
+// Capital letters that Polish has and its sub-set lacks, byte 24, and letters with another accent.
+// The texts for Lithuanian below are such letters too.
 #[rattlefmt::skip]
 const NOT_POLISH: [&[u8]; 9] = [
     &[0xCE, 0x41], &[0xC2, 0x43], &[0xCE, 0x45], &[0xC2, 0x4E], &[0xC2, 0x4F], &[0xC2, 0x5A],
@@ -302,7 +302,7 @@ fn refuses_characters_that_an_option_lacks(rt: HostRuntime) {
 }
 
 // Returns a text field with three lines of 36 letters, and a diacritical mark as its last byte.
-fn gap_marker_at_end() -> [u8; 112] {
+fn diacritic_at_end() -> [u8; 112] {
     let mut text = [0x41; 112];
     (text[36], text[73], text[110], text[111]) = (0x8A, 0x8A, 0x8A, 0xC2);
     text
@@ -332,7 +332,7 @@ fn assert_shows_e(rt: &(impl Abort + Alloc<A = Global>), file: &[u8], row: u8) -
 
 #[test]
 fn reads_a_pair_over_two_blocks(rt: HostRuntime) -> Result<(), Fail> {
-    let first = block(&fields(1, 0x00, 0), &gap_marker_at_end());
+    let first = block(&fields(1, 0x00, 0), &diacritic_at_end());
     let file = file_of_two(&first, &block(&fields(1, 0xFF, 0), &[0x65]));
     assert_shows_e(&rt, &file, 4)
 }
@@ -350,7 +350,7 @@ fn reads_a_pair_over_padding_and_a_comment(rt: HostRuntime) -> Result<(), Fail> 
 #[test]
 fn refuses_the_diacritic_of_such_a_pair(rt: HostRuntime) {
     let mut text = [0x65; 113];
-    text[..112].copy_from_slice(&gap_marker_at_end());
+    text[..112].copy_from_slice(&diacritic_at_end());
     let refused = Some(RowFault {
         kind: RowFaultKind::Character,
         at: 111,

@@ -1,4 +1,5 @@
-//! Prints once a second how far the Teletext of a PID is ahead of the pictures of its programme.
+//! Prints about once a second how far the Teletext of a PID is ahead of the pictures of its
+//! programme.
 
 use crate::clock::CLOCK_TICKS_PER_SECOND;
 use crate::text::{Text, forward_distance};
@@ -15,9 +16,9 @@ pub struct Picture {
 /// The state of printing how far a PID is ahead of the pictures.
 #[derive(Drop)]
 pub struct Lead {
-    // The video PID and the number of the picture before the last PES packet with Teletext.
-    following: Option<(u16, u64)>,
-    // The PTS in the last line that was printed.
+    // The video PID and the number of the picture in the last call of `take`.
+    last_picture: Option<(u16, u64)>,
+    // The PTS in the last line that was printed since the video PID changed.
     last: Option<u64>,
 }
 
@@ -25,7 +26,7 @@ impl Lead {
     /// Creates the state before the first line.
     pub fn new() -> Lead {
         Lead {
-            following: None,
+            last_picture: None,
             last: None,
         }
     }
@@ -44,8 +45,8 @@ impl Lead {
     // Moves to a picture, and returns whether it differs from the picture before. After a change of
     // the video PID the next line is printed at once.
     fn move_to_picture(&mut self, picture: &Picture) -> bool {
-        let before = self.following;
-        self.following = Some((picture.video, picture.number));
+        let before = self.last_picture;
+        self.last_picture = Some((picture.video, picture.number));
         match before {
             Some((video, number)) if video == picture.video => number != picture.number,
             _ => {
@@ -55,8 +56,8 @@ impl Lead {
         }
     }
 
-    // Returns whether a PTS is a second or more after the PTS of the last line, or before it, or
-    // there is no last line.
+    // Returns whether a PTS is a second or more after the PTS of the last line, or before it, or no
+    // line was printed since the video PID changed.
     fn is_report_due(&self, pts: u64) -> bool {
         match self.last {
             Some(last) => forward_distance(last, pts) >= CLOCK_TICKS_PER_SECOND,

@@ -16,13 +16,14 @@ pub struct Notes {
     // The received rows, with marks for bytes of even parity, and the rows that were printed last.
     rows: Rows,
     reported: Option<Rows>,
-    // The rows in this PES packet after the end of the page, and those that were printed last.
+    // The rows in this PES packet after a header of the page and the end of the page, and those
+    // that were printed last.
     strays: Rows,
     reported_strays: Rows,
     has_stray: bool,
     // Whether this PES packet has a header of the page.
     is_opened: bool,
-    // Whether the last header of the magazine is a header of the page.
+    // Whether the last decoded header of the magazine is a header of the page.
     is_requested_page: bool,
     sets: CharacterSets,
 }
@@ -51,7 +52,8 @@ impl Notes {
         }
     }
 
-    /// Ends a PES packet, and adds the state of the receiver after this packet to the events.
+    /// Ends a PES packet, and adds to its events whether the page is open, whether it is blank, and
+    /// whether rows came after the end of the page, in a PES packet with a header of the page.
     pub fn end(&self, receiver: &Blank, heard: &mut Heard) {
         let is_blank = is_blank(receiver.page());
         heard.add_if(receiver.is_page_open(), b'o');
@@ -60,7 +62,7 @@ impl Notes {
     }
 
     /// Records a Teletext packet, before the receiver receives it. Returns the packet's header of
-    /// any page, if it has one.
+    /// any page, if one can be decoded.
     pub fn note(
         &mut self,
         receiver: &Blank,
@@ -73,7 +75,7 @@ impl Notes {
         let watched = receiver.watched();
         let (kind, header) = PacketKind::classify_with_header(watched, packet);
         self.note_kind(&kind, receiver.is_page_open(), packet, heard);
-        self.note_any_packet(watched, packet, &header, pid, text);
+        self.note_magazine_packet(watched, packet, &header, pid, text);
         header
     }
 
@@ -90,7 +92,7 @@ impl Notes {
     }
 
     // Records a Teletext packet of the page's magazine, with its header of any page, if it has one.
-    fn note_any_packet(
+    fn note_magazine_packet(
         &mut self,
         watched: PageId,
         packet: &Packet,

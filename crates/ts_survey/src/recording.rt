@@ -74,7 +74,7 @@ impl Recording {
         }
     }
 
-    /// Returns whether memory ran out.
+    /// Returns whether memory ran out. Tables and lost text do not count.
     pub fn out_of_memory(&self) -> bool
         ensures { result ≡ false → self.now.out_of_memory ≡ false }
     {
@@ -130,8 +130,8 @@ impl Recording {
         self.take_by_kind(bytes, is_end, text)
     }
 
-    // Determines the kind of the recording, if the bytes show it. Returns how many bytes need not
-    // be examined again.
+    // Prints the first bytes of the recording once they have arrived, and determines its kind as
+    // soon as that is possible. Returns how many bytes need not be examined again.
     fn find_kind(&mut self, bytes: &[u8], is_end: bool, first: &mut Text) -> usize
         ensures within { result ≤ length bytes.now }
         ensures kept { is_unknown self.new.kind ≡ true → self.new.out_of_memory ≡ false
@@ -207,7 +207,7 @@ impl Recording {
     {
         self.has_head = true;
         let head = first_bytes_of(bytes);
-        put_head_line(head, first);
+        put_head_lines(head, first);
         if !is_pes_file(head) {
             return;
         }
@@ -218,8 +218,9 @@ impl Recording {
         }
     }
 
-    // Begins a transport stream if the packet size is requested or is found in the bytes. Returns
-    // how many bytes need not be examined again.
+    // Begins a transport stream if the packet size is requested or is found in the bytes. Prints
+    // `nothing` if it is neither and the search ends. Returns how many bytes need not be examined
+    // again.
     fn inspect(&mut self, bytes: &[u8], is_end: bool, first: &mut Text) -> usize
         ensures within { result ≤ length bytes.now }
         ensures kept { is_unknown self.new.kind ≡ true → self.new.out_of_memory ≡ false
@@ -286,10 +287,10 @@ impl Recording {
         }
     }
 
-    /// Prints the pending lines about PES packets if no more data is available for now, and ends
-    /// the recording at its end.
+    /// Ends the recording if `is_end` is set: prints all remaining lines, and the line `over` last.
+    /// Otherwise prints the pending lines about PES packets if `has_no_more` is set.
     #[tactic(auto, using(crate::proofs::ListedLemmas::stays_as_requested))]
-    pub fn pause(&mut self, is_end: bool, has_no_more: bool, text: &mut Text)
+    pub fn end_or_flush(&mut self, is_end: bool, has_no_more: bool, text: &mut Text)
         ensures end { is_end ≡ true → ReportsEnd self.old text.new }
         ensures requested { self.new.requested ≡ self.old.requested }
         ensures as_requested { is_end ≡ false → IsAsRequested self.old.requested self.old.kind
@@ -367,8 +368,8 @@ fn first_bytes_of(bytes: &[u8]) -> &[u8]
     head
 }
 
-// Prints the first bytes of a recording.
-fn put_head_line(head: &[u8], text: &mut Text)
+// Prints the line `survey 1`, and the line `head` with the first bytes of a recording.
+fn put_head_lines(head: &[u8], text: &mut Text)
     requires { length head.now ≤ head_size }
     ensures { AddsTexts text.old (head_texts head.now) text.new }
 {
@@ -397,7 +398,8 @@ fn put_size_line(size: PacketSize, text: &mut Text)
     text.put(b"\n");
 }
 
-// Prints the line `over`: the number of bytes that belong to no packet, and the number of packets.
+// Prints the line `over` with two counts: of the bytes that belong to no packet, and of transport
+// packets.
 fn put_counts_line(skipped: u64, number: u64, text: &mut Text)
     ensures { AddsTexts text.old (counts_line skipped number) text.new }
 {
@@ -407,7 +409,7 @@ fn put_counts_line(skipped: u64, number: u64, text: &mut Text)
     text.put(b"\n");
 }
 
-// Returns the packet size: the requested packet size, or else the detected packet size.
+// Returns the packet size: the requested packet size, or else the detected packet size, if any.
 fn packet_size_of_recording(
     requested: Option<PacketSize>,
     bytes: &[u8],

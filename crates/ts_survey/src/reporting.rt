@@ -14,7 +14,7 @@ use std::alloc::Global;
 use sub_io::{Flush, Source, put_all};
 use ttx_packet::PageId;
 
-/// The reason why a recording was not read to its end.
+/// The reason why a survey failed.
 #[derive(Clone, Copy, Debug, PartialEq, Eq)]
 pub enum SurveyFault {
     /// The source of the recording failed.
@@ -34,7 +34,8 @@ pub enum SurveyFault {
 /// # Errors
 ///
 /// Returns `Read` if the source fails; all lines printed before were written. Returns `Write` if
-/// the sink fails, which then has a prefix of the output. Returns `Memory` if memory runs out.
+/// the sink fails, which then has a prefix of the output. Returns `Memory` if memory runs out,
+/// except for tables: those for which it runs out are not read.
 #[tactic(auto, using(crate::proofs::SurveyLemmas::growing))]
 pub fn survey<S: Source, K: Flush>(
     alloc: Global,
@@ -75,7 +76,7 @@ pub fn survey<S: Source, K: Flush>(
         };
         let used = recording.take(buffer.buffered(), received.is_end, &mut first, &mut text);
         buffer.skip_bytes(used);
-        recording.pause(received.is_end, received.has_no_more, &mut text);
+        recording.end_or_flush(received.is_end, received.has_no_more, &mut text);
         if first.is_lost() || text.is_lost() || recording.out_of_memory() {
             return Err(SurveyFault::Memory);
         }
@@ -127,7 +128,7 @@ fn flush_pending<K: Flush>(
     }
 }
 
-// Writes all lines of a text.
+// Writes all lines of a text, and then clears the text unless writing failed.
 #[tactic(auto, using(crate::proofs::ListedLemmas::all_reported))]
 fn put_lines<K: Flush>(text: &mut Text, out: &mut K) -> Result<(), SurveyFault>
     requires { CanFail (K.failure_count out.old) }

@@ -24,10 +24,10 @@ progress_after (Reading given) (Ok (Some _)) = Reading (given + 1)
 progress_after p (Ok _) = AtEnd
 
 -- The reader has read at most `most` PES packets, or has reached the end or reported a fault.
-abbrev pub ReturnsAtMost : ℕ → Progress → Type 0
-ReturnsAtMost most (Reading given) = given ≤ most
-ReturnsAtMost most AtEnd = Unit {0}
-ReturnsAtMost most Broken = Unit {0}
+abbrev pub HasReadAtMost : ℕ → Progress → Type 0
+HasReadAtMost most (Reading given) = given ≤ most
+HasReadAtMost most AtEnd = Unit {0}
+HasReadAtMost most Broken = Unit {0}
 
 -- The result of `next_into`, with its frame, as a result of `next`.
 abbrev pub frame_answer : Result Bool PesFault → PesValue → Result (Option PesValue) PesFault
@@ -42,7 +42,7 @@ pub record TakesValidPesPacket (old new : Option (List ℕ)) (v : PesValue) : Ty
   pub consumed : Consumes old new bytes
 
 -- The bytes are too few for a PES packet: they are fewer than six bytes, whatever these are, or
--- fewer bytes than their length field states.
+-- fewer than the packet size in their first six bytes, which are correct.
 abbrev pub IsIncompletePesPacket : List ℕ → Type 0
 IsIncompletePesPacket bytes =
     (length bytes < 6)

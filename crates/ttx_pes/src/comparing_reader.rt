@@ -26,19 +26,20 @@ use std::marker::Model;
 /// The result of reading with a `ComparingReader`.
 #[derive(Clone, Copy, Debug, PartialEq, Eq)]
 pub enum Compared {
-    /// The file has ended.
+    /// The file or recording, or the range of PES packets to read, has ended.
     End,
     /// A valid PES packet with the same data field (bytes 45 to the end) as the packet before. It
     /// has the same units; its PTS may differ.
     Same,
     /// A valid PES packet whose data field differs from that of the packet before, or which follows
-    /// no valid packet: the first packet of the file, or the packet after a fault.
+    /// no valid packet: the first packet that is read, or the packet after a fault.
     Other,
 }
 
 /// A reader of PES packets like `PesReader` that also compares the data field of each packet with
-/// that of the packet before. It stores its progress, the bytes of the last packet, and the offsets
-/// of its Teletext units. The units are borrowed in DVB bit order, without reversing bits.
+/// that of the packet before. It stores its progress, and of the last packet the PTS, the data
+/// field and the offsets of the Teletext units. The units are borrowed in DVB bit order, without
+/// reversing bits.
 ///
 /// A subtitle transmission repeats each page many times. If the data field is unchanged, only the
 /// header of the PES packet is parsed.
@@ -46,7 +47,8 @@ pub enum Compared {
 pub struct ComparingReader {
     progress: Progress,
     // The number of packets consumed, including the last one, if the last result was the fault of a
-    // complete packet; after such a fault `continue_after_fault` allows reading to continue.
+    // complete packet; after such a fault `continue_after_fault` allows reading to continue, and
+    // resets this to `None`.
     count_through_fault: Option<u32>,
     kept: FrameBuffer,
 }
@@ -54,7 +56,7 @@ pub struct ComparingReader {
 impl Model for ComparingReader {
     ghost use Rattle.std.specs.Prelude.{◌≤◌, IfSome};
     ghost use Rattle.ttx_pes.specs.Comparing.{ComparingValue};
-    ghost use Rattle.ttx_pes.specs.Reader.{ReturnsAtMost};
+    ghost use Rattle.ttx_pes.specs.Reader.{HasReadAtMost};
     ghost use Rattle.ttx_pes.specs.Reading.{max_pes_packets};
 
     ghost Value = { ComparingValue };
@@ -66,7 +68,7 @@ impl Model for ComparingReader {
       count_through_fault = r.count_through_fault;
     } };
 
-    ghost invariant = { λ r. ReturnsAtMost max_pes_packets r.progress
+    ghost invariant = { λ r. HasReadAtMost max_pes_packets r.progress
         × IfSome r.count_through_fault (λ given. given ≤ max_pes_packets) };
 }
 
@@ -155,7 +157,7 @@ impl ComparingReader {
     /// packet.
     ///
     /// `Same` and `Other` consume exactly the packet's bytes, 184 to 1656. Returns `End` at the end
-    /// of the source and at each later call.
+    /// of `pes_packets` and at each later call.
     ///
     /// # Errors
     ///
@@ -190,8 +192,7 @@ impl ComparingReader {
         ensures consumes_nothing_at_end { self.old.progress ≡ AtEnd → pes_packets.new ≡
             pes_packets.old }
         ensures broken { self.old.progress ≡ Broken → pes_packets.new ≡ pes_packets.old }
-        // After a valid packet, or the fault of a complete packet, no byte after that packet has
-        // been read.
+        // After a valid packet, or the fault of a complete packet, `left` has all remaining bytes.
         ensures settled { comparison_as_flag result ≡ Ok true → P.left pes_packets.new ≡ P.remaining
             pes_packets.new }
         ensures pes_packet_settled { IfErr result (λ fault. is_packet_content_fault fault ≡ true

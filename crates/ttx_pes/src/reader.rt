@@ -28,14 +28,14 @@ pub struct PesReader {
 
 impl Model for PesReader {
     ghost use Rattle.ttx_pes.specs.declared.progress.Progress.{Progress};
-    ghost use Rattle.ttx_pes.specs.Reader.{ReturnsAtMost};
+    ghost use Rattle.ttx_pes.specs.Reader.{HasReadAtMost};
     ghost use Rattle.ttx_pes.specs.Reading.{max_pes_packets};
 
     ghost Value = { Progress };
 
     ghost view = { λ r. r.progress };
 
-    ghost invariant = { λ r. ReturnsAtMost max_pes_packets r.progress };
+    ghost invariant = { λ r. HasReadAtMost max_pes_packets r.progress };
 }
 
 // Parses a PES packet, from byte 6 on, into `frame`.
@@ -65,7 +65,7 @@ impl TakePesPacket for PesFrame {
     }
 }
 
-// Parses the next PES packet into `frame`. Returns `false` if no packet remains.
+// Parses the next PES packet into `frame`. Returns `false` at the end of the reader.
 fn read_packet<P: PesPackets>(
     given: u32,
     pes_packets: &mut P,
@@ -127,7 +127,8 @@ impl PesReader {
     /// day; `Truncated` if fewer than six bytes remain; `Start`; `Length`; `Truncated` if the bytes
     /// end within the packet; `Lost` if all bytes from byte 6 on are FF; `Flags` to `DataId`; for
     /// each data unit `UnitLength`, `Framing`, `LineOrder`. Returns `Read` if the source fails
-    /// before a fault is read. After any error each call returns `Ended` and consumes nothing.
+    /// before it has returned the packet, or six bytes with a wrong start code or length. After any
+    /// error each call returns `Ended` and consumes nothing.
     pub fn next<S: Source>(&mut self, source: &mut S) -> Result<Option<PesFrame>, PesFault>
         requires { CanFail (S.failure_count source.old) }
         ensures reports { ReportsPacket self.old (S.remaining source.old) (S.remaining source.new)

@@ -8,7 +8,7 @@ use self::lanes::{is_block_equal, is_long_block_equal};
 use byteorder::{ByteOrder, LittleEndian};
 
 // The size in bytes of the data field of a PES packet of one payload.
-const SINGLE_PAYLOAD_SIZE: usize = 139;
+const SINGLE_PAYLOAD_FIELD_SIZE: usize = 139;
 
 // Returns whether the first eight bytes of two slices are equal.
 #[inline(always)]
@@ -28,7 +28,7 @@ pub(crate) fn is_same(a: &[u8], b: &[u8]) -> bool
     requires length { length a.now ≡ length b.now }
     ensures { (result ≡ true) ↔ (a.now ≡ b.now) }
 {
-    if a.len() == SINGLE_PAYLOAD_SIZE {
+    if a.len() == SINGLE_PAYLOAD_FIELD_SIZE {
         is_payload_equal(a, b)
     } else {
         are_long_blocks_equal(a, b)

@@ -27,12 +27,12 @@ returns-then-received-clause-listed g c =
     let given = c.reads.invariant in
     let taken = c.take-used in
     let received = c.in-Ok.ensures.buffered in
-    let ends = c.pause.ensures.end (search rules) in
+    let ends = c.end_or_flush.ensures.end (search rules) in
     let known = taken.ensures.known (search rules) (search rules) in
     reported-end c.args.options (g.S.Source.remaining c.args.source.now)
     (g.S.Source.remaining c.pull.new.source) (g.K.Sink.contents c.args.out.now)
     (g.K.Sink.contents c.reads.out) (g.K.Sink.contents c.flush_pending.new.out) taken.new.self
-    taken.new.first c.pause.new.text (given.read.0 ++ received.received)
+    taken.new.first c.end_or_flush.new.text (given.read.0 ++ received.received)
     (take c.skip_bytes.new.self.len c.skip_bytes.new.self.bytes.items) given.grows.0
     (Consumes-trans (g.S.Source.remaining c.args.source.now)
     (g.S.Source.remaining c.reads.source) (g.S.Source.remaining c.pull.new.source) given.read.0
@@ -77,21 +77,22 @@ reads-preserved g c =
     λ not. received-all given.read.0 (take c.reads.buffer.len c.reads.buffer.bytes.items)
     (take c.pull.new.self.len c.pull.new.self.bytes.items) c.buffered.result.now received.received
     (given.buffered not) received.buffered c.buffered.ensures.bytes in
-    let same = c.pause.ensures.head (search rules) in
+    let same = c.end_or_flush.ensures.head (search rules) in
     let reported =
     reported-on c.reads.recording taken.new.self given.read.0 (given.read.0 ++ received.received)
-    c.buffered.result.now given.grows.0 c.pause.new.text.bytes.items c.reads.first taken.new.first
+    c.buffered.result.now given.grows.0 c.end_or_flush.new.text.bytes.items c.reads.first
+    taken.new.first
     given.reported taken.ensures.kind_is_found taken.ensures.continues (search rules) given.first
     (search rules)
     (begins-as c.reads.recording.has_head given.read.0 received.received given.long)
     all
-    (λ unknown. ap (λ t. t.bytes.items) (c.pause.ensures.text (search rules) unknown
+    (λ unknown. ap (λ t. t.bytes.items) (c.end_or_flush.ensures.text (search rules) unknown
     ∙ taken.ensures.unknown unknown)
     ∙ no-items c.reads.text.bytes.items given.none) in record {
       source = search rules;
       out = search rules;
       grows = (
-        given.grows.0 ++ (taken.new.first.bytes.items ++ c.pause.new.text.bytes.items),
+        given.grows.0 ++ (taken.new.first.bytes.items ++ c.end_or_flush.new.text.bytes.items),
         Appends-trans _ (g.K.Sink.contents c.reads.out) _ given.grows.0 _ given.grows.1
             (search rules),
       );
@@ -102,8 +103,8 @@ reads-preserved g c =
             given.read.0 received.received given.read.1 received.consumed,
       );
       reported =
-          reported-kept taken.new.self c.pause.new.self _ _ reported
-          (c.pause.ensures.kind (search rules))
+          reported-kept taken.new.self c.end_or_flush.new.self _ _ reported
+          (c.end_or_flush.ensures.kind (search rules))
           same;
       buffered = λ not.
           let none = sym same ∙ not in
@@ -116,11 +117,12 @@ reads-preserved g c =
           (given.buffered had) received.buffered
           (taken.ensures.is_waiting (reported.none none) none) c.skip_bytes.ensures.buffered;
       is_at_place =
-          is_at_place-kept taken.new.self.kind c.pause.new.self.kind taken.new.self.skipped
-          c.pause.new.self.skipped (given.read.0 ++ received.received)
+          is_at_place-kept taken.new.self.kind c.end_or_flush.new.self.kind taken.new.self.skipped
+          c.end_or_flush.new.self.skipped (given.read.0 ++ received.received)
           (take c.skip_bytes.new.self.len c.skip_bytes.new.self.bytes.items) false
-          (c.pause.ensures.kind c.if-received.false) (c.pause.ensures.reads c.if-received.false)
-          (c.pause.ensures.skipped c.if-received.false)
+          (c.end_or_flush.ensures.kind c.if-received.false)
+          (c.end_or_flush.ensures.reads c.if-received.false)
+          (c.end_or_flush.ensures.skipped c.if-received.false)
           (subst (λ b. HasReadUpToBuffer taken.new.self.kind taken.new.self.skipped
           (given.read.0 ++ received.received)
           (take c.skip_bytes.new.self.len c.skip_bytes.new.self.bytes.items) b)
@@ -143,8 +145,8 @@ reads-preserved g c =
           (taken.ensures.enough c.if-received.false had is))
           (sym same ∙ has);
       enough = search rules;
-      requested = c.pause.ensures.requested ∙ taken.ensures.requested ∙ given.requested;
-      as_requested = c.pause.ensures.as_requested (search rules) (taken.ensures.as_requested
+      requested = c.end_or_flush.ensures.requested ∙ taken.ensures.requested ∙ given.requested;
+      as_requested = c.end_or_flush.ensures.as_requested (search rules) (taken.ensures.as_requested
           given.as_requested);
       first = search rules;
       none = search rules;

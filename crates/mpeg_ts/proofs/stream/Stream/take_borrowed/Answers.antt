@@ -48,7 +48,7 @@ pub returns-clause-kept : goal.returns-clause-kept
 returns-clause-kept g c =
     let i = c.self.inside in
     let v : StreamValue = the_view i in
-    let packet = c.packet_in_unit.result.now in
+    let packet = c.packet_at_offset.result.now in
     let borrowed = c.buffered-borrowed.result.now in
     let place = c.place_after_other_pids-place.result in
     let count = place + i.distance in
@@ -81,7 +81,8 @@ returns-clause-kept g c =
       lead = 0;
       joining = j;
     }) (c.take_packet.ensures
-    ∙ sym (packet_of_pid_is_noted i.number packet i.joining (rw c.packet_in_unit.ensures mine.1)))
+    ∙ sym (packet_of_pid_is_noted i.number packet i.joining
+    (rw c.packet_at_offset.ensures mine.1)))
     in
     rw (← c.self.view_is)
     (skipping_borrowed_is_valid g.S.Source.is_pull g.S.Source.borrowed g.S.Source.remaining v w
@@ -90,6 +91,6 @@ returns-clause-kept g c =
     (c.skip_bytes-2.ensures.bytes skipped)
     (λ bytes. borrowed_packet_is_output v w borrowed packet bytes place count refl fits none
     (omega (arith, fits, within)) step (c.self.invariant.no_run_in_step step) c.self.invariant.near
-    c.packet_in_unit.ensures (rw c.packet_in_unit.ensures mine.0) not_ended idle
+    c.packet_at_offset.ensures (rw c.packet_at_offset.ensures mine.0) not_ended idle
     (λ rest. c.place_after_other_pids-place.ensures.gives rest i.joining not_ended idle)
     joined_output))

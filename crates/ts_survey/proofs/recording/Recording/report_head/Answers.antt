@@ -11,5 +11,5 @@ returns-in-Some-clause-reported c = λ unknown enough.
     let size = codes "size 0\n" ∷ [] in
     subst (λ head. AddsTexts c.args.first.now (head_texts head ++ size) c.put.new.self)
     c.first_bytes_of-head.ensures.bytes
-    (adds-words (head_texts c.first_bytes_of-head.result.now) size c.put_head_line.ensures
+    (adds-words (head_texts c.first_bytes_of-head.result.now) size c.put_head_lines.ensures
     (adds-last c.put.ensures))

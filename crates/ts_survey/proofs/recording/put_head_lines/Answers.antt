@@ -1,7 +1,7 @@
--- `put_head_line` adds the line `survey 1`, and the line `head` with the first bytes of the
+-- `put_head_lines` adds the line `survey 1`, and the line `head` with the first bytes of the
 -- recording, to the text.
 use Rattle.ts_survey.proofs.TextLemmas.{adds-last, adds-word}
-use Rattle.ts_survey.proofs.recording.put_head_line.Goals as goal
+use Rattle.ts_survey.proofs.recording.put_head_lines.Goals as goal
 
 pub returns : goal.returns
 returns c =
