@@ -150,7 +150,7 @@ def parse_place_time(time: str) -> int:
     return frame
 
 
-# Faults that only qc finds. They have names instead of numbers.
+# Faults that only qc and read find. They have names instead of numbers.
 
 NEVER_SENT = "never sent"  # the PMT announces the page, but it was not sent
 PICTURES_LEFT = "pictures left"  # the video PTS jump, but the subtitle PTS do not

@@ -179,7 +179,7 @@ FAULT_CLAUSES = {
     67: "a header of the page has C4, C6 or C7 clear, or C5 or C10 set, or its C12 to C14 are not "
         "those of the national option",
     68: "a byte in a row of the page has even parity",
-    69: "a row of the page is sent again with other bytes, and no new header between",
+    69: "a row of the page is sent again with other codes, and no new header between",
     70: "a packet X/25 to X/28 of the magazine is sent while the page is open",
     71: "the first frame has no header of the page",
     72: "the decoded page is not the expected one",
