@@ -236,9 +236,6 @@ class Members(unittest.TestCase):
         self.assertEqual([{name: row.get(name) for name in first}
                           for row in make_column_rows(known)],
                          [dict.fromkeys(first), first, second, first])
-        for code, letter, words in (("41", "A", "41 A"), ("00", "", "00")):
-            self.assertEqual(format_cell({"code": code, "character": letter}), words,
-                             (code, letter))
         self.assertEqual(escape_table_value("a\nb\x07"), "a\n" + escape_hidden("b\x07"))
         self.assertEqual((escape_table_value(5), escape_table_value(-5), escape_table_value(None)),
                          (5, -5, None))

@@ -1,7 +1,6 @@
 """Test runs of qc with pairs that can't be judged, outputs that can't be written, and signals."""
 from __future__ import annotations
 
-import argparse
 import contextlib
 import io
 import itertools
@@ -19,8 +18,7 @@ from subtitles.cli.batch import MIN_SECONDS, PairRunner, judge_next_items
 from subtitles.cli.single import (
     Output, OutputFiles, PairOptions, SIGNALS, handle_signals, ignore_signals, lock_folder,
     lock_pair)
-from subtitles.common.command_line import Stop, run_main
-from subtitles.common.files import Inputs
+from subtitles.common.command_line import run_main
 from subtitles.request.commands import CommandPaths, OutputNames, Printer
 from subtitles.request.lines import BatchItem
 from subtitles.request.request import keep_stl
@@ -234,17 +232,6 @@ class UnjudgedPairs(Case):
                 self.must(f"{option} {name}", run_qc([*words, option, name]) == 2 and
                           before == self.read(name) and errors.getvalue().endswith(
                               f"{name} is also an input: give another name\n"), errors.getvalue())
-
-    def test_refuses_each_name_of_an_input_as_an_output(self) -> None:
-        path = self.write("input", b"")
-        os.symlink(path, self.path("link"))
-        os.link(path, self.path("hard"))
-        for option, name in itertools.product(("json", "csv", "junit"), ("input", "link", "hard")):
-            words = argparse.Namespace(**{"json": None, "csv": None, "junit": None,
-                                          option: self.path(name)})
-            with self.assertRaises(Stop):
-                collection.refuse_output_names(words, Inputs(path))
-            collection.refuse_output_names(words, Inputs(self.path("one.ts")))
 
 
 class OutputsAndSignals(CallCase):

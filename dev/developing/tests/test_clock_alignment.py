@@ -16,7 +16,7 @@ from subtitles.clock.start import Clock, RECORDING, TimedPart
 from subtitles.clock.stretches import (
     find_stretches, fit_parts, have_equal_steps, is_repeated_airing)
 from subtitles.common.command_line import Lateness, parse_lateness
-from subtitles.common.times import CLOCK, FRAMES_OF_A_DAY, Span, TICKS, compute_time
+from subtitles.common.times import CLOCK, FRAMES_OF_A_DAY, Span, TICKS
 from subtitles.judging.part import belongs_to_part, find_lost_spans, find_recorded_span
 from subtitles.stream.gaps import LossPlace
 from subtitles.stream.packets import Packets, PageChange
@@ -295,15 +295,6 @@ SHIFTS = (0, CLOCK - 150 * TICKS, CLOCK - 10 * TICKS, CLOCK - TICKS // 2, CLOCK 
 
 def shift_pts(pts: int, shift: int) -> int:
     return (pts + shift) % CLOCK
-
-
-class PtsAndFrames(unittest.TestCase):
-    def test_converts_a_pts_to_a_time(self) -> None:
-        for shift in SHIFTS:
-            for ticks, time in ((0, "00:00:00:00"), (25 * TICKS, "00:00:01:00"), (-TICKS, None),
-                                (TICKS * FRAMES_OF_A_DAY, None)):
-                with self.subTest(shift=shift, ticks=ticks):
-                    self.assertEqual(compute_time(shift_pts(ticks, shift), shift), time)
 
 
 class LossesInParts(unittest.TestCase):

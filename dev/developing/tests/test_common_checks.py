@@ -82,6 +82,7 @@ class RequiredChecks(ProgrammeCase):
                                                                  "not judged", reason),
             "a profile": (("--profile", profile), "not judged", reason),
             "made": (("--require", "clock,video_unread,option"), "accepted", None),
+            "one made": (("--require", "clock"), "accepted", None),
             "all": (("--require", "all"), "not judged", reason),
             "strict": (("--strict",), "accepted", None)}
         for name, (words, verdict, why) in rows.items():

@@ -13,7 +13,7 @@ from subtitles.common.shapes import (
     Flag, Integer, ListOf, Maybe, Member, Number, OneOf, Record, Rules, Shape, Text)
 from subtitles.common.times import ALL_DAY, FRAMES_OF_A_DAY, FrameRange
 from subtitles.request.commands import (
-    Listener, OutputNames, ListNames, Progress, Printer, make_pair_name)
+    Listener, OutputNames, Progress, Printer, make_pair_name)
 from subtitles.request.request import ORIGIN_CHOICE, Selection
 from .bench import Case
 
@@ -115,10 +115,10 @@ class PrintedLines(unittest.TestCase):
         listener.add_selection(first)
         listener.add_selection(second, False)
         listener.add_command("check", "a b", ">", "c")
-        listener.add_command("check", "d'")
+        listener.add_command("check", "d'", "|", "e")
         listener.print_line("more")
         self.assertEqual(listener.selections, [first, second])
-        self.assertEqual(listener.commands, ["check 'a b' >c", "check 'd'\"'\"''"])
+        self.assertEqual(listener.commands, ["check 'a b' >c", "check 'd'\"'\"'' | e"])
         self.assertEqual(printed, ["line 1", *listener.commands, "more"])
 
     def test_runs_the_last_step_between_sentence_and_line(self) -> None:
@@ -159,10 +159,7 @@ class FileNames(Case):
                       self.read("one.given.stl") ==
                       b"two" and later.make_utf_8_path(own, "x") != later.program_stl)
 
-    def test_gives_each_pair_a_unique_name(self) -> None:
-        names = ListNames()
-        self.check("pairs", [names.name_pair(f"{item}.stl") for item in "abaa"],
-                   ["a", "b", "a~2", "a~3"])
+    def test_shortens_long_names_to_different_names(self) -> None:
         long = ["a" * 179, "a" * 180, "a" * 181, "a" * 182, "a" * 181 + "b", "é" * 90, "é" * 91]
         result = [make_pair_name(f"{item}.stl") for item in long]
         self.must("long", len({*result}) == len(long) and [item in result for item in long] == [

@@ -51,13 +51,18 @@ class Times(unittest.TestCase):
                                      (7, half + 6, half - 1), (half + 7, 6, half - 1),
                                      (half + 7, 7, -half), (CLOCK - 5, 20, 25)):
             self.assertEqual(times.subtract_pts(first, second), later, (first, second, later))
+        before = (CLOCK - 3600 * DAY) // 2  # the most ticks by which a PTS may precede its origin
+        for origin, ticks in itertools.product((0, 7, half, CLOCK - 1), (
+                -before, -1, 0, half, 3600 * DAY, CLOCK - before - 1)):
+            self.assertEqual(times.subtract_origin(origin, (origin + ticks) % CLOCK), ticks,
+                             (origin, ticks))
         for ticks, expected in ((-1, CLOCK - 1), (0, 0), (CLOCK - 1, CLOCK - 1), (CLOCK, 0)):
             self.assertEqual(times.wrap_pts(ticks), expected, ticks)
         for frame, origin, expected in ((0, 5, 5), (1, 5, 3605), (1, CLOCK - 1, 3599),
                                         (DAY, 0, 7_776_000_000), (DAY, CLOCK - 1, 7_775_999_999)):
             self.assertEqual(times.pts_of(frame, origin), expected, (frame, origin))
 
-    def test_finds_the_frame_of_each_pts(self) -> None:
+    def test_finds_the_frame_and_the_time_of_each_pts(self) -> None:
         offs = (-901, -900, -899, -1, 0, 1, 1800, 2699, 2700, 3599)
         rows = [[frame * 3600 + off] for frame in (0, 1, 7, DAY - 1, DAY) for off in offs]
         rows += [[first + 3600 * number for number in range(count)] for count in (2, 3)
@@ -84,6 +89,9 @@ class Times(unittest.TestCase):
                                  else frame, (pts, frame, distance))
                 self.assertEqual(times.compute_frame(pts, origin, within), distance // 3600,
                                  (pts, frame, distance))
+                if not within:
+                    time = times.format_frame(distance // 3600) if distance < 3600 * DAY else None
+                    self.assertEqual(times.compute_time(pts, origin), time, (pts, origin))
 
 
 class Codes(unittest.TestCase):

@@ -9,20 +9,15 @@ import re
 import subprocess
 from unittest import mock
 
-from developing.pes import make_pes_packet
-from subtitles.common.command_line import Stop, ToolParser
-from subtitles.common.times import NO_FRAME, Span, TICKS
 from subtitles.formats.listing import parse_fault_line
 from subtitles.judging.check import CheckOutput, run_check
 from subtitles.judging.pair import PairJudge
-from subtitles.request.lines import make_line_request
-from subtitles.request.request import Unclear, add_options
-from subtitles.stream.receiver import decode_pages_around, find_pauses
+from subtitles.request.request import Unclear
 from .bench import Case, get_example_path, read_example_file
 from .judged import judge_files
 from .streams import TELETEXT_PID, make_stream_of_pids
-from .parts import make_example_request, survey_packets, make_part, make_shell_script
-from .transmissions import CLOSING, HEADER, PAGE, write_pipe
+from .parts import make_part, make_shell_script
+from .transmissions import write_pipe
 from .test_judging_verdicts import make_part_verdict, read_lines
 
 FIRST_LINE_TEXT, SECOND = "refused 72 Content frame 00:00:05:00 row 20 column 1", \
@@ -142,30 +137,6 @@ class Answers(Case):
         self.assertFalse(result.summarize(False).is_read)
 
 
-class LineOptions(Case):
-    def test_the_clock_of_a_line_overrides_that_of_the_call(self) -> None:
-        parser = ToolParser("")
-        add_options(parser)
-        for call, line, expected in (
-                ("", "", (None, None, 250)), ("--origin 7 --every 50", "", (7, None, 50)),
-                ("--origin 7", "--origin 9", (9, None, 250)),
-                ("--origin 7 --every 50", "--start 10:00:00:00", (None, "10:00:00:00", 50)),
-                ("--origin 7", "--start=tcp", (None, "tcp", 250)),
-                ("--start tcp --every 50", "--origin 9", (9, None, 50)),
-                ("--start tcp", "--origin=9 --every 25", (9, None, 25)),
-                ("--start tcp", "--every 25", (None, "tcp", 25))):
-            request = make_line_request(["a.stl", "a.ts", *line.split()],
-                                        parser.parse_args(call.split()))
-            self.assertEqual((request.origin, request.start, request.every), expected, (call, line))
-        for name, wanted_name in (("-", "-"), ("-a", "./-a"), ("a", "a"), ("", ""), (None, None)):
-            self.assertEqual(make_example_request("-a.stl", name).recording, wanted_name,
-                             (name, wanted_name))
-            self.assertEqual(make_example_request("-a.stl", name).stl, "./-a.stl",
-                             (name, wanted_name))
-        for words in (["a.stl", "-"], ["a.stl", "a.ts", "--origin", "1", "--start", "tcp"]):
-            self.assertRaises(Stop, make_line_request, words, parser.parse_args([]))
-
-
 STORY = get_example_path("story.stl")
 
 
@@ -221,20 +192,3 @@ class StoredRecordings(Case):
                 with open(kept, "rb") as file:
                     self.must("its bytes", data.startswith(file.read()))
                 os.remove(kept)
-
-
-class Decisions(Case):
-    def test_counts_no_pause_before_the_first_pes_packet(self) -> None:
-        for before, frames, expected in (
-                (NO_FRAME, [900], []), (10, [900], [Span(11, 899)]), (0, [4], [Span(1, 3)]),
-                (0, [3], []), (10, [900, 990], [
-                    Span(11, 899), Span(901, 989)]), (NO_FRAME, [900, 990], [Span(901, 989)])):
-            self.check(f"{before} {frames}", [*find_pauses(before, frames)], expected)
-
-    def test_looks_back_as_far_as_the_repeat_interval(self) -> None:
-        packets = survey_packets(self, b"".join(make_pes_packet(TICKS * at, [HEADER, CLOSING])
-                                                for at in (0, 600, 1000)))
-        for every, expected in ((25, [1000]), (250, [1000]), (399, [1000]), (400, [600, 1000]),
-                                (1000, [0, 600, 1000]), (3000, [0, 600, 1000])):
-            near = decode_pages_around(packets, PAGE, 0, 0, Span(1000, 1001), every)
-            self.check(f"{every}", [*near.header_frames], expected)

@@ -264,7 +264,7 @@ class DecodedPages(Case):
                                                          else pages[numbers[0]]))
 
     def test_finds_pauses_of_a_regular_stream(self) -> None:
-        steady = [*range(90), *range(93, 120), *range(124, 200)]
+        steady = [*range(5, 90), *range(93, 120), *range(124, 200)]
         for frames, expected in (([*range(50), *range(52, 99)], []), (steady, [Span(90, 92),
                                                                                Span(120, 123)])):
             decoded = self.decode(b"".join(make_pes_packet(TICKS * frame, [HEADER, CLOSING])

@@ -20,7 +20,7 @@ from subtitles.judging.faults import (
 from subtitles.judging.part import report_causes
 from subtitles.judging.sentence import Facts, FaultCount, describe_causes, describe_faults
 from subtitles.judging.transmissions import run_program
-from subtitles.request.commands import CLEAR_LINE, Listener, Progress, Printer
+from subtitles.request.commands import CLEAR_LINE, Listener, Progress
 from subtitles.request.request import Unclear
 from subtitles.stream.packets import PacketRun, Packets
 from subtitles.stream.receiver import BLANK_PAGE
@@ -239,15 +239,6 @@ class Descriptions(Case):
             recorder.print_list_line("first")
             self.check(f"{count}: another list", recorder.lines[len(expected):],
                        ["+ next", "first"])
-        with contextlib.redirect_stdout(io.StringIO()) as out:
-            printer = Printer(Progress())
-            for line in ("a", "b"):
-                printer.print_line(line)
-            printer.is_quiet = True
-            printer.print_line("c")
-            printer.print_verdict("Good.", "b")
-        self.must("the verdict last", (out.getvalue(), printer.last_line) ==
-                  ("a\nb\nGood.\nb\n", "b"), out.getvalue())
         with mock.patch("subtitles.judging.part.CauseDescriber") as wording:
             wording.return_value.format_line = lambda item: f"cause {item}"
             for count in (0, 40, 41, 45):

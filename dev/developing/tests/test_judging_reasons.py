@@ -6,7 +6,7 @@ from subtitles.clock.origin import explain_mismatch
 from subtitles.common.times import Span, TICKS, format_frame
 from subtitles.formats.listing import CONTENT
 from subtitles.formats.stl import Subtitle
-from subtitles.formats.teletext import CODE_WORDS, OPTIONS
+from subtitles.formats.teletext import CODE_WORDS
 from subtitles.judging.causes import (
     CauseFinder, COMPLETED_LATER, EVEN_PARITY, FaultyFrames, NOT_READABLE, OMITTED_BY_REPEAT)
 from subtitles.judging.check import CheckOutput
@@ -282,9 +282,7 @@ class Headers(Case):
         self.check_rows(describe_control_bits, {
             "allowed": ((KEEPING_NUMBERS, "english"), []),
             "C4 and C6": ((numbers(p5=0), "english", REPEAT_WITHOUT_ERASE),
-                          [REPEAT_WITHOUT_ERASE, "C6 (subtitle) is clear"]),
-            **{option.word: ((KEEPING_NUMBERS[:7] + bytes([option.bits << 1]), option.word), [])
-               for option in OPTIONS}})
+                          [REPEAT_WITHOUT_ERASE, "C6 (subtitle) is clear"])})
 
 
 class HeaderCounts(Case):

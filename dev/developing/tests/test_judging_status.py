@@ -418,13 +418,10 @@ class ParsedLines(Case):
     def test_parses_accepted_trusted_and_count_lines(self) -> None:
         self.check("accepted", parse_accepted_line("accepted 226 frames 5 transmissions"),
                    Accepted(226, 5))
+        self.check("no transmissions", parse_accepted_line("accepted 226 frames"), None)
         self.check("trusted", parse_trusted_line("trusted frames 00:00:01:00 00:00:02:00"),
                    Trusted("00:00:01:00", "00:00:02:00"))
         self.check("counted", parse_count_line("12 faults"), 12)
-        for line in ("accepted", "accepted 1 frames", "accepted 1 frames 2 transmissions more",
-                     "refused 60 Empty", "12 faults more", "faults", ""):
-            result = [parse_accepted_line(line), parse_trusted_line(line), parse_count_line(line)]
-            self.check(f"none of {line}", result, [None] * 3)
 
     def test_parses_subtitles(self) -> None:
         for lines, expected in (([FIRST, SECOND_LINE, "2 subtitles"],

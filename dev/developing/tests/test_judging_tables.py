@@ -34,7 +34,7 @@ from subtitles.recording.notices import (
 from subtitles.recording.recording import is_recording
 from subtitles.request.commands import (
     CommandPaths, ListNames, OutputNames, list_pair_files, make_pair_name, make_part_name,
-    make_command, quote_command)
+    make_command)
 from subtitles.request.request import Selection, Unclear
 from subtitles.stream import gaps
 from subtitles.stream.gaps import ClockJump
@@ -333,19 +333,6 @@ class NamesOfFiles(Case):
                    "tools/qc one.stl one.ts --origin T")
         self.check("a file alone", make_command(make_example_request("one.stl", None), typed),
                    "tools/qc one.stl --file-only")
-
-    def test_quotes_the_words_of_a_command(self) -> None:
-        self.check("words", quote_command("cat", "a b", ">", "c", "|", "d'e"),
-                   "cat 'a b' >c | 'd'\"'\"'e'")
-
-    def test_finds_other_programs_next_to_the_called_one(self) -> None:
-        for called, tool, program in (("tools/qc", "tools/air", "subttx"),
-                                      ("./qc", "./air", "../subttx"), ("qc", "./air", "../subttx"),
-                                      ("/a/tools/qc", "/a/tools/air", "/a/subttx")):
-            command_paths = CommandPaths(called, self.bench.program)
-            self.check(called, command_paths.get_tool_command("air"), tool)
-            self.must(f"{called}: beside", os.path.normpath(command_paths.get_default_program()) ==
-                      os.path.normpath(program), command_paths.get_default_program())
 
 
 class RecordingKinds(Case):

@@ -8,7 +8,7 @@ from subtitles.common.checks import HOLE, JUMP, NO_VIDEO, STEADY, UNREAD
 from subtitles.common.times import TICKS
 from subtitles.judging.desync import find_desync
 from subtitles.judging.status import (
-    ACCEPTED, CheckSummary, Grounds, NOT_JUDGED, REFUSED, Severity, decide)
+    CheckSummary, Grounds, NOT_JUDGED, REFUSED, Severity, decide)
 from subtitles.judging.unchecked import Unchecked
 from subtitles.stream.survey import Survey
 from .bench import Case
@@ -96,14 +96,8 @@ class Pictures(Case):
                 item.text.endswith(", so the clock of --start may be wrong")
                 for item in unchecked if item.may_be_wrong]), (1, [True] * expected))
 
-    def test_decides(self) -> None:
-        good, bad = CheckSummary(0, True), CheckSummary(1, False, 1, 1, [72])
-        severity = Severity(None)
-        for name, grounds, word in (
-                ("a doubt", Grounds([good], severity, doubts=["a"], has_clock=True), NOT_JUDGED),
-                ("a missing check", Grounds([good], severity, missing_kinds=["clock"]), NOT_JUDGED),
-                ("a fault, a missing check", Grounds([bad], severity, missing_kinds=["clock"]),
-                 REFUSED),
-                ("a fault", Grounds([bad], severity, doubts=["a"], has_clock=True), REFUSED),
-                ("no doubt", Grounds([good], severity, is_strict=True, has_clock=True), ACCEPTED)):
-            self.check(name, decide(grounds).word, word)
+    def test_a_doubt_prevents_a_verdict_unless_a_fault_was_found(self) -> None:
+        doubtful = Grounds([CheckSummary(0, True)], Severity(None), doubts=["a"], has_clock=True)
+        self.check("no fault", decide(doubtful).word, NOT_JUDGED)
+        self.check("a fault", decide(doubtful._replace(parts=[
+            CheckSummary(1, False, 1, 1, [72])])).word, REFUSED)

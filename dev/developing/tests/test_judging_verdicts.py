@@ -9,7 +9,6 @@ from unittest import mock
 
 from developing.pes import make_pes_packet
 from subtitles.clock.start import Clock, GIVEN, RECORDING, TimedPart
-from subtitles.common.checks import CLOCK as CLOCK_KIND
 from subtitles.common.files import SummedFile
 from subtitles.common.program import ProgramInfo
 from subtitles.common.times import CLOCK, Span, TICKS, format_frame
@@ -151,15 +150,6 @@ class Verdicts(Case):
                 verdict.is_final) == ("not judged", status, None, None, why, is_final),
                       verdict.unjudged_reason)
         self.must("judged", make_part_verdict(self.three()).is_final)
-
-    def test_lists_each_part_whose_clock_was_estimated(self) -> None:
-        for sources, expected in (([GIVEN], []), ([RECORDING], [1]), ([GIVEN, RECORDING], [2]),
-                                  ([RECORDING, GIVEN], [1])):
-            verdict = make_part_verdict([
-                make_part(0, 9, 0, number=number, source=source, pes=(0, 9))
-                for number, source in enumerate(sources, 1)])
-            self.check(f"{sources}", [item.part for item in verdict.list_unchecked()
-                                      if item.kind == CLOCK_KIND], expected)
 
     def test_keeps_each_warning_once(self) -> None:
         notice, other, verdict = Notice("pause", "1", None), Notice("pause", "2",

@@ -126,14 +126,9 @@ class ReceivedPages(Case):
             sent = Packets(PES, [PacketRun(0, count, TICKS * first, TICKS, "h", "")])
             self.check(name, find_recorded_day(sent, (0, count - 1), 0), expected)
 
-    def test_marks_pages_that_the_recording_cuts(self) -> None:
-        rows: dict[str, tuple[list[Rows], list[str | None]]] = {
-            "both": ([ONE, BLANK, TWO], ["start", None, "end"]),
-            "none": ([BLANK, ONE, BLANK], [None, None, None]),
-            "only one page": ([ONE], ["both"]), "no page": ([], [])}
-        for name, (pages, expected) in rows.items():
-            shown = mark_cuts([ShownPage(at, at + 1, item, "") for at, item in enumerate(pages)])
-            self.check(name, [item.cut for item in shown], expected)
+    def test_marks_no_blank_page_as_cut(self) -> None:
+        pages = [ShownPage(at, at + 1, rows, "") for at, rows in enumerate([BLANK, ONE, BLANK])]
+        self.check("cuts", [page.cut for page in mark_cuts(pages)], [None] * 3)
 
     def test_finds_pages_that_differ_in_few_characters(self) -> None:
         other = page((22, b"\x0bOnf"))

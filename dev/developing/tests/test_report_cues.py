@@ -15,7 +15,7 @@ from subtitles.judging.status import (
     WARNED, WITH_FAULTS)
 from subtitles.judging.transmissions import ExpectedPages
 from subtitles.report.blocks import mark_field, mark_text, mark_times, show_byte
-from subtitles.report.cue_list import CueList, CueRow, mark_difference, format_signed
+from subtitles.report.cue_list import CueList, CueRow, mark_difference
 from subtitles.report.page import SHAPES, draw_verdict, keep_options_together
 from subtitles.stream.packets import Packets, PES
 from subtitles.stream.receiver import BLANK_PAGE, Rows, Timeline
@@ -222,11 +222,6 @@ class TextMarkup(Case):
             part=SimpleNamespace(recording="one.pes"))
         self.check("repeated", [row.is_repeated for row in CueList.make_judged_rows(result)],
                    [False, True, False, False, True, False, False])
-
-    def test_writes_numbers_with_their_signs(self) -> None:
-        self.check_rows(format_signed, {
-            "none": ((None,), ""), "zero": ((0,), "0"), "late": ((12,), "+12"),
-            "early": ((-3,), "-3")})
 
     def test_breaks_no_line_within_an_option(self) -> None:
         # No line is broken within <b>.

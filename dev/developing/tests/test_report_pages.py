@@ -140,25 +140,6 @@ class Drawings(unittest.TestCase):
                 page(r20=b"\x0b\x0b["), header, (19, 21), (), region)), (bits, region, letter))
 
 
-class WrongTable(Case):
-    def test_lists_each_cause_and_the_reason_of_each_other_number(self) -> None:
-        self.tool("qc", get_example_path("story.stl"), get_example_path("five-faults.pes"),
-                  "--every", "25", "-o", "out", "-p", self.bench.program)
-        page = self.read("out/story.html").decode()
-        rows = re.findall(r'<tr><td>([^<]*)</td><td><a href="#(\w+)">([^<]*)</a></td>', page)
-        self.check("rows", rows, [
-            ("Subtitle 2 at 20:15:03:00 has the wrong text: expected &quot;Thank you, Anne.&quot;, "
-             "received &quot;Thank you, Anna.&quot;", "s2", "1 subtitle"),
-            ("67 Control: C4 (erase page) is clear in 1 of 10 headers", "n67", "1 fault"),
-            ("68 Parity: the character &quot;e&quot; of subtitle 2, &quot;Thank you, Anne.&quot;, "
-             "has even parity", "n68", "1 fault"),
-            ("73 Gap: the page had no header for up to 50 frames", "n73", "1 fault"),
-            ("69 RowChanged: C4 (erase page) is clear in 1 of 10 headers", "n69", "1 fault")])
-        box, _, rest = page.partition("</div></div>")
-        self.check("the last line", ["refused 67 " in text for text in (box, rest)],
-                   [False, True])
-
-
 class VerdictLists(Case):
     # Two faults with number 68 and one with number 67, as `check` prints them
     PRINTED = ("refused 68 Parity frame 00:00:03:10 packet 1",

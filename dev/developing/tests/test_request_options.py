@@ -181,10 +181,6 @@ class ProfileFiles(Case):
             self.must(text, str(refused.exception) == f"{path}, line {number}: {printed}",
                       refused.exception)
 
-    def test_allows_the_options_that_its_message_lists(self) -> None:
-        self.assertEqual(", ".join(item.name for item in OPTIONS if item.is_in_profile),
-                         PROFILE_OPTIONS)
-
     def test_reads_delay_counts(self) -> None:
         for text, begins, ends in (
                 ("0:1/0:1", {0: 1}, {0: 1}),
@@ -251,7 +247,8 @@ class Overrides(Case):
             ("--origin 9", "--profile tcp", (None, "tcp")),
             ("--origin 9", "--profile tcp --origin=7", (7, None)),
             ("--origin 9", "", (9, None)), ("--origin 9", "--profile other", (9, None)),
-            ("--origin 9", "--start tcp", (None, "tcp")),
+            ("--origin 9", "--start tcp", (None, "tcp")), ("--origin 9", "--origin 7", (7, None)),
+            ("--start tcp", "--origin=9", (9, None)), ("--start tcp", "--every 8", (None, "tcp")),
             ("--origin 9", "--profile other --start tcp", (None, "tcp")),
             ("--start tcp", "--profile other --origin=0", (0, None))]
         for call, line, expected in rows:

@@ -46,7 +46,7 @@ BROADCASTER_LAYOUTS = [
     (False, False, "fit"), (True, True, "strip=0A0B0D,before=0D070B0B,after=0A,double,pack"),
     (False, False, "before=0D*0B0B,white,double,last,text"), (False, False, "up"),
     (True, False, "row=-1,double,last"), (False, False, "left=2,right=3"),
-    (False, False, "after=0A0A0A0A")]
+    (False, False, "after=0A0A0A0A"), (False, False, "pack,double,before=0D0B0B")]
 
 
 def programme(has_codes: bool, leaves_room: bool, layout: Layout, count: int = 120

@@ -1,19 +1,14 @@
-"""Table-driven tests of time bases, breaks, PCRs, unusual PTS, losses, and ranges of a recording.
-"""
+"""Test time bases, breaks, PCRs, unusual PTS, losses, and ranges of a recording."""
 from __future__ import annotations
 
 import itertools
 import random
 import unittest
 from types import SimpleNamespace
-from typing import Any, Iterator, Sequence
+from typing import Any, Sequence
 
-from subtitles.clock.start import find_frame_offset, find_largest_offset
 from subtitles.clock.stretches import MIN_BREAK_FRAMES, Stretch, split_at_breaks
-from subtitles.common.times import (
-    CLOCK, EARLY_TICKS, FRAMES_OF_A_DAY, NO_FRAME, Spans, TICKS, compute_frame, find_frame_of_day,
-    find_frames_of_day, join_spans, pts_of, subtract_origin, subtract_pts, subtract_pts_within,
-    wrap_pts)
+from subtitles.common.times import CLOCK, FRAMES_OF_A_DAY, Spans, TICKS, join_spans, subtract_pts
 from subtitles.stream.gaps import (
     ClockJump, LossPlace, SECOND, describe_loss, describe_loss_place, find_clock_jumps,
     find_loss_places, find_pts_anomalies)
@@ -41,22 +36,6 @@ def clocked(before: int, ticks: int, counters: str, packets: int = 100) -> PCRSt
 def find_airings(numbers: set[int]) -> list[tuple[int, int]]:
     firsts = sorted(number for number in numbers if number - 1 not in numbers)
     return list(zip(firsts, sorted(number for number in numbers if number + 1 not in numbers)))
-
-
-DAY = TICKS * FRAMES_OF_A_DAY
-# maximum number of ticks by which a PTS may precede its origin
-MAX_TICKS_BEFORE = (CLOCK - DAY) // 2
-
-
-def choose_pts_around_clock(chance: random.Random) -> Iterator[tuple[int, int]]:
-    """Yield pairs of an origin and a PTS distance from it, for the complete 33-bit clock."""
-    for origin in (0, 1, TICKS, CLOCK // 2, CLOCK - 1,
-                   *(chance.randrange(CLOCK) for _ in range(9))):
-        for at in (0, TICKS, CLOCK // 2, DAY, CLOCK - MAX_TICKS_BEFORE, CLOCK, *(
-                chance.randrange(CLOCK // TICKS) * TICKS for _ in range(30))):
-            for ticks in (at - EARLY_TICKS - 1, at - EARLY_TICKS, at - 1, at, at + 1,
-                          at + TICKS // 2):
-                yield origin, ticks % CLOCK
 
 
 def text_of(number: int, does: str) -> Texts:
@@ -139,28 +118,6 @@ sent                                   | range | found    | read | where it begi
 
 
 class ClockTables(unittest.TestCase):
-    def test_treats_pts_as_if_they_never_wrapped(self) -> None:
-        for origin, ticks in choose_pts_around_clock(random.Random(26)):
-            pts = (origin + ticks) % CLOCK
-            frame, rest = divmod(ticks, TICKS)
-            later = (ticks + EARLY_TICKS) % CLOCK // TICKS
-            frames = [frame if not rest and frame < FRAMES_OF_A_DAY else None,
-                      later if later < FRAMES_OF_A_DAY else None]
-            after = ticks if ticks < CLOCK - MAX_TICKS_BEFORE else ticks - CLOCK
-            result = (wrap_pts(origin + ticks), pts_of(frame, origin),
-                      compute_frame(pts, origin), compute_frame(pts, origin, 1),
-                      [find_frame_of_day(pts, origin, within) for within in (0, 1)],
-                      [[None if item == NO_FRAME else item
-                        for item in find_frames_of_day([pts], origin, within)]
-                       for within in (0, 1)],
-                      subtract_pts(origin, pts), subtract_pts_within(origin, DAY, pts),
-                      subtract_origin(origin, pts), find_largest_offset([pts], origin),
-                      find_frame_offset(make_packets_with_pts([pts]), origin, 0))
-            expected = (pts, (pts - rest) % CLOCK, frame, later, frames,
-                        [[item] for item in frames], ticks if ticks < CLOCK // 2 else ticks - CLOCK,
-                        after, after, min(after % TICKS, -after % TICKS), after % TICKS)
-            self.assertEqual(result, expected, (origin, ticks))
-
     def test_spans_agree_with_a_list_of_frames(self) -> None:
         chance = random.Random(7)
         for _ in range(300):
