@@ -2,6 +2,8 @@
 from __future__ import annotations
 
 import collections
+import difflib
+import functools
 import glob
 import os
 import re
@@ -11,44 +13,16 @@ import sys
 import unittest
 from typing import Iterable, Iterator
 
-from subtitles.air.decision import HOUR, MAX_WAIT
-from subtitles.air.judge import HOOK_SECONDS
-from subtitles.air.main import make_judge_parser, make_record_parser, make_status_parser
-from subtitles.air.recorder import (
-    MAX_DELETED_SEGMENTS, MAX_READ_BYTES, PIPE_SIZE, WRITE_PATIENCE)
-from subtitles.air.segments import MAX_SEGMENT_SECONDS
-from subtitles.air.state import PAGE_SILENCE, SILENCE, Monitor
-from subtitles.air.status import CRITICAL, OK
-from subtitles.cli.batch import SCAN_SECONDS
+from subtitles.air.main import make_judge_parser, make_record_parser
+from subtitles.air.state import Monitor
 from subtitles.cli.main import make_parser
-from subtitles.cli.state import MIN_FREE_BYTES
-from subtitles.clock.stretches import MIN_BREAK_FRAMES, MIN_MATCHING_CUES
-from subtitles.common.command_line import (
-    BUG_STATUS, KINDS as KIND_NAMES, MAX_EVERY, MAX_WITHIN, NO_PID, OTHER_STATUS, PACKET_SIZE,
-    STATUSES_BY_KIND, Stop, USAGE_STATUS)
+from subtitles.common.command_line import KINDS as KIND_NAMES, OTHER_STATUS, STATUSES_BY_KIND, Stop
 from subtitles.common.program import TOP, read
-from subtitles.common.times import EARLY_TICKS, FRAMES_A_SECOND, FRAMES_OF_A_DAY, TICKS
-from subtitles.formats.layout import COLUMNS, LAST_ROW, PLAIN, find_column
-from subtitles.formats.listing import (
-    ENDS_FILE, ENDS_READING, FAULTS_WITH_CAUSE, LOST_PACKETS, SILENT, SKIPPED_PACKETS,
-    STL_FAULTS, read_meanings)
-from subtitles.formats.midnight import MIN_STEP_BACK
-from subtitles.formats.stl import COMMENT as MAX_COMMENT_FLAG, MAX_STL, TEXT
-from subtitles.formats.stl_writer import MAX_BLOCKS, RIGHT
+from subtitles.formats.listing import read_meanings
 from subtitles.formats.teletext import ERASE, OPTION_WORDS, OPTIONS as NATIONAL_OPTIONS
 from subtitles.judging.sentence import FAULT_CLAUSES
-from subtitles.judging.status import (
-    ACCEPTED, FAULT_NUMBERS, NOT_JUDGED, READING_STATUSES, RELATIVE, STATUSES, STATUS_ORDER,
-    Severity)
+from subtitles.judging.status import FAULT_NUMBERS, READING_STATUSES, STATUSES, Severity
 from subtitles.judging.transmissions import CONTROL_BIT_FAULTS
-from subtitles.judging.unchecked import MAX_HOLE
-from subtitles.judging.waivers import WAIVABLE
-from subtitles.reading.received import FEW_CELLS
-from subtitles.recording.recording import MAX_PIPED_BYTES, TELETEXT
-from subtitles.request.request import OPTIONS
-from subtitles.results.schema import FORMAT, MAX_LISTED_ITEMS, MAX_SUBTITLES
-from subtitles.stream.layout import MIN_SUBTITLES
-from subtitles.stream.proved import MAX_CALLS
 from .. import pages
 from ..definitions import Library
 from ..looks import find_browser
@@ -310,19 +284,6 @@ DROP = re.compile(r"\bimpl\b[^{};]*\bDrop\s+for\b|\bDrop\s+as\b")
 COMMENT = re.compile(r"//[^\n]*|/\*.*?\*/", re.DOTALL)
 
 
-def join_numbers(numbers: Iterable[int]) -> str:
-    """Return numbers as documents state them: `10 to 15, 17 and 22 to 25`."""
-    spans: list[list[int]] = []
-    for number in sorted(numbers):
-        if spans and number == spans[-1][-1] + 1:
-            spans[-1].append(number)
-        else:
-            spans.append([number])
-    parts = [part for span in spans for part in (
-        [f"{span[0]} to {span[-1]}"] if len(span) > 2 else map(str, span))]
-    return " and ".join(filter(None, [", ".join(parts[:-1]), parts[-1]]))
-
-
 def join_statuses(statuses: Iterable[int | str]) -> str:
     *first, last = map(str, statuses)
     return f"{', '.join(first)} and {last}"
@@ -337,199 +298,17 @@ def join_control_bits() -> str:
                     for group, word in zip(groups, ("set", "clear")))
 
 
-def read_constant(module: str, name: str) -> int:
-    """Return the value of a constant of a crate."""
-    text = read(os.path.join(TOP, "crates", *module.split("/", 1)[:1], "src",
-                             module.split("/", 1)[1] + ".rt")) or ""
-    found = re.search(rf"const {name}: \w+ = ([^;]+);", text)
-    base, _, shift = (found[1] if found else "-1").replace("_", "").partition(" << ")
-    return int(base, 0) << int(shift or 0)
-
-
-# Values of the tools and the program that documents state: the document, its words, and the value
-# at {}.
-RECORDER, JUDGE, STATUS = make_record_parser(), make_judge_parser(), make_status_parser()
-NUMBER_WORDS = {2: "two", 3: "three", 4: "four", 5: "five", 10: "ten"}
-BREAK_SECONDS = NUMBER_WORDS[MIN_BREAK_FRAMES // FRAMES_A_SECOND]
-PAGE_COLUMNS, PAGE_ROWS = map(int, re.findall(r"rows: \[\[u8; (\d+)\]; (\d+)\]", read(
-    os.path.join(TOP, "crates", "ttx_page", "src", "page.rt")) or "")[0])
-PES_BYTES = read_constant("sub_listing/copying", "PES_PACKET_CAPACITY")
 with open(os.path.join(TOP, "dist", "subttx"), "rb") as released_program:
     GLIBC_MINOR = max(map(int, re.findall(rb"GLIBC_2\.(\d+)", released_program.read())))
-LOST_UNSEEN = read_constant("ts_survey/packets_in_step", "LOSS_SIZE_IN_PACKETS")
-DEFAULTS = {option.name: option.default for option in OPTIONS}
-FINAL = {*STATUSES.values()} - {STATUSES[NOT_JUDGED]}
-# The justification codes of lines that begin in column 0, are centred and end in the last column
-JUSTIFIED = [" or ".join(str(code) for code in range(RIGHT + 1)
-                         if find_column(b"Hi", code, PLAIN) == column)
-             for column in (0, COLUMNS // 2 - 1, COLUMNS - 2)]
 WRONG_CALLS = sum(map(int, re.findall(r"^const \w+: \[&\[&str\]; (\d+)\]", read(os.path.join(
     TOP, "crates", "word_tests", "src", "explanations.rt")) or "", re.M)))
+# Values that no single line of a source has: the document, its words, and the value at {}
 STATED: list[tuple[str, str, object]] = [
     ("CLAUSES.md", "the line on standard error for {} wrong calls,", WRONG_CALLS),
-    ("manual/air.md", "loses at most {:.1f} MB that it has not yet written",
-     (PIPE_SIZE + MAX_READ_BYTES) / 1e6),
-    ("MANUAL.md", "back once, by {} hours or more", MIN_STEP_BACK // (FRAMES_OF_A_DAY // 24)),
-    ("../README.md", "| {} | wrong arguments", f"{USAGE_STATUS}, {BUG_STATUS}"),
-    ("manual/refusals.md", "`STL30.01` | export the file at {} frames", FRAMES_A_SECOND),
-    ("manual/many-pairs.md", "only status {} is a success", STATUSES[ACCEPTED]),
-    ("manual/qc.md", "comparison fails, the recording is `not judged`, with status {}", BUG_STATUS),
-    ("manual/air.md", "a bug ended a service (status {})", BUG_STATUS),
-    ("manual/results.md", "The format number (`format`) is {}.", FORMAT),
-    ("manual/results.md", "exit status {} is a `failure`", " or ".join(
-        f"{status}" for status in sorted({*STATUSES.values()} - {0, STATUSES[NOT_JUDGED]}))),
-    ("manual/qc.md", "means all remaining faults except {}:", LOST_PACKETS),
-    ("manual/qc.md", "from the next PES packet on, at most {} times", MAX_CALLS),
-    ("manual/qc.md", "at least {} seconds, and five consecutive cues", BREAK_SECONDS),
-    ("manual/qc.md", "N, from 0 to {}, is the delay in frames", MAX_WITHIN),
-    ("manual/qc.md", "(at most {:.0f} GB) from a pipe", MAX_PIPED_BYTES / 1e9),
-    ("manual/reference.md", "at most {:,} TTI blocks", (MAX_STL - 1024) // 128),
-    ("manual/reference.md", "at most {:,} PES packets", FRAMES_OF_A_DAY),
-    ("manual/air.md", "segment files of {} seconds", RECORDER.get_default("length")),
-    ("manual/air.md", "older than {} hours (`--keep`)", RECORDER.get_default("keep")),
-    ("manual/air.md", "less than {} MB of the disk is free (`--free`)",
-     RECORDER.get_default("free")),
-    ("manual/air.md", "deletes at most {} for each new segment",
-     NUMBER_WORDS[MAX_DELETED_SEGMENTS]),
-    ("manual/many-pairs.md", "A file without a partner is `not judged` (status {})", OTHER_STATUS),
-    ("manual/many-pairs.md", "unchanged for `--settled S` seconds (default: {})",
-     make_parser("").get_default("settled")),
-    ("MANUAL.md", "The default, {}, allows", DEFAULTS["--every"]),
-    ("MANUAL.md", "(status 127; `qc`: {})", BUG_STATUS),
-    ("manual/air.md", "could not write for {:.0f} seconds", WRITE_PATIENCE),
-    ("manual/air.md", "`late`: a line has no result {:.0f} minutes after the end (twice",
-     2 * JUDGE.get_default("margin") / 60),
-    ("manual/air.md", "`not judged: not recorded: FROM to TO` (status {})", OTHER_STATUS),
-    ("manual/air.md", "more than {:.0f} minutes after that time", MAX_SEGMENT_SECONDS / 60),
-    ("manual/air.md", "has not changed for {} seconds (`--settled`)",
-     JUDGE.get_default("settled")),
-    ("manual/air.md", "more than {:.0f} hours after the programme", (MAX_WAIT - HOUR) / HOUR),
-    ("manual/air.md", "for an hour that {:.0f} hours have passed", MAX_WAIT / HOUR),
-    ("manual/air.md", "less than {:.0f} MB is free", MIN_FREE_BYTES / 1e6),
-    ("manual/air.md", "`--max-age`, by default {} seconds", STATUS.get_default("max_age")),
-    ("manual/air.md", "for at most {} seconds. If `judge` is killed", HOOK_SECONDS),
-    ("manual/air.md", "up to {} seconds (`--margin`)", JUDGE.get_default("margin")),
-    ("manual/air.md", "more than {} seconds (`--pause`)", JUDGE.get_default("pause")),
-    ("manual/air.md", "`OUT/state.json` every {} seconds", JUDGE.get_default("every_seconds")),
-    ("manual/air.md", "`silence`: no byte was written for {:.0f} seconds", SILENCE),
-    ("manual/air.md", "`page 888`: a page in the schedule had no header for {:.0f} minutes",
-     PAGE_SILENCE / 60),
     ("../README.md", "x86-64-v2, glibc 2.{}+ and Python", GLIBC_MINOR),
     ("MANUAL.md", "with glibc 2.{} or newer", GLIBC_MINOR),
-    ("../README.md", "are `--page 888`, `--option {}`", DEFAULTS["--option"]),
-    ("../README.md", "and `--every {}` (frames)", DEFAULTS["--every"]),
-    ("../README.md", "| {} | as 0, but you gave no clock", STATUSES[RELATIVE]),
-    ("../README.md", "wrong arguments (64), or a bug of a tool ({})", BUG_STATUS),
-    ("HEADLINE.md", "theorem holds with R = {}, page 888", DEFAULTS["--every"]),
-    ("manual/qc.md", "no clock (`--origin`, `--start`), so `qc` could not detect a delay that all "
-     "subtitles share | 3, with `--relative` {} |", STATUSES[ACCEPTED]),
-    ("manual/qc.md", "has none of the faults {} | 0 |", join_numbers(STL_FAULTS)),
-    ("manual/qc.md", "A waiver covers faults {}, but not", join_numbers(WAIVABLE)),
-    ("manual/qc.md", "and {} consecutive cues", NUMBER_WORDS[MIN_MATCHING_CUES]),
-    ("manual/qc.md", "A layout needs {} subtitles", NUMBER_WORDS[MIN_SUBTITLES]),
-    ("manual/qc.md", "a PTS may be {} of a frame early, or almost three quarters of a frame late.",
-     {0.25: "a quarter"}[EARLY_TICKS / TICKS]),
-    ("manual/many-pairs.md", "for the folder IN, not for a list, every {}, until",
-     {1.0: "second"}[SCAN_SECONDS]),
-    ("manual/qc.md", "for more than {} s, subtitles were sent", MAX_HOLE // 90_000),
-    ("manual/refusals.md", "The list ends early at faults {}.",
-     join_numbers(ENDS_FILE | ENDS_READING)),
-    ("manual/refusals.md", "For faults {}, first read", join_numbers(FAULTS_WITH_CAUSE)),
-    ("manual/refusals.md", "cause for fault 72, and for faults {} if",
-     join_numbers(FAULTS_WITH_CAUSE - {72})),
-    ("manual/qc.md", "`{} warning` waives only lost packets", LOST_PACKETS),
-    ("manual/qc.md", "`{} warning` only intervals without PES packets", SILENT),
-    ("MANUAL.md", "each cell of rows 1 to {}", PAGE_ROWS),
-    ("HEADLINE.md", "in one of rows 1 to {} and", PAGE_ROWS),
-    ("HEADLINE.md", "and columns 0 to {}.", PAGE_COLUMNS - 1),
-    ("HEADLINE.md", "Packets have {} bytes.", PAGE_COLUMNS + 2),
-    ("HEADLINE.md", "Each header of the page has {} and", join_control_bits()),
-    ("ASSURANCE.md", "Some losses of {} or more TS packets", LOST_UNSEEN),
-    ("ASSURANCE.md", "perhaps followed by a fault, and ends with status {}.", OTHER_STATUS),
-    ("manual/qc.md", "| `not judged` | `qc` could not decide | {} |",
-     f"{STATUSES[NOT_JUDGED]}, {USAGE_STATUS} or {BUG_STATUS}"),
-    ("manual/air.md", "of Nagios and Icinga: {} OK, 1 WARNING", OK),
-    ("manual/air.md", "1 WARNING (`warnings`), {} CRITICAL", CRITICAL),
-    ("manual/refusals.md", "continues after faults {}.", join_numbers(SKIPPED_PACKETS - {61})),
-    ("manual/refusals.md", "is refused (faults {})", join_numbers(STL_FAULTS - ENDS_FILE)),
-    ("manual/refusals.md", "Correct the subtitle file (faults {}).", join_numbers(STL_FAULTS)),
-    ("manual/refusals.md", "has over {:,} TTI blocks", (MAX_STL - 1024) // 128),
-    ("manual/refusals.md", "has over {:,} PES packets", FRAMES_OF_A_DAY),
-    ("manual/many-pairs.md", "The exit status is the first of {}", join_statuses(STATUS_ORDER)),
-    ("manual/many-pairs.md", "The exit statuses {} are final.", join_statuses(sorted(FINAL))),
-    ("manual/many-pairs.md", "After status 64, 70 or {}, remove", STATUSES[NOT_JUDGED]),
-    ("manual/results.md", "contains at most {:,} items", MAX_SUBTITLES),
-    ("manual/results.md", "each other list at most {:,}.", MAX_LISTED_ITEMS),
-    ("manual/reference.md", "repeat interval in frames, 1 to {:,} |", MAX_EVERY),
-    ("manual/reference.md", "between PES packets in frames, 1 to {:,} |", MAX_EVERY),
-    ("manual/reference.md", "from the expected page, 0 to {} |", MAX_WITHIN),
-    ("manual/reference.md", "change up to {} bits", read_constant("sub_words/lists", "MAX_ITEMS")),
-    ("manual/reference.md", "lose up to {} packets",
-     read_constant("sub_words/lists", "MAX_ITEMS")),
-    ("manual/reference.md", "A subtitle has at most {} TTI blocks", MAX_BLOCKS),
-    ("manual/reference.md", "TTI blocks with {} bytes of text", MAX_BLOCKS * TEXT),
-    ("manual/reference.md", "bytes of text, in rows 1 to {}.", LAST_ROW),
-    ("manual/reference.md", "has at most 2^{} bytes",
-     read_constant("mpeg_ts/stream", "MAX_STREAM_BYTES").bit_length() - 1),
-    ("manual/reference.md", "decodes the {} bytes of one packet",
-     read_constant("ts_survey/units", "UNIT_SIZE") - 4),
-    ("manual/refusals.md", "the CF is over {} |", MAX_COMMENT_FLAG),
-    ("manual/refusals.md", "the JC is over {} |", RIGHT),
-    ("manual/refusals.md", "the VP is not between 1 and {} |", LAST_ROW),
-    ("manual/refusals.md", "above row 1 or below row {} |", LAST_ROW),
-    ("manual/refusals.md", "double height (0D) is in row {} |", LAST_ROW),
-    ("manual/refusals.md", "a line has over {} cells", PAGE_COLUMNS),
-    ("manual/refusals.md", "use at most {} characters", PAGE_COLUMNS - 4),
-    ("manual/refusals.md", "PES_header_data_length is not 0x{:X} |", TELETEXT),
-    ("manual/refusals.md", "data_unit_length is not 0x{:X} |",
-     read_constant("ttx_pes/data_unit", "DATA_UNIT_LENGTH")),
-    ("manual/refusals.md", "a framing code is not {:X} |",
-     read_constant("ttx_pes/data_unit", "FRAMING_CODE")),
-    ("manual/survey.md", "has the same PCR_PID (not {})", NO_PID),
-    ("manual/survey.md", "and PCR_PID ({} if there is none)", NO_PID),
-    ("manual/read.md", "of {} that a page has", join_statuses(
-        status for status in STATUS_ORDER if status != STATUSES[RELATIVE])),
-    ("manual/read.md", "an adjoining subtitle in one or {} characters", NUMBER_WORDS[FEW_CELLS]),
-    ("manual/streams.md", "A line begins in column 0 (JC {}), is", JUSTIFIED[0]),
-    ("manual/streams.md", "is centred (JC {}), or ends in column 39", JUSTIFIED[1]),
-    ("manual/streams.md", "or ends in column 39 (JC {}).", JUSTIFIED[2]),
-    ("manual/refusals.md", "is not {} N - 6, with", read_constant("mpeg_ts/gap_marker",
-                                                                  "GAP_MARKER_SIZE")),
-    ("manual/refusals.md", "send at most {} bytes in each PES packet", PES_BYTES),
-    ("manual/refusals.md", "N - 6, with N from 1 to {} |", PES_BYTES // 184),
-    ("manual/refusals.md", "no subtitle draws this page: text in row {},", PAGE_ROWS),
-    ("manual/streams.md", "does not show a loss of {} consecutive TS packets", LOST_UNSEEN + 1),
-    ("manual/streams.md", "After a loss of {}, the next TS packet", LOST_UNSEEN),
-    ("manual/streams.md", "no {} consecutive TS packets of the PID are missing", LOST_UNSEEN),
-    ("manual/streams.md", "apart if at least {} TS packets of the PID", LOST_UNSEEN + 1),
-    ("manual/survey.md", "without the S - {} extra bytes", PACKET_SIZE),
-    ("manual/survey.md", "33-bit counts of a {} kHz clock",
-     read_constant("ts_survey/clock", "CLOCK_TICKS_PER_SECOND") // 1000),
-    *(("manual/survey.md", words, read_constant(f"ts_survey/{module}", name) // unit)
-      for words, module, name, unit in (
-          ("the first {} bytes of the recording", "recording", "HEAD", 1),
-          ("`survey` searches {:,} bytes", "recording", "MAX_INSPECTED_BYTES", 1),
-          ("A row has 40 codes. {:X} (a space)", "rows", "CORRUPT_CELL", 1),
-          ("LEAST and MOST differ by less than {}", "steps", "DIFFERENT_TICKS", 1),
-          ("after {} bytes if it is 3", "pes_header", "CAPACITY", 1),
-          ("of the last {} distances", "clock", "MEDIAN_INTERVALS", 1),
-          ("printed up to {:,} TS packets later", "carrier", "INSPECTED_PACKETS", 1),
-          ("at most {} Teletext PIDs", "multiplex", "CAPACITY", 1),
-          ("video PIDs and {} PIDs with tables", "tables", "MAX_TABLE_PIDS", 1),
-          ("remembers the last {} discontinuities", "pid_state", "MAX_STORED_BREAKS", 1)))]
-# For each fault that documents mention, words of which its sentence or table row contains one.
-FAULT_WORDS = {
-    10: "block", 11: "DFC", 13: "DSC|open", 14: "code table", 16: "cumulative", 20: "24:00:00:00",
-    45: "gap|miss|Lost", 50: "character|byte", 52: "line length", 53: "VP", 57: "overlap",
-    60: "missing recording", 61: "jitter",
-    67: "C4|header|repeats|national options|Everything",
-    69: "same text|earlier packets", 70: "X/28", 73: "repeat|Gap", 77: "close|header",
-    72: "refuses every|lost subtitle|all rows|Everything|In a pause|reports? of",
-    74: "break|during a subtitle|alone|ends so", 78: "unknown|cause",
-    79: "pace|PES packets are more|waived?", 90: "standard output|OUT"}
-FAULT_MENTION = re.compile(r"\bfault (\d+)\b")
+    ("HEADLINE.md", "Each header of the page has {} and", join_control_bits())]
 FIELD = re.compile(r"\b(?:C\d+|X/\d+|TC[IO]|DFC|DSC|CCT|EBN|CS|CF|JC|VP|SGN|SN)\b")
-SENTENCE_END = re.compile(r"(?<=[.?:])\s|\|\n|\n- |\n\n")
 OPTION_NAME = re.compile(r"(?<![\w-])--[a-z][a-z-]*")
 # Options of other programs that the documents mention.
 OTHER_OPTIONS = {"--forked", "--now", "--sshloginfile", "--workdir", "--joblog", "--resume-failed",
@@ -542,40 +321,6 @@ class StatedFacts(Case):
             text = " ".join(read_document(os.path.normpath(f"docs/{name}")).split())
             stated = words.format(value)
             self.check(f"docs/{name} states: {stated}", stated in text, True)
-
-    def test_the_useful_keys_are_in_the_schema(self) -> None:
-        schema = read_document("docs/verdict.schema.json")
-        table = read_document("docs/manual/results.md").partition("Useful keys:")[2]
-        rows = re.findall(r"^\| (`[^|]+) \|", table.partition("\n\n##")[0], re.M)
-        self.must("rows", len(rows) > 5, rows)
-        for key in re.findall(r"`(\w+)`", " ".join(rows)):
-            self.must(key, f'"{key}": ' in schema)
-
-    def test_architecture_names_existing_files(self) -> None:
-        paths = subprocess.run(["git", "ls-files"], cwd=TOP, check=True, text=True,
-                               stdout=subprocess.PIPE).stdout.splitlines()
-        text = read_document("docs/ARCHITECTURE.md")
-        for name in re.findall(r"`([\w./]+\.(?:rt|py|tsv))`", text):
-            self.must(name, any(f"/{path}".endswith(f"/{name}") for path in paths))
-
-    def test_architecture_names_the_crate_of_each_function_and_type(self) -> None:
-        named = re.findall(r"`(\w+)` of\s+`(\w+)`", read_document("docs/ARCHITECTURE.md"))
-        self.must("some", len(named) > 5, named)
-        for name, crate in named:
-            texts = [read(path) or "" for path in glob.glob(os.path.join(
-                TOP, "crates", crate, "src", "**", "*.rt"), recursive=True)]
-            self.must(f"{name} of {crate}", any(re.search(
-                rf"^pub (fn|struct|enum|trait) {name}\b", text, re.M) for text in texts))
-
-    def test_mentioned_fault_numbers_are_right(self) -> None:
-        for path, text in list_document_texts():
-            if os.path.basename(path) == "refusals.md":
-                continue
-            for part in SENTENCE_END.split(BLOCK.sub("", text)):
-                sentence = " ".join(part.split())
-                for number in FAULT_MENTION.findall(sentence):
-                    self.must(f"{os.path.relpath(path, TOP)}: fault {number}", re.search(
-                        FAULT_WORDS.get(int(number), "(?!)"), sentence) is not None, sentence)
 
     def test_a_fault_has_the_same_fields_in_the_manual_and_in_its_sentence(self) -> None:
         for number, row in read_meanings().items():
@@ -655,7 +400,7 @@ class StatedFacts(Case):
         known = {*OTHER_OPTIONS}
         for path in (path for form in forms for path in glob.glob(os.path.join(TOP, form))):
             known |= {*OPTION_NAME.findall(read(path) or "")} if os.path.isfile(path) else set()
-        known |= {name for parser in (make_parser(""), RECORDER, JUDGE)
+        known |= {name for parser in (make_parser(""), make_record_parser(), make_judge_parser())
                   for action in parser._actions for name in action.option_strings}
         for path, text in list_document_texts():
             if not path.endswith("CHANGELOG.md"):
@@ -664,11 +409,42 @@ class StatedFacts(Case):
                 self.check(os.path.relpath(path, TOP), unknown, set())
 
 
-class Examples(Case):
-    def test_jobs_take_the_language_of_each_file(self) -> None:
-        self.must("judge.sh", "--option auto" in (
-            read(os.path.join(TOP, "docs", "manual", "judge.sh")) or ""))
+FACTS = os.path.join(TOP, "dev", "vectors", "facts")  # a table for each document
 
+
+@functools.lru_cache(maxsize=None)
+def read_words(name: str) -> str:
+    return " ".join(read_document(name).split())
+
+
+def find_most_similar(words: str, text: str) -> str:
+    """Return `words` if the text has them, otherwise those of its words that are most like them."""
+    if words in text:
+        return words
+    common = difflib.SequenceMatcher(None, text, words, autojunk=False).find_longest_match(
+        0, len(text), 0, len(words))
+    begin = max(0, common.a - common.b)
+    return text[begin:begin + len(words)]
+
+
+class SourcesOfFacts(Case):
+    """Each row has words of a document, a file, and the words of that file that make them true."""
+
+    def test_documents_state_what_the_sources_say(self) -> None:
+        for path in sorted(glob.glob(os.path.join(FACTS, "**", "*.tsv"), recursive=True)):
+            document = os.path.relpath(path, FACTS).removesuffix("tsv") + "md"
+            for number, row in enumerate(read_document(path).splitlines(), 1):
+                place = f"row {number} of {os.path.relpath(path, TOP)}"
+                stated, source, code = row.split("\t")
+                self.check(f"{place}: {document} states", find_most_similar(
+                    stated, read_words(document)), stated)
+                self.check(f"{place}: {source}, on which this depends, has", find_most_similar(
+                    code, read_words(source)), code)
+                self.check(f"{place}: more often in {document}",
+                           read_words(document).count(stated) > 1, False)
+
+
+class Examples(Case):
     def test_what_the_script_of_the_manual_keeps_has_the_same_verdict(self) -> None:
         manual = read(os.path.join(TOP, "docs", "MANUAL.md")) or ""
         script = next(text for language, text in BLOCK.findall(manual) if language == "python")
@@ -678,7 +454,7 @@ class Examples(Case):
             kept = subprocess.run([sys.executable, "-c", script, "0", "0x100", "0x101"],
                                   input=file.read(), stdout=subprocess.PIPE, check=True).stdout
         verdicts = [self.tool("qc", os.path.join(examples, "story.stl"), path, "--origin",
-                              "5000000000").out.splitlines()[-1:]
+                              "5000000000", "-p", self.bench.program).out.splitlines()[-1:]
                     for path in (recording, self.write("kept.ts", kept))]
         self.check("bytes", 0 < len(kept) <= os.path.getsize(recording), True)
         self.check("verdict", verdicts[1], verdicts[0])
