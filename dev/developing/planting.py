@@ -5,7 +5,6 @@ The tests are loaded once, in a copy of the repository. Each test run is a forke
 from __future__ import annotations
 
 import contextlib
-import gc
 import importlib
 import io
 import json
@@ -18,12 +17,10 @@ import sys
 import tempfile
 import time
 import unittest
-from types import CodeType, FunctionType
 from typing import Any, Callable, Sequence
 
 from subtitles.common.command_line import Stop
-from subtitles.common.program import TOP, read
-from .bugs import list_nested_codes
+from subtitles.common.program import TOP
 from .edits import replace_files
 from .tests import bench, runner
 
@@ -46,7 +43,6 @@ def seen(frame, event, arg):
 threading.settrace(seen)
 sys.settrace(seen)
 """
-HAS_LOCALS = 1  # flag in co_flags that is set for functions (CO_OPTIMIZED)
 Answer = dict[str, Any]
 
 
@@ -69,44 +65,9 @@ def get_unit_name(unit: runner.SeveralTests) -> str:
     return name.rpartition(".")[0] if runner.has_fixture(type(unit[0])) else name
 
 
-def get_qualified_name(code: CodeType) -> str:
-    return str(getattr(code, "co_qualname"))
-
-
 def strip_nested(name: str) -> str:
     """Remove comprehensions and lambdas from a function's qualified name."""
     return ".".join(part for part in name.split(".") if not part.startswith("<"))
-
-
-def get_module_level_code(module_codes: list[CodeType]) -> list[object]:
-    """Return the code that runs when a module is loaded, in a form that can be compared."""
-    return [(code.co_code, code.co_names,
-             [repr(value) for value in code.co_consts if not isinstance(value, CodeType)])
-            for code in module_codes if not code.co_flags & HAS_LOCALS]
-
-
-def patch_functions(path: str, before: str, text: str) -> bool:
-    """Replace the code of functions in a loaded module with the code from the module's new text.
-
-    `before` is the loaded text. Return `False` if a function cannot be replaced, or if code outside
-    functions changed.
-    """
-    old, others = (list(list_nested_codes(compile(item, path, "exec"))) for item in (before, text))
-    if sys.version_info < (3, 11) or get_module_level_code(old) != get_module_level_code(others):
-        return False
-    by_name: dict[str, list[CodeType]] = {}
-    for code in others:
-        by_name.setdefault(get_qualified_name(code), []).append(code)
-    places = {(get_qualified_name(code), code.co_firstlineno):
-              by_name[get_qualified_name(code)].pop(0)
-              for code in old if by_name.get(get_qualified_name(code))}
-    for item in gc.get_objects():
-        if isinstance(item, FunctionType) and item.__code__.co_filename == path:
-            new = places.get((get_qualified_name(item.__code__), item.__code__.co_firstlineno))
-            if new is None or new.co_freevars != item.__code__.co_freevars:
-                return False
-            item.__code__ = new
-    return True
 
 
 class LoadedCopy:
@@ -149,12 +110,8 @@ class LoadedCopy:
 
     def run_changed(self, texts: dict[str, str], names: Sequence[str], seconds: float) -> Answer:
         """Run tests with changed files in the copy of the repository, then restore the files."""
-        before = {path: read(os.path.join(self.top, path)) or "" for path in texts}
-
         def run_with_edit() -> Answer:
-            if not all([patch_functions(os.path.join(self.top, path), before[path], text)
-                        for path, text in texts.items()]):
-                self.reload()
+            self.reload()  # also computes the tables of modules again
             return self.run(names)
 
         with replace_files(self.top, texts):
