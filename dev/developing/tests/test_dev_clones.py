@@ -183,6 +183,15 @@ class Clones(Case):
             self.must(f"{word} check", (process.status, process.out) == (2, b"usage 0 Words\n"),
                       process)
 
+    def test_scripts_without_a_built_program_begin_no_proof(self) -> None:
+        clone = Clone(self)
+        os.remove(clone.path("dist", "PROVED"))
+        path = clone.write_toolchain(f"#!/bin/sh\ntouch '{self.path('called')}'\nexit 1\n")
+        for command in (["tools/check-program"], ["dev/make-examples", "."]):
+            process = clone.call([clone.path(command[0]), *command[1:]], path)
+            self.check(f"{command}: status, calls the prover",
+                       (process.status, os.path.exists(self.path("called"))), (2, False))
+
     def test_detects_a_damaged_program(self) -> None:
         clone = Clone(self)
         clone.check_runs("whole")
