@@ -21,8 +21,8 @@ from .test_judging_pairs import damage_packet
 from .transmissions import join_pes_packets
 
 PID, SCRAMBLED_PID = 0x101, 0x102
-# A program whose `survey` has a fault: it omits a PES packet or a gap marker, or moves a PTS.
-PLANTED = """#!{python}
+# A program that changes what `survey` prints in `out`, with one of SURVEY_CHANGES.
+FAULTY_PROGRAM = """#!{python}
 import subprocess, sys
 words = sys.argv[1:]
 out = subprocess.run([{program!r}, *words], stdout=subprocess.PIPE).stdout.decode()
@@ -32,20 +32,20 @@ if words[0] != "survey":
 {change}
 sys.stdout.write(out)
 """
-CHANGES = {
-    "skips a PES packet": r'''
+SURVEY_CHANGES = {
+    "omits PES packet 5": r'''
 lines = out.split("\n")
 at = next(n for n, line in enumerate(lines) if line.startswith("pes ") and " 5 1 " in line)
 out = "\n".join(lines[:at] + lines[at + 1:])''',
-    "skips a gap marker": r'''
+    "omits the gap marker": r'''
 out = "\n".join(line for line in out.split("\n") if not line.startswith("gap "))''',
-    "moves a PTS": r'''
+    "delays PES packet 5 by 900 ticks": r'''
 import re
 out = re.sub(r"^(pes \d+ 5 1 )(\d+)", lambda m: m[1] + str(int(m[2]) + 900), out, flags=re.M)''',
-    "is right": ""}
+    "changes nothing": ""}
 
 
-def lose_packet(stream: bytes, pes: bytes) -> bytes:
+def remove_first_ts_packet(stream: bytes, pes: bytes) -> bytes:
     """Return a stream without the first TS packet of a PES packet."""
     at = stream.index(pes[:20]) // PACKET * PACKET
     return stream[:at] + stream[at + PACKET:]
@@ -75,82 +75,94 @@ def scramble(packet: bytes) -> bytes:
 
 
 class Comparison(Case):
-    def compare(self, items: list[Item], *lines: str, end: End = End(99)) -> object:
-        try:
-            return compare_lines(iter(items), lines, end)
-        except SurveyMismatch:
-            return "differs"
+    """Items (PES packets and gap markers) that `survey` printed, and lines of `packets`, which ends
+    at the first PES packet that it refuses (`refused 45 Lost` for a gap marker)."""
 
-    def test_compares_numbers_times_and_faults(self) -> None:
-        items = [Item(3, 70), Item(4, None, 45), Item(5, 90)]
-        first, second = "pes 3 pts 70", "pes 5 pts 90"
-        self.check("all read", self.compare([items[0]], first, "1 pes"), None)
-        self.check("refused", self.compare(items, first, "refused 45 Lost pes 4"), 5)
-        self.check("the rest", self.compare(items[2:], second, "1 pes"), None)
-        self.check("refused, and not read on", self.compare(
-            [*items[:1], Item(4, None, 32), Item(5, None, 32)], first, "refused 32 Length pes 4"),
-                   None)
-        self.check("the end", self.compare(items[2:], second, "refused 31 Start pes 6",
-                                           end=End(6, {31})), None)
-        wrong: dict[str, tuple[Any, ...]] = {
-                 "another number": (items, "pes 2 pts 70", "1 pes"),
-                 "another PTS": (items[:1], "pes 3 pts 71", "1 pes"),
-                 "a refused one": ([Item(3, None, 33)], first, "1 pes"),
-                 "one too few": (items[:1], "0 pes"),
-                 "one too many": (items[:1], first, "pes 4 pts 80", "2 pes"),
-                 "another count": (items[:1], first, "2 pes"),
-                 "a skipped gap marker": ([items[0], items[2]], first, "refused 45 Lost pes 4"),
-                 "another fault": (items, first, "refused 33 Flags pes 4"),
-                 "an unexpected end": (items[:1], first, "refused 31 Start pes 4"),
-                 "an early end": (items[:1], "refused 31 Start pes 3"),
-                 "no last line": (items[:1], first), "nothing": ([],)}
-        for name, (known, *lines) in wrong.items():
-            self.check(name, self.compare(known, *lines, end=End(5, {32})), "differs")
+    FIRST, GAP, LAST = Item(3, pts=70), Item(4, pts=None, fault=45), Item(5, pts=90)
+    FIRST_LINE, LAST_LINE = "pes 3 pts 70", "pes 5 pts 90"
+
+    def test_returns_the_pes_packet_from_which_packets_must_be_called_again(self) -> None:
+        too_long = [Item(4, pts=None, fault=32), Item(5, pts=None, fault=32)]
+        self.check_rows(lambda items, lines, end: compare_lines(iter(items), lines, end), {
+            "all read": (([self.FIRST], [self.FIRST_LINE, "1 pes"], End(99)), None),
+            "it ended at a gap marker": (
+                ([self.FIRST, self.GAP, self.LAST], [self.FIRST_LINE, "refused 45 Lost pes 4"],
+                 End(99)), 5),
+            "the call after that": (([self.LAST], [self.LAST_LINE, "1 pes"], End(99)), None),
+            "after fault 32, `check` does not read on": (
+                ([self.FIRST, *too_long], [self.FIRST_LINE, "refused 32 Length pes 4"], End(99)),
+                None),
+            "other data after the last item, as `survey` found": (
+                ([self.LAST], [self.LAST_LINE, "refused 31 Start pes 6"], End(6, {31})), None)})
+
+    def test_raises_an_error_if_survey_and_packets_differ(self) -> None:
+        first, line, items = [self.FIRST], self.FIRST_LINE, [self.FIRST, self.GAP, self.LAST]
+        rows: dict[str, tuple[list[Item], list[str]]] = {
+            "another number": (items, ["pes 2 pts 70", "1 pes"]),
+            "another PTS": (first, ["pes 3 pts 71", "1 pes"]),
+            "a fault that packets does not find": ([Item(3, None, 33)], [line, "1 pes"]),
+            "one PES packet too few": (first, ["0 pes"]),
+            "one too many": (first, [line, "pes 4 pts 80", "2 pes"]),
+            "another count": (first, [line, "2 pes"]),
+            "survey omits a gap marker": ([self.FIRST, self.LAST], [line, "refused 45 Lost pes 4"]),
+            "another fault": (items, [line, "refused 33 Flags pes 4"]),
+            "survey read past the end": (first, [line, "refused 31 Start pes 4"]),
+            "packets ended earlier": (first, ["refused 31 Start pes 3"]),
+            "no last line": (first, [line]), "no line": ([], [])}
+        for name, (known, lines) in rows.items():
+            with self.subTest(name), self.assertRaises(SurveyMismatch):
+                compare_lines(iter(known), lines, End(5, {32}))
 
     def test_lists_items_as_packets_counts_them(self) -> None:
-        packets = Packets(PID, [PacketRun(0, 2, 5, 3, "h", ""), PacketRun(2, 1, None, 0, "m", ""),
-                                PacketRun(3, 1, 9, 0, "", "", fault=37)], refusal=32)
+        packets = Packets(PID, [
+            PacketRun(0, length=2, pts=5, step=3, flags="h", control=""),
+            PacketRun(2, length=1, pts=None, step=0, flags="m", control=""),
+            PacketRun(3, length=1, pts=9, step=0, flags="", control="", fault=37)], refusal=32)
         self.check("items", [*list_items(packets, (1, 9))], [
-            Item(1, 8), Item(2, None, 45), Item(3, None, 37)])
+            Item(1, pts=8), Item(2, pts=None, fault=45), Item(3, pts=None, fault=37)])
         self.check("end", find_end(packets), End(4, {32}))
 
     def test_recognises_items_that_were_compared(self) -> None:
         runs = [PacketRun(0, 1, 5, 0, "h", ""), PacketRun(1, 2, 8, 3, "", ""),
                 PacketRun(3, 1, None, 0, "m", ""), PacketRun(4, 1, 9, 0, "", "", fault=37)]
-        known = collect_items(Packets(PID, runs), (1, 4))
+        compared = collect_items(Packets(PID, runs), (1, 4))
+        # The first item of the other range, the run that differs in it, and its changed members
         rows: dict[str, tuple[int, int, dict[str, Any], bool]] = {
-            "the same": (1, 0, {}, True), "a later header": (2, 0, {}, True),
-            "an earlier header": (0, 0, {}, False), "another PTS": (1, 1, {"pts": 9}, False),
+            "the same": (1, 0, {}, True), "from a later item on": (2, 0, {}, True),
+            "from an earlier item on": (0, 0, {}, False), "another PTS": (1, 1, {"pts": 9}, False),
             "no gap marker": (1, 2, {"flags": ""}, False),
             "another fault": (1, 3, {"fault": 38}, False), "one more": (1, 3, {"length": 2}, False)}
-        for name, (first, at, change, expected) in rows.items():
+        for name, (first, at, change, is_included) in rows.items():
             other = Packets(PID, [*runs[:at], runs[at]._replace(**change), *runs[at + 1:]])
-            self.check(name, known.includes(collect_items(other, (first, 5))), expected)
+            self.check(name, compared.includes(collect_items(other, (first, 5))), is_included)
         other = Packets(PID, runs, refusal=32)
-        self.check("another end", known.includes(collect_items(other, (1, 4))), False)
+        self.check("another end", compared.includes(collect_items(other, (1, 4))), False)
 
-    def test_ends_after_twenty_calls(self) -> None:
+    def test_calls_packets_for_at_most_twenty_gap_markers(self) -> None:
         calls = list[int]()
 
-        class Refused:
+        class GapMarkersOnly:
             def list_packets(self, first: int, last: int) -> list[str]:
                 calls.append(first)
                 return [f"refused 45 Lost pes {first}"]
 
-        command: Any = Refused()
+        command: Any = GapMarkersOnly()
         packets = Packets(PID, [PacketRun(at, 1, None, 0, "m", "") for at in range(30)])
-        for last, expected in ((18, None), (19, None), (20, 20), (29, 20)):
+        for last, first_not_compared in ((18, None), (19, None), (20, 20), (29, 20)):
             calls.clear()
             number = find_unproved_number(command, packets, (0, last))
-            self.check(f"{last}", (number, len(calls)), (expected, min(last + 1, 20)))
+            self.check(f"0 to {last}", (number, len(calls)),
+                       (first_not_compared, min(last + 1, 20)))
 
 
 class JudgedRecordings(ProgrammeCase):
-    def test_finds_a_wrong_survey(self) -> None:
-        path = self.write("one.ts", lose_packet(
+    """A correct transmission of ten subtitles on one PID, with a loss or a damaged PES packet."""
+
+    def test_judges_nothing_if_survey_and_packets_differ(self) -> None:
+        path = self.write("one.ts", remove_first_ts_packet(
             make_stream_of_pids((PID, join_pes_packets(self.sent))), self.pes[7]))
-        for name, change in CHANGES.items():
-            program = self.write_program("program", PLANTED.format(
+        for name, change in SURVEY_CHANGES.items():
+            program = self.write_program("program", FAULTY_PROGRAM.format(
                 python=sys.executable, program=self.bench.program, change=change))
             verdict = judge_files(self, self.stl, path, *self.words, "--allow-lost",
                                   by=program).verdict
@@ -158,15 +170,15 @@ class JudgedRecordings(ProgrammeCase):
                               "SurveyMismatch" in (verdict.unjudged_reason or "")),
                        ("not judged", 70, "bug", True) if change else ("waived", 0, None, False))
 
-    def test_keeps_verdicts_on_losses_and_damage(self) -> None:
+    def test_the_comparison_does_not_change_verdicts_on_losses_and_damage(self) -> None:
         whole = make_stream_of_pids((PID, join_pes_packets(self.sent)))
         damaged = make_stream_of_pids((PID, b"".join(
             damage_packet(item, 37) if at == 5 else item for at, item in enumerate(self.pes))))
-        first, repeated = lose_packet(whole, self.pes[5]), lose_packet(whole, self.pes[7])
+        first, repeated = (remove_first_ts_packet(whole, self.pes[at]) for at in (5, 7))
         rows: dict[str, tuple[bytes, tuple[str, ...]]] = {
-            "lost": (first, ()), "allowed": (first, ("--allow-lost",)), "damaged": (damaged, ()),
-            "a repeated page lost": (repeated, ()),
-            "a repeated page allowed": (repeated, ("--allow-lost",))}
+            "damaged": (damaged, ()), "lost": (first, ()), "a repeated page lost": (repeated, ()),
+            "lost, --allow-lost": (first, ("--allow-lost",)),
+            "a repeated page lost, --allow-lost": (repeated, ("--allow-lost",))}
         for name, (data, words) in rows.items():
             judged = self.judge_stream(data, *words)
             with mock.patch.object(PairJudge, "compare_packets"):
@@ -176,7 +188,7 @@ class JudgedRecordings(ProgrammeCase):
             self.check(f"{name}: judged", judged.verdict.word != "not judged", True)
 
     def test_judges_the_range_of_a_pid_that_survey_recognises_late(self) -> None:
-        for count in (0, 1, 4):
+        for count in (0, 1, 4):  # PES packets before the tables, by which `survey` knows the PID
             verdict = self.judge_stream(make_stream_with_late_tables(self.pes, count)).verdict
             self.check(f"{count}", (verdict.word, [part.pes for part in verdict.parts]),
                        ("accepted", [(0, len(self.pes) - 1)]))
