@@ -25,8 +25,8 @@ from .judged import judge_files
 from .streams import Programme, TELETEXT_PID, multiplex_programmes
 from .transmissions import write_programme, schedule_pes, subtitle_times
 
-
-# Tests of `lead` lines of `survey`, and of the clock jumps that are found in them.
+# Tests of `lead` lines of `survey`, and of the clock jumps that are found in them. A lead is the
+# PTS of a Teletext PES packet minus the decoding time of the last picture before it.
 
 PID, VIDEO = 0x101, 0x200
 SECOND = 25  # frames in a second
@@ -34,11 +34,8 @@ SECOND = 25  # frames in a second
 
 def make_video_leads(leads: Sequence[float], steps: Mapping[int, float] = {}, first: int = 0,
                      each: int = SECOND) -> list[VideoLead]:
-    """Return `lead` lines at regular intervals with these leads in frames.
-
-    `steps` maps the index of a line to the number of frames by which decoding times jump at this
-    line.
-    """
+    """Return `lead` lines at intervals of `each` pictures, with these leads in frames. `steps` has
+    indexes of lines, and the frames by which decoding times jump before the line."""
     result, missing = list[VideoLead](), 0.0
     for at, ahead in enumerate(leads):
         missing += steps.get(at, 0)
@@ -49,24 +46,29 @@ def make_video_leads(leads: Sequence[float], steps: Mapping[int, float] = {}, fi
 
 
 class PictureDepartures(Case):
-    def measure_step_ticks(self, leads: Sequence[VideoLead],
-                           ahead: Sequence[int] = (9, 9)) -> list[int | None] | None:
-        """Return the size of each jump in ticks, or `None` if the intervals are irregular. The PTS
-        are `ahead` of the PCR by these frames, at first and from the 40th lead on."""
+    """Places (`Departure`) where the pictures leave the Teletext: the decoding times jump by some
+    frames, and the lead changes by as much. The PTS of subtitles are early by that for viewers."""
+
+    def list_jumps(self, leads: Sequence[VideoLead],
+                   ahead: Sequence[int] = (9, 9)) -> list[float | None] | None:
+        """Return the size of each jump in frames, or `None` if it is unclear. The Teletext PTS are
+        `ahead` of the PCR by these frames, at first and from the 40th lead on."""
         departures = locate_departures(leads, (), [
             (lead.pts, TICKS * ahead[at >= 40]) for at, lead in enumerate(leads) if ahead])
-        return None if departures is None else [departure.ticks for departure in departures]
+        return None if departures is None else [
+            item.ticks and item.ticks / TICKS for item in departures]
 
-    def test_finds_steps_of_the_pictures_against_the_teletext(self) -> None:
+    def test_finds_jumps_of_the_pictures_against_the_teletext(self) -> None:
         for by, first in itertools.product((1, 2, 12, 250, -1, -2, -250, 0.5, -0.5),
                                            (0, CLOCK - TICKS * 500)):
-            step = {40: by}
-            rows: dict[str, tuple[float, Mapping[int, float], list[int | None]]] = {
-                "the pictures leave": (6 - by, step, [round(TICKS * by)]),
-                "both clocks step": (6, step, []), "the multiplexer": (6 + by, {}, [])}
-            for name, (after, steps, wanted) in rows.items():
-                self.check(f"{name} by {by} from {first}", self.measure_step_ticks(
-                    make_video_leads([6.0] * 40 + [after] * 40, steps, first)), wanted)
+            # The later leads, the jump of the decoding times, and the jumps found
+            rows: dict[str, tuple[float, Mapping[int, float], list[float]]] = {
+                "only the pictures jump": (6 - by, {40: by}, [by]),
+                "pictures and Teletext jump": (6, {40: by}, []),
+                "the multiplexer changes its delay": (6 + by, {}, [])}
+            for name, (after, steps, expected) in rows.items():
+                self.check(f"{name} by {by} from {first}", self.list_jumps(
+                    make_video_leads([6.0] * 40 + [after] * 40, steps, first)), expected)
 
     def test_finds_several_departures_in_order(self) -> None:
         leads = make_video_leads([6.0] * 20 + [3.0] * 20 + [6.0] * 20 + [6.0] * 20,
@@ -82,32 +84,36 @@ class PictureDepartures(Case):
         for count in (0, 1):
             self.check(f"{count} lines", locate_departures(leads[:count]), [])
 
-    def test_finds_departures_with_lost_pictures(self) -> None:
+    def test_measures_a_jump_at_which_pictures_are_lost_too(self) -> None:
         for lost in (0, 1, 2, 5, 12):
-            self.check(f"{lost} lost", self.measure_step_ticks(
-                make_video_leads([6.0] * 40 + [6.0 - 50] * 40, {40: 50 + lost})), [50 * TICKS])
-        self.check("none lost, but few leads that vary", self.measure_step_ticks(
-            make_video_leads([6.0, 7, 6, 7, 6] * 8 + [8.0] * 2, {40: -1})), [-TICKS])
+            self.check(f"{lost} lost", self.list_jumps(
+                make_video_leads([6.0] * 40 + [6.0 - 50] * 40, {40: 50 + lost})), [50])
+        self.check("none lost, but few leads that vary", self.list_jumps(
+            make_video_leads([6.0, 7, 6, 7, 6] * 8 + [8.0] * 2, {40: -1})), [-1])
+
+    def test_a_loss_of_a_second_is_unclear_if_teletext_may_jump_against_the_pcr(self) -> None:
+        # Lost pictures, frames by which the PTS are ahead of the PCR before and after, and jumps
         for lost, ahead, expected in (
                 (50, (9, 9), []), (50, (9, 11), [None]), (50, (), [None]), (25, (), [None]),
                 (24, (9, 11), []), (24, (), [])):
-            self.check(f"{lost} lost alone, {ahead}", self.measure_step_ticks(
+            self.check(f"{lost} lost, {ahead}", self.list_jumps(
                 make_video_leads([6.0] * 80, {40: lost}), ahead), expected)
 
-    def test_finds_a_steady_change(self) -> None:
-        grows = make_video_leads([6 + 0.02 * at for at in range(100)])
-        self.check("it grows", find_steady_change(grows), round(99 * 0.02 * TICKS))
-        for by in (50, 25 * 3600, -25 * 3600):
-            jumps = [lead._replace(pts=(lead.pts + TICKS * by) % CLOCK, ticks=lead.ticks + TICKS
-                                   * by) for lead in make_video_leads([6.0] * 100)[50:]]
-            self.check(f"the PTS jump by {by}", find_steady_change(
-                [*make_video_leads([6.0] * 50), *jumps]), 0)
+    def test_finds_a_lead_that_grows_steadily(self) -> None:
+        leads = make_video_leads([6 + 0.02 * at for at in range(100)])
+        self.check("ticks", find_steady_change(leads), round(99 * 0.02 * TICKS))
 
-    def test_compares_the_video_lead_to_half_a_frame(self) -> None:
-        for moved, expected in ((5.0, [5 * TICKS]), (5.4, [5 * TICKS]), (0.4, []), (0.0, []),
-                                (-3.0, [None])):
-            self.check(f"moved by {moved}", self.measure_step_ticks(
-                make_video_leads([8.0] * 9 + [8 - moved] * 9, {9: 5})), expected)
+    def test_a_jump_of_the_teletext_pts_is_no_steady_change(self) -> None:
+        for by in (50, 25 * 3600, -25 * 3600):
+            jumped = [lead._replace(pts=(lead.pts + TICKS * by) % CLOCK, ticks=lead.ticks + TICKS
+                                    * by) for lead in make_video_leads([6.0] * 100)[50:]]
+            self.check(f"by {by} frames", find_steady_change(
+                [*make_video_leads([6.0] * 50), *jumped]), 0)
+
+    def test_the_lead_may_differ_from_the_jump_by_less_than_half_a_frame(self) -> None:
+        for change, expected in ((5.0, [5]), (5.4, [5]), (0.4, []), (0.0, []), (-3.0, [None])):
+            self.check(f"the times jump by 5 frames, the lead falls by {change}", self.list_jumps(
+                make_video_leads([8.0] * 9 + [8 - change] * 9, {9: 5})), expected)
 
     def test_reports_unclear_departures(self) -> None:
         chance = random.Random(1)
@@ -115,15 +121,13 @@ class PictureDepartures(Case):
         def make_leads_around(frames: float, jitter: float, count: int = 40) -> list[float]:
             return [frames - chance.uniform(0, jitter) for _ in range(count)]
 
-        rows: dict[str, tuple[list[VideoLead], list[int | None]]] = {
-            "steady": (make_video_leads(make_leads_around(6, 0) + make_leads_around(4, 0), {40: 2}),
-                       [2 * TICKS]),
-            "a frame of jitter": (make_video_leads(make_leads_around(6, 1) + make_leads_around(4,
-                                                                                               1),
-                                                   {40: 2}), [2 * TICKS]),
-            "eight frames of jitter": (make_video_leads(make_leads_around(6, 8, 9)
-                                                        + make_leads_around(4, 8, 9), {9: 2}),
-                                       [None]),
+        rows: dict[str, tuple[list[VideoLead], list[int | None]]] = {  # leads, and jumps in frames
+            "steady": (make_video_leads(
+                make_leads_around(6, 0) + make_leads_around(4, 0), {40: 2}), [2]),
+            "a frame of jitter": (make_video_leads(
+                make_leads_around(6, 1) + make_leads_around(4, 1), {40: 2}), [2]),
+            "eight frames of jitter": (make_video_leads(
+                make_leads_around(6, 8, 9) + make_leads_around(4, 8, 9), {9: 2}), [None]),
             "one line before": (make_video_leads([6.0] + [5, 3] * 9, {1: 2}), [None]),
             "one line behind": (make_video_leads([6, 4] * 9 + [3.0], {18: 2}), [None]),
             "the extremes of leads that vary by more": (
@@ -139,24 +143,26 @@ class PictureDepartures(Case):
         rows["away and back at the beginning"] = (
             make_video_leads([6] * 2 + [7] * 2 + [6] * 40, {2: -1, 4: 1}), [None, None])
         for name, (leads, wanted) in rows.items():
-            self.check(name, self.measure_step_ticks(leads), wanted)
+            self.check(name, self.list_jumps(leads), wanted)
 
-    def test_finds_no_small_step_in_a_video_with_many(self) -> None:
-        for frames, more, expected in ((3, 10, 3), (3, 30, None), (30, 30, 30)):
+    def test_a_small_jump_is_unclear_if_the_video_has_many_unusual_steps(self) -> None:
+        for frames, others, expected in ((3, 10, 3), (3, 30, None), (30, 30, 30)):
             leads = make_video_leads([6.0] * 10 + [6.0 - frames] * 70, {10: frames})
             unusual = [UnusualStep(SECOND * at - 5, TICKS * (frames if at == 10 else 1), TICKS)
-                       for at in range(10, 11 + more)]
-            self.check(f"{frames} {more}", [item.ticks for item in locate_departures(
-                leads, unusual) or []], [expected and expected * TICKS])
+                       for at in range(10, 11 + others)]
+            self.check(f"{frames} frames, {others} others", [
+                item.ticks for item in locate_departures(leads, unusual) or []],
+                       [expected and expected * TICKS])
 
-    def test_needs_some_leads_before_lost_pictures_and_no_part_of_a_picture(self) -> None:
-        for before, ticks, expected in ((1, 12, [None]), (2, 12, [None]), (3, 12, []),
-                                        (20, 12.5, [None]), (20, 12.0, [])):
-            departures = locate_departures(make_video_leads([6.0] * 40, {before: ticks}), [
-                UnusualStep(SECOND * before - 5, TICKS * 12, TICKS)])
-            self.check(f"{before} {ticks}", [item.ticks for item in departures or []], expected)
+    def test_needs_three_leads_before_lost_pictures_and_no_part_of_a_picture(self) -> None:
+        for leads_before, frames, expected in ((1, 12, [None]), (2, 12, [None]), (3, 12, []),
+                                               (20, 12.5, [None]), (20, 12.0, [])):
+            departures = locate_departures(make_video_leads([6.0] * 40, {leads_before: frames}), [
+                UnusualStep(SECOND * leads_before - 5, TICKS * 12, TICKS)])
+            self.check(f"{leads_before} {frames}", [item.ticks for item in departures or []],
+                       expected)
 
-    def test_requires_a_usual_step(self) -> None:
+    def test_finds_no_jumps_if_the_decoding_times_have_no_usual_step(self) -> None:
         chance = random.Random(1)
         steps = {at: float(chance.randrange(-9, 9)) for at in range(40)}
         self.check("at random", locate_departures(make_video_leads([6.0] * 40, steps)), None)
@@ -168,26 +174,20 @@ class PictureDepartures(Case):
 
 # Tables of jumps that are reported as faults or as notes.
 
-def make_lead_survey_lines(steps: Sequence[tuple[float, int]], origin: int = 0, video: int = VIDEO,
-                           jitter: int = 0) -> list[str]:
-    """Return `lead` lines for the frames 500 to 2500.
-
-    `steps` contains clock jumps: the size of each jump in frames, and the frame at which it occurs.
-    `jitter` is subtracted from the lead in odd frames.
-    """
+def make_lead_survey_lines(steps: Sequence[tuple[float, int]], origin: int = 0,
+                           video: int = VIDEO) -> list[str]:
+    """Return `lead` lines for the frames 500 to 2500. `steps` contains jumps of the decoding times:
+    the size of each jump in frames, and the frame at which it occurs."""
     result = []
     for frame in range(500, 2500, SECOND):
-        away = sum(by for by, at in steps if at <= frame)
-        lead = round(TICKS * (6 - away - jitter * (frame % 2)))
+        lead = round(TICKS * (6 - sum(by for by, at in steps if at <= frame)))
         result.append(f"lead {PID} {(origin + TICKS * frame) % CLOCK} {lead} {video} {frame}")
     return result
 
 
 def survey_extra_lines(lines: Sequence[str] = (), origin: int = 0) -> Survey:
-    """Return a survey of two programmes.
-
-    The first has the video in `lines` and a video without jumps, the second a video that jumps.
-    """
+    """Return a survey of two programmes. The first, with the Teletext PID, has the video in `lines`
+    and a video without jumps, and the second a video that jumps."""
     quiet, others = 0x300, 0x302
     survey = Survey()
     for line in [f"programme 1 {VIDEO}", f"stream {PID} 6", f"programme 2 {others}",
@@ -200,10 +200,14 @@ def survey_extra_lines(lines: Sequence[str] = (), origin: int = 0) -> Survey:
 
 
 class DepartureFaults(Case):
-    def list_faults_and_notes(self, steps: Sequence[tuple[float, int]], within: int = 0,
-                              source: str = GIVEN,
-              origin: int = 0) -> tuple[list[tuple[str | None, str | None, str]], list[str]]:
-        """Return the start, end and direction of each fault, and all notes."""
+    """A part with the frames 1000 to 2000, from 00:00:40:00 to 00:01:20:00, of a survey with leads
+    of 6 frames. The pictures jump against the Teletext."""
+
+    def list_faults_and_notes(
+            self, steps: Sequence[tuple[float, int]], within: int = 0, source: str = GIVEN,
+            origin: int = 0) -> tuple[list[tuple[str | None, str | None, str]], list[str]]:
+        """Return the start, end and direction of each fault, and all notes ("unclear" if it is
+        unclear whether pictures jump). `source` says where the clock comes from."""
         faults, notes, unchecked, _ = find_desync(
             survey_extra_lines(make_lead_survey_lines(steps, origin), origin), PID,
             TimedPart(1000, 2000, Clock(origin, source)), within, 1)
@@ -218,6 +222,7 @@ class DepartureFaults(Case):
         middle, end = "00:01:00:00", "00:01:19:24"
         allowed = f"from {middle} on, subtitles are 2 frames late for viewers: the video's " \
             "timestamps jump, as --within 2 allows"
+        # Jumps (by how many frames, at which frame), --within, the faults, and the notes
         rows: dict[str, tuple[list[tuple[float, int]], int, list[tuple[str, str, str]],
                               list[str]]] = {
             "none": ([], 0, [], []),
@@ -234,35 +239,39 @@ class DepartureFaults(Case):
             "twice": ([(-1, 1500), (-1, 1600)], 1, [("00:01:04:00", end, "2 frames late")],
                       [allowed.replace(" 2 frames", " 1 frame").replace("2 allows", "1 allows")
                        .replace(" on,", " to 00:01:03:24,")]),
-            "behind the first line": ([(2, 1001)], 0, [("00:00:41:00", end, "2 frames early")], []),
+            "after the first line": ([(2, 1001)], 0, [("00:00:41:00", end, "2 frames early")], []),
             "before the first line": ([(2, 1000)], 0, [], ["unclear"]),
             "a second before": ([(2, 975)], 0, [], []),
             "before the last line": ([(2, 1975)], 0, [("00:01:19:00", end, "2 frames early")], []),
-            "behind the last line": ([(2, 1976)], 0, [], ["unclear"]),
-            "just behind, but sent before": ([(2, 2001)], 0, [], ["unclear"]),
-            "a second behind": ([(2, 2026)], 0, [], [])}
+            "after the last line": ([(2, 1976)], 0, [], ["unclear"]),
+            "just after the part, but sent within": ([(2, 2001)], 0, [], ["unclear"]),
+            "a second after the part": ([(2, 2026)], 0, [], [])}
         for origin, (name, (steps, within, faults, notes)) in itertools.product(
                 (0, CLOCK - 1400 * TICKS), rows.items()):
             self.check(f"{name} from {origin}",
                        self.list_faults_and_notes(steps, within, origin=origin), (faults, notes))
 
-    def test_counts_steps_from_the_first_picture_on(self) -> None:
-        self.check("by a recording", self.list_faults_and_notes([(2, 900)], source=RECORDING),
-                   ([], []))
-        self.check("by the picture", self.list_faults_and_notes([(2, 900)], source=START)[0],
-                   [("00:00:40:00", "00:01:19:24", "2 frames early")])
-        places = [(899, 900), (999, 1000), (1000, 1001), (1998, 1999), (1999, 2000), (2000, 2001)]
-        several = [Departure(TICKS * pts, TICKS * since, 9) for since, pts in places]
+    def test_counts_jumps_from_the_first_picture_on_if_it_gives_the_clock(self) -> None:
+        self.check("the clock comes from a recording", self.list_faults_and_notes(
+            [(2, 900)], source=RECORDING), ([], []))
+        self.check("from the first picture", self.list_faults_and_notes(
+            [(2, 900)], source=START)[0], [("00:00:40:00", "00:01:19:24", "2 frames early")])
+        several = [Departure(pts=TICKS * (earlier + 1), earlier_pts=TICKS * earlier, ticks=9)
+                   for earlier in (899, 999, 1000, 1998, 1999, 2000)]
         for source, expected in ((GIVEN, [None, 9, 9, None]), (START, [9, 9, 9, 9, None])):
             departures = find_departures(several, TimedPart(1000, 2000, Clock(0, source)))
             self.check(source, [item.ticks for item in departures], expected)
-        for behind, both in ((1500, [9, -9]), (2500, [])):
-            pair = [Departure(TICKS * 990, TICKS * 989, 9),
-                    Departure(TICKS * behind, TICKS * (behind - 1), -9)]
-            self.check(f"back at {behind}", [item.ticks for item in find_departures(
-                pair, TimedPart(1000, 2000, Clock(0, GIVEN)))], both)
+
+    def test_counts_a_jump_before_the_part_if_the_pictures_come_back_within(self) -> None:
+        for back, expected in ((1500, [9, -9]), (2500, [])):
+            pair = [Departure(pts=TICKS * 990, earlier_pts=TICKS * 989, ticks=9),
+                    Departure(pts=TICKS * back, earlier_pts=TICKS * (back - 1), ticks=-9)]
+            self.check(f"back at {back}", [item.ticks for item in find_departures(
+                pair, TimedPart(1000, 2000, Clock(0, GIVEN)))], expected)
 
     def test_expects_pictures_up_to_the_last_teletext(self) -> None:
+        # A step back by two frames to picture 2480 is a jump if five pictures follow it. The last
+        # lead is that of frame 2475, and the Teletext goes on up to frame `last`.
         for last, expected in ((2484, []), (2485, ["00:01:38:24"])):
             lines = [*make_lead_survey_lines([]), f"steps {VIDEO} 3600 501 3600 501",
                      f"steps {VIDEO} -3600 2480 3600 2476",
@@ -275,7 +284,7 @@ class DepartureFaults(Case):
     def test_notes_a_missing_usual_step(self) -> None:
         chance = random.Random(1)
         steps = [(chance.randrange(-9, 9), frame) for frame in range(500, 2500, SECOND)]
-        lines = [line for line in make_lead_survey_lines([(by + 0.5, at) for by, at in steps])]
+        lines = make_lead_survey_lines([(by + 0.5, at) for by, at in steps])
         for name, survey, expected in (
                 ("at random", survey_extra_lines(lines),
                  [f"{DRIFT}: the video's decoding times have no usual step"]),
@@ -286,13 +295,15 @@ class DepartureFaults(Case):
 
 
 class Pairs(Case):
-    def test_reports_departures_of_recordings(self) -> None:
+    """Recordings with a picture in each frame, whose PTS jump against the Teletext."""
+
+    def test_reports_jumps_of_the_pictures(self) -> None:
         times = subtitle_times(20)
         stl = write_programme(self, times)
         pes = schedule_pes(self, stl, "--every", "10")
         begin, end = decode_pts(pes[0]) // TICKS - 25, decode_pts(pes[-1]) // TICKS + 25
         tci, tco = times[10][0], times[-1][1]
-        # Each row has the frames at which the pictures leave and may come back, and by how much.
+        # Arguments, frames at which the pictures leave and may come back, by how much, the verdict
         rows: list[tuple[str, list[int], float, str]] = [
             ("", [], 0, "accepted"), ("", [begin + 1500], 12, "refused"),
             ("", [begin + 1500], -3, "refused"), ("--within 3", [begin + 1500], -3, "accepted"),
@@ -317,7 +328,6 @@ class Pairs(Case):
                     f"{'early' if frames > 0 else 'late'} for viewers: the video's timestamps jump"
                     in item for item in judged_pair.said), judged_pair.said)
 
-
     def test_refuses_a_jump_of_video_and_pcr_just_before_the_end(self) -> None:
         times = subtitle_times(5)
         stl = write_programme(self, times)
@@ -335,34 +345,35 @@ class Pairs(Case):
 
 
 class AnnouncedJumps(Case):
+    """PES packets before some of which the stream announces a jump of the continuity counter."""
+
     def test_finds_announced_jumps_with_more_time_than_usual(self) -> None:
+        # The usual interval, the PES packets of the part, and the frames before and after each jump
         rows: list[tuple[int, tuple[int, int], list[tuple[int, int]]]] = [
             (1, (0, 7), [(2, 5), (6, 8)]), (2, (0, 7), [(2, 5)]), (3, (0, 7), []),
             (1, (0, 2), []), (1, (3, 7), [(6, 8)]), (1, (2, 3), [(2, 5)])]
         frames = [0, 1, 2, 5, 6, 8, 9, 12]
+        counter_jumps = [0, *(frames.index(frame) for frame in (2, 5, 5, 8)), 99]
         for origin, (usual, inside, wanted) in itertools.product((0, CLOCK - 5 * TICKS), rows):
             pts = [pts_of(frame, origin) for frame in frames]
-            packets = Packets(PID, [PacketRun(at, 1, item, 0, "-", "") for at,
-                                    item in enumerate(pts)],
-                              counter_jumps=[0, *(frames.index(frame) for frame in (2, 5, 5, 8)),
-                                             99])
+            packets = Packets(PID, [PacketRun(at, 1, item, 0, "-", "")
+                                    for at, item in enumerate(pts)], counter_jumps=counter_jumps)
             self.check(f"{origin} {usual} {inside}", find_announced_jumps(packets, inside, usual), [
                 (pts[frames.index(item)], pts[frames.index(other)]) for item, other in wanted])
 
-    def test_counts_jumps_with_more_time_than_usual(self) -> None:
+    def test_counts_the_announced_jumps_that_no_late_pes_packet_follows(self) -> None:
         frames = [0, 1, 3, 4, 7, 8, 12, 13]
+        # The usual interval, the frames before and after each late PES packet, and the other jumps
         rows: list[tuple[int, list[tuple[int, int]], int]] = [
             (0, [(1, 3), (3, 4), (4, 7), (7, 8), (8, 12)], 0),
             (1, [(1, 3), (4, 7), (8, 12)], 0), (2, [(4, 7), (8, 12)], 1), (3, [(8, 12)], 2),
             (4, [], 3)]
-        for origin, (apart, late, others) in itertools.product(
+        for origin, (interval, late, others) in itertools.product(
                 (0, *(CLOCK - frame * TICKS for frame in range(14))), rows):
             packets = Packets(PID, [PacketRun(at, 1, pts_of(frame, origin), 0, "-", "")
                                     for at, frame in enumerate(frames)],
                               counter_jumps=[2, 3, 4, 5, 6])
             recording: Any = SimpleNamespace(is_stream=True, packets=packets)
             part: Any = SimpleNamespace(judged_recording=(recording, None), pes=(0, 7))
-            reported = find_late_jumps(part, Pace(REGULAR, apart))
-            self.must(f"{origin} {apart}", reported == ([
-                (pts_of(item, origin), pts_of(other, origin)) for item, other in late], others),
-                      reported)
+            self.check(f"{origin} {interval}", find_late_jumps(part, Pace(REGULAR, interval)), ([
+                (pts_of(item, origin), pts_of(other, origin)) for item, other in late], others))

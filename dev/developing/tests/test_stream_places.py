@@ -5,7 +5,7 @@ import contextlib
 import io
 import itertools
 import os
-from typing import Optional, Tuple
+from typing import Iterable, Optional, Tuple
 
 from subtitles.common.command_line import Stop
 from subtitles.common.times import CLOCK, TICKS, pts_of
@@ -16,108 +16,124 @@ from subtitles.stream.gaps import (
 from subtitles.stream.packets import GapMarker, PCRStep, PacketRun, Packets
 from subtitles.stream.survey import ProgramMap, Survey
 from ..cited import find_long_readings
-from ..definitions import Library, count_lines_to_read
+from ..definitions import Definition, Library, count_lines_to_read
 from ..promises import list_indexed_clauses, find_unknown_clauses
 from .bench import Case, import_script
 from .parts import make_example_request
 
-
+PID, PCR_PID = 5, 0x200
 Jump = Tuple[int, int]  # PTS before and after a clock jump
 LossBounds = Tuple[Optional[int], Optional[int]]  # PTS before and after a loss
 
 
 class LossPlaces(Case):
+    """A recording with nine PES packets or gap markers, one per frame."""
+
     def test_lists_each_loss_once(self) -> None:
-        for shift in range(9):
-            pts = [TICKS * (at - shift) % CLOCK for at in range(9)]
+        for wrapped in range(9):  # number of PES packets before the wrap of the PTS
+            pts = [TICKS * (at - wrapped) % CLOCK for at in range(9)]
             jump, other = (pts[3], pts[5]), (pts[7], pts[8])
-            clocked = PCRStep(*jump, 9 * TICKS, 9, TICKS, 9, "broken")
-            mark, ends = GapMarker(4, pts[3], 2, 0), [GapMarker(0, None, 0, 0),
-                                                      GapMarker(8, pts[7], 0, 1)]
-            rows: list[tuple[list[GapMarker], list[PCRStep], list[Jump],
-                             list[tuple[LossBounds, bool]]]] = [
-                ([], [], [], []), ([], [], [jump], [(jump, True)]),
-                ([], [], [jump, other], [(jump, True), (other, True)]),
-                ([], [clocked], [jump], [(jump, False)]),
-                (ends, [], [], [((None, pts[1]), False), ((pts[7], None), False)]),
-                ([mark], [], [jump, other], [(jump, False), (other, True)])]
-            for marks, clocks, jumps, expected in rows:
-                missing = {item.number for item in marks}
-                own = [PacketRun(at, 1, None if at in missing else item, 0, "-", "",
-                                 fault=45 * (at in missing))
-                       for at, item in enumerate(pts)]
-                packets = Packets(5, own, gap_markers=marks, pcr_steps=clocks)
-                reported = [((item.before, item.after), item.is_announced)
-                            for item in find_loss_places(packets, jumps)]
-                self.must(f"{shift} {marks} {clocks} {jumps}", reported == expected, reported)
-                where = [line.partition(" (")[0] for line in describe_gap_markers(packets)]
-                self.must(f"{shift} {marks}: lines", where == [
+            late_pcr = PCRStep(*jump, 9 * TICKS, 9, TICKS, 9, "broken")
+            marker, ends = GapMarker(4, pts[3], 2, 0), [GapMarker(0, None, 0, 0),
+                                                        GapMarker(8, pts[7], 0, 1)]
+            # Gap markers, late PCRs, and announced jumps of the counter; and the PTS before and
+            # after each loss, and whether it is known only from an announced jump
+            rows: dict[str, tuple[list[GapMarker], list[PCRStep], list[Jump],
+                                  list[tuple[LossBounds, bool]]]] = {
+                "nothing": ([], [], [], []), "a jump": ([], [], [jump], [(jump, True)]),
+                "two jumps": ([], [], [jump, other], [(jump, True), (other, True)]),
+                "a late PCR at a jump": ([], [late_pcr], [jump], [(jump, False)]),
+                "gap markers at both ends": (ends, [], [], [((None, pts[1]), False),
+                                                            ((pts[7], None), False)]),
+                "a gap marker at one of two jumps": ([marker], [], [jump, other],
+                                                     [(jump, False), (other, True)])}
+            for name, (markers, pcr_steps, jumps, expected) in rows.items():
+                missing = {item.number for item in markers}
+                packets = Packets(PID, [
+                    PacketRun(at, 1, None if at in missing else item, 0, "-", "",
+                              fault=45 * (at in missing)) for at, item in enumerate(pts)],
+                                  gap_markers=markers, pcr_steps=pcr_steps)
+                self.check(f"{name}, {wrapped}", [
+                    ((item.before, item.after), item.is_announced)
+                    for item in find_loss_places(packets, jumps)], expected)
+                self.check(f"{name}, {wrapped}: lines about gap markers", [
+                    line.partition(" (")[0] for line in describe_gap_markers(packets)], [
                     f"between PTS {before} and {after}" if None not in (before, after) else
                     f"before PTS {after}" if before is None else f"after PTS {before}"
-                    for (before, after), _ in expected[:len(marks)]], where)
-        self.must("said", describe_loss(LossPlace(1, 2, is_announced=True)) ==
-                  "the interval between PES packets is unusually long, and the stream announces a "
-                  "jump of the continuity counter")
+                    for (before, after), _ in expected[:len(markers)]])
 
-    def test_merges_losses_between_the_same_pes_packets(self) -> None:
+    def test_describes_a_long_interval_at_an_announced_jump(self) -> None:
+        self.check("text", describe_loss(LossPlace(before=1, after=2, is_announced=True)),
+                   "the interval between PES packets is unusually long, and the stream announces a "
+                   "jump of the continuity counter")
+
+    def test_losses_overlap_if_both_may_be_in_one_interval(self) -> None:
+        # The frames before and after a loss, or `None` if no PES packet is before or after it
         ends = [None, *range(5)]
         pairs = [(first, last) for first, last in itertools.product(ends, ends)
                  if first is None or last is None or first < last]
         for origin, pair, other in itertools.product((0, CLOCK - 2 * TICKS), pairs, pairs):
             places = [LossPlace(begin, end) for begin, end in (
-                [None if at is None else (origin + TICKS * at) % CLOCK for at in item]
+                [None if at is None else pts_of(at, origin) for at in item]
                 for item in (pair, other))]
             (first, last), (begin, end) = ((-9 if item[0] is None else item[0],
                                             9 if item[1] is None else item[1])
                                            for item in (pair, other))
             self.assertEqual(do_overlap(*places), max(first, begin) < min(last, end), places)
 
-    def test_keeps_the_longer_of_two_losses(self) -> None:
-        for first, ticks in itertools.product((0, CLOCK - 4 * TICKS), ((2, 3), (3, 2), (3, 3))):
-            pts = [pts_of(at, first) for at in range(9)]
+    def test_uses_the_longest_pcr_step_that_fits_between_the_pts_at_a_gap_marker(self) -> None:
+        # The gap marker is number 4, in two frames between the PTS. A step of three frames between
+        # PCRs that are usually a frame apart means that two frames are missing.
+        for origin, steps in itertools.product((0, CLOCK - 4 * TICKS), ((2, 3), (3, 2), (3, 3))):
+            pts = [pts_of(at, origin) for at in range(9)]
             runs = [PacketRun(at, 1, None if at == 4 else pts[at], 0, "-", "") for at in range(9)]
-            packets = Packets(5, runs, gap_markers=[GapMarker(4, pts[3], 2, 0)], pcr_steps=[
-                PCRStep(pts[3], pts[5], item * TICKS, 9, TICKS, 9, "broken") for item in ticks])
-            reported = [item.missing for item in find_loss_places(packets)]
-            self.must(f"{first} {ticks}", reported == [2 * TICKS], reported)
+            packets = Packets(PID, runs, gap_markers=[GapMarker(4, pts[3], 2, 0)], pcr_steps=[
+                PCRStep(pts[3], pts[5], frames * TICKS, 9, TICKS, 9, "broken") for frames in steps])
+            self.check(f"{origin} {steps}", [item.missing for item in find_loss_places(packets)],
+                       [2 * TICKS])
 
 
 class LatePts(Case):
-    def test_measures_how_late_and_how_early_pts_are(self) -> None:
+    def test_the_pts_delay_and_lead_shorten_the_recorded_range(self) -> None:
+        # Ticks by which PTS are ahead of the PCR, once a second; by how many ticks a PTS in the
+        # last MAX_LATE samples is late at most, and in the first MAX_LATE samples ahead at most
         rows: list[tuple[list[int], int, int]] = [
             ([], 0, 0), ([9], 0, 9), ([-9], 9, 0), ([-9, -30, 5, 7, 6], 30, 7),
             ([-30, *[5] * MAX_LATE], 0, 5), ([*[5] * MAX_LATE, -30], 30, 5),
             ([-30, *[5] * (MAX_LATE - 1)], 30, 5), ([*[5] * MAX_LATE, 7], 0, 5),
             ([*[5] * (MAX_LATE - 1), 7], 0, 7)]
         for samples, late, ahead in rows:
-            packets = Packets(5,
-                              samples=[(at * SECOND, sample) for at, sample in enumerate(samples)])
-            known = Survey()
-            self.must(f"{samples}: no PCR", find_recorded_range(known, packets) is None)
-            known.programmes = [ProgramMap(1, 0x200, {5: 6})]
-            self.must(f"{samples}", find_pts_delay(packets) == late)
-            for first in (1000, CLOCK - 1, CLOCK - 8):
-                known.clocks[0x200] = first, 90_000
-                self.must(f"{samples}: reach", find_recorded_range(known, packets) == (
-                    (first + ahead) % CLOCK, 90_000 - late))
+            packets = Packets(PID, samples=[(at * SECOND, sample)
+                                            for at, sample in enumerate(samples)])
+            self.check(f"{samples}", find_pts_delay(packets), late)
+            known, last_pcr = Survey(), SECOND
+            self.check(f"{samples}: no PCR", find_recorded_range(known, packets), None)
+            known.programmes = [ProgramMap(1, PCR_PID, {PID: 6})]
+            for first_pcr in (1000, CLOCK - 1, CLOCK - 8):
+                known.clocks[PCR_PID] = first_pcr, last_pcr
+                self.check(f"{samples}: range", find_recorded_range(known, packets),
+                           ((first_pcr + ahead) % CLOCK, last_pcr - late))
 
 
 class PaceOptions(Case):
     def test_passes_the_pace_to_check(self) -> None:
-        for word, pace in (("none", None), ("1", 1), ("0025", 25), ("2160000", 2160000)):
-            request = make_example_request("one.stl", "one.ts", "--pace", word)
-            given = ["--pace", str(pace)] if pace else []
-            self.check(word, (request.list_check_arguments(), request.pace, REQUEST.to_json(
-                request)["pace"]), (["--complete", *given], pace, str(pace or "none")))
-        self.must("left out",
-                  REQUEST.to_json(make_example_request("one.stl", "one.ts"))["pace"] is None)
-        for word in ("0", "", "-1", "x", "None", "2160001", "9" * 5000, "1.5", "\u0661"):
-            with self.assertRaises(Stop, msg=word):
-                make_example_request("one.stl", "one.ts", "--pace", word)
+        for value, pace in (("none", None), ("1", 1), ("0025", 25), ("2160000", 2160000)):
+            request = make_example_request("one.stl", "one.ts", "--pace", value)
+            args = ["--pace", str(pace)] if pace else []
+            self.check(value, (request.list_check_arguments(), request.pace, REQUEST.to_json(
+                request)["pace"]), (["--complete", *args], pace, str(pace or "none")))
+
+    def test_the_result_has_no_pace_if_none_was_requested(self) -> None:
+        self.check("pace", REQUEST.to_json(make_example_request("one.stl", "one.ts"))["pace"], None)
+
+    def test_rejects_a_pace_that_is_no_number_of_frames_of_a_day(self) -> None:
+        for value in ("0", "", "-1", "x", "None", "2160001", "9" * 5000, "1.5", "\u0661"):
+            with self.assertRaises(Stop, msg=value):
+                make_example_request("one.stl", "one.ts", "--pace", value)
 
 
-# Test tools/reading-list in a repository with two crates.
-
+# A repository with two crates, for tests of tools/reading-list. `high` uses `pair` and `size` of
+# `low`, and has another `size` of its own.
 FILES = {
     "crates.txt": "# name: what it stands on\nlow:\nhigh: low\n",
     "crates/low/specs/Words.antt": """-- Words.
@@ -172,17 +188,23 @@ pub fn count(n: u64) -> u64
 }
 
 
-def library(case: Case) -> Library:
-    for name, text in FILES.items():
-        os.makedirs(os.path.dirname(case.path(name)), exist_ok=True)
-        case.write(name, text.encode())
-    return Library(case.folder)
+def format_names(definitions: Iterable[Definition]) -> str:
+    return " ".join(f"{item.file.crate}.{item.name}" for item in definitions)
 
 
 class ReadingLists(Case):
-    def test_finds_definitions_by_their_imports(self) -> None:
-        them = library(self)
-        for name, want in {
+    """The definitions in `FILES` that somebody has to read to understand a definition, a function
+    or one of its clauses."""
+
+    def setUp(self) -> None:
+        super().setUp()
+        for name, text in FILES.items():
+            os.makedirs(os.path.dirname(self.path(name)), exist_ok=True)
+            self.write(name, text.encode())
+        self.library = Library(self.folder)
+
+    def test_lists_definitions_after_their_dependencies(self) -> None:
+        for name, expected in {
                 "total": "low.size low.pair high.total",
                 "high/Things.size": "high.size",
                 "IsSize": "low.size high.IsSize",
@@ -190,50 +212,39 @@ class ReadingLists(Case):
                 "high/count.other": "low.size high.size high.IsSize",
                 "law": "low.size high.size high.IsSize",
                 "count": "low.size low.pair high.size high.total high.IsSize"}.items():
-            result = " ".join(f"{item.file.crate}.{item.name}"
-                              for item in them.list_reading(name)[0])
-            self.must(name, result == want, result)
-        total = count_lines_to_read(*them.list_reading("total"))
-        self.must("counts, with no comment", total == (3, 6, 2), total)
+            self.check(name, format_names(self.library.list_reading(name)[0]), expected)
+
+    def test_counts_definitions_lines_without_comments_and_names_of_std(self) -> None:
+        self.check("total", count_lines_to_read(*self.library.list_reading("total")), (3, 6, 2))
 
     def test_lists_definitions_before_their_dependencies(self) -> None:
-        them = library(self)
-        for name, want in {
+        for name, expected in {
                 "total": "high.total low.pair low.size", "law": "high.IsSize high.size low.size",
                 "count": "high.total high.IsSize high.size low.pair low.size"}.items():
-            result = " ".join(f"{item.file.crate}.{item.name}"
-                              for item in them.sort_highest_first(name))
-            self.must(name, result == want, result)
+            self.check(name, format_names(self.library.sort_highest_first(name)), expected)
 
     def test_prints_the_names_of_std(self) -> None:
-        them = library(self)
         with contextlib.redirect_stdout(io.StringIO()) as out:
-            import_script("reading-list").print_external_names(them, them.list_reading("total")[1])
+            import_script("reading-list").print_external_names(
+                self.library, self.library.list_reading("total")[1])
         self.check("printed", out.getvalue(),
                    "== types of the code\n\n== names of std\nℕ ◌+◌\n\n")
 
     def test_limits_the_lines_to_read(self) -> None:
-        library(self)
-        reported = list(find_long_readings(self.folder, {"total": 6, "high/count.other": 2}))
-        self.must("lines", reported == [
-            None, "high/count.other needs 6 lines to be read, at most 2 are allowed"], reported)
+        most_lines = {"total": 6, "high/count.other": 2}
+        self.check("messages", [*find_long_readings(self.folder, most_lines)], [
+            None, "high/count.other needs 6 lines to be read, at most 2 are allowed"])
 
     def test_refuses_ambiguous_and_unknown_names(self) -> None:
-        them = library(self)
-        for name, why in (("size", "high/Things.size"), ("none", "no definition"),
-                          ("count.none", "clause")):
-            try:
-                reported = str(them.list_reading(name))
-            except Stop as reason:
-                reported = str(reason)
-            self.must(name, why in reported, reported)
+        for name, message in (("size", "high/Things.size"), ("none", "no definition"),
+                              ("count.none", "clause")):
+            with self.subTest(name), self.assertRaisesRegex(Stop, message):
+                self.library.list_reading(name)
 
-    def test_parses_the_index_of_definitions(self) -> None:
-        them = library(self)
-        text = "| one | two |\n| a | `high/count.other`, `high/law` |\n| b | `high/law` |\n"
-        self.must("clauses", list_indexed_clauses(text) == ["high/count.other", "high/law"],
-                  list_indexed_clauses(text))
-        self.must("all there", find_unknown_clauses(text, them) == [])
-        reported = find_unknown_clauses(text.replace("count.other", "count.gone"), them)
-        self.must("one gone", len(reported) == 1 and "high/count.gone is no" in reported[0],
-                  reported)
+    def test_finds_clauses_of_the_index_that_the_sources_lack(self) -> None:
+        index = "| one | two |\n| a | `high/count.other`, `high/law` |\n| b | `high/law` |\n"
+        self.check("clauses", list_indexed_clauses(index), ["high/count.other", "high/law"])
+        self.check("all exist", find_unknown_clauses(index, self.library), [])
+        messages = find_unknown_clauses(index.replace("count.other", "count.gone"), self.library)
+        self.must("one does not exist",
+                  len(messages) == 1 and "high/count.gone is no" in messages[0], messages)
