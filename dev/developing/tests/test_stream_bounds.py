@@ -14,7 +14,7 @@ from subtitles.common.times import CLOCK, EARLY_TICKS, FRAMES_A_SECOND, NO_FRAME
 from subtitles.recording.recording import Recording
 from subtitles.request.request import Unclear
 from subtitles.stream.gaps import (
-    LossPlace, MAX_LISTED_PLACES, SECOND, describe_gap_markers, is_within, limit_lines)
+    LossPlace, SECOND, describe_gap_markers, is_within, limit_lines)
 from subtitles.stream.pace import DEFAULT_REPEAT_LIMIT, Pauses, Silence, select_idle_silences
 from subtitles.stream.repeats import MAX_CUE_DISTANCE, measure_repeats
 from subtitles.stream.packets import GapMarker, PCRStep, PacketRun, Packets, Texts
@@ -22,25 +22,32 @@ from subtitles.stream.receiver import (
     BLANK_PAGE, HIT, OLD, OLD_PAGE, ReceivedPackets, SpanIndex, Timeline, clear_unsent_cells,
     decode_pages_around)
 from .parts import make_example_request
+from .test_formats_files import refusal
+from .transmissions import PAGE
 
 ORIGINS = 0, 7, CLOCK - 100 * SECOND - 5, CLOCK - 20 * SECOND, CLOCK - 5
 
 
-def pts_at(seconds: float | None, origin: int = 0) -> int | None:
-    return None if seconds is None else round(origin + seconds * SECOND) % CLOCK
+def move_pts(ticks: int | None, origin: int) -> int | None:
+    return None if ticks is None else (origin + ticks) % CLOCK
 
 
 class Silences(unittest.TestCase):
-    def test_a_silence_needs_time_for_missing_packets(self) -> None:
-        for origin, (before, after, ticks, wanted) in itertools.product(ORIGINS, (
-                (0, 2, 2 * SECOND, True), (0, 2, 2 * SECOND + 1, False), (0, 2, 1, True),
-                (None, 2, 9 * SECOND, True), (0, None, 9 * SECOND, True))):
-            place = LossPlace(pts_at(before, origin), pts_at(after, origin))
-            self.assertEqual(is_within(ticks, place), wanted, (origin, before, after, ticks))
+    """Intervals without PES packets, and the places of losses."""
 
-    def test_ignores_silences_in_which_nothing_was_expected(self) -> None:
+    def test_a_loss_is_at_most_as_long_as_the_interval_between_the_pts(self) -> None:
+        # The PTS before and after a loss, if any, and the ticks that are missing
+        for origin, (before, after, missing, expected) in itertools.product(ORIGINS, (
+                (0, 2 * SECOND, 2 * SECOND, True), (0, 2 * SECOND, 2 * SECOND + 1, False),
+                (0, 2 * SECOND, 1, True), (None, 2 * SECOND, 9 * SECOND, True),
+                (0, None, 9 * SECOND, True))):
+            place = LossPlace(move_pts(before, origin), move_pts(after, origin))
+            self.assertEqual(is_within(missing, place), expected, (origin, before, after, missing))
+
+    def test_a_silence_is_idle_in_a_pause_of_the_programme_or_if_every_allows_it(self) -> None:
         every, begin, end = 400, 1000, 1500
         pause: Pauses = [(begin, end)]
+        # First and last frame of the silence, pauses of the programme, whether the silence is idle
         rows: list[tuple[tuple[int, int], Pauses, bool]] = [
             ((0, 50), [], False), ((0, DEFAULT_REPEAT_LIMIT), [], False),
             ((0, DEFAULT_REPEAT_LIMIT + 1), [], True),
@@ -55,23 +62,27 @@ class Silences(unittest.TestCase):
             ((940, 980), [(940, None)], True), ((939, 980), [(940, None)], False)]
         for (first, last), pauses, expected in rows:
             for is_near in (False, True):
-                lull = Silence(first, last, is_near)
-                self.assertEqual(select_idle_silences([lull], every, pauses),
-                                 [lull] * (expected or is_near), (first, last, pauses))
-        # An interval without PES packets at the end of a pause is normal if most other pauses with
-        # at least the same length also end with such an interval.
-        silence = Silence(begin + 400, end, False)
-        of_others: list[tuple[list[int], bool]] = [
+                silence = Silence(first, last, is_near_other_silence=is_near)
+                self.assertEqual(select_idle_silences([silence], every, pauses),
+                                 [silence] * (expected or is_near), (first, last, pauses))
+
+    def test_a_silence_is_idle_if_most_pauses_that_are_as_long_end_with_one(self) -> None:
+        begin, end = 1000, 1500
+        silence = Silence(begin + 400, end, is_near_other_silence=False)
+        # Lengths of other pauses, which have no silence
+        rows: list[tuple[list[int], bool]] = [
             ([], True), ([500], False), ([499], True), ([499, 499], True), ([500, 499], False),
             ([600, 700], False)]
-        for others, expected in of_others:
-            pauses = [(begin, end), *((5000 * at, 5000 * at + length)
-                                      for at, length in enumerate(others, 1))]
+        for others, expected in rows:
+            pauses: Pauses = [(begin, end), *((5000 * at, 5000 * at + length)
+                                              for at, length in enumerate(others, 1))]
             self.assertEqual(select_idle_silences([silence], 50, pauses), [silence] * expected,
                              others)
 
     def test_finds_the_longest_time_without_a_header(self) -> None:
         steady = [*range(0, 100, 10)]
+        # The frames of the headers, the frame of the last PES packet, and of cues; the number of
+        # headers, the longest interval, its first frame, and the usual interval
         rows: list[tuple[list[float], float | None, list[int], tuple[object, ...] | None]] = [
             ([], None, [], None), ([], 9, [], None), ([5, 5], None, [], None),
             ([5], 5, [], (1, 1, 5, None)), ([0, 10, 20, 25], None, [], (4, 10, 0, None)),
@@ -81,19 +92,21 @@ class Silences(unittest.TestCase):
             ([*steady], None, [], (10, 10, 0, 10)), ([*steady], 99, [20, 50], (10, 10, 0, 10)),
             ([*steady], None, [20, 40, 60, 80], (10, 10, 0, None))]
         origins = *ORIGINS, *(CLOCK - TICKS * item for item in (5, 10, 19, 39, 40, 99))
-        for origin, (frames, last, cues, wanted) in itertools.product(origins, rows):
+        for origin, (frames, last, cues, expected) in itertools.product(origins, rows):
             pts = [round(origin + TICKS * item) % CLOCK for item in frames]
             end = None if last is None else round(origin + TICKS * last) % CLOCK
             repeats = measure_repeats(pts, end, origin, [*zip(cues, cues[1:])])
-            self.assertEqual(repeats and (*repeats[:4],), wanted, (origin, frames, last, cues))
+            self.assertEqual(repeats and (*repeats[:4],), expected, (origin, frames, last, cues))
 
-    def test_prints_twenty_losses_and_counts_the_others(self) -> None:
-        for count in (0, 1, MAX_LISTED_PLACES - 1, MAX_LISTED_PLACES, MAX_LISTED_PLACES + 1,
-                      MAX_LISTED_PLACES + 2):
+    def test_limits_a_list_to_twenty_lines_and_counts_the_others(self) -> None:
+        for count, last_line in ((0, ""), (1, ""), (19, ""), (20, ""),
+                                 (21, "and at 1 more place"), (22, "and at 2 more places")):
             lines = [f"{number}" for number in range(count)]
-            more = count - MAX_LISTED_PLACES
-            reported = [f"and at {more} more place{'s' * (more > 1)}"] * (more > 0)
-            self.assertEqual(limit_lines(lines), lines[:MAX_LISTED_PLACES] + reported, count)
+            self.assertEqual(limit_lines(lines), lines[:20] + [last_line] * bool(last_line), count)
+
+    def test_describes_nineteen_of_more_than_twenty_gap_markers(self) -> None:
+        for count, last_line in ((0, ""), (1, ""), (19, ""), (20, ""),
+                                 (21, "and at 2 more places"), (22, "and at 3 more places")):
             pts = [SECOND + at * TICKS for at in range(2 * count + 1)]
             packets = Packets(5, [PacketRun(at, 1, None if at % 2 else item, 0, "", "")
                                   for at, item in enumerate(pts)])
@@ -101,10 +114,8 @@ class Silences(unittest.TestCase):
                                    for at in range(1, 2 * count, 2)]
             packets.pcr_steps = [PCRStep(TICKS * 90, TICKS * 91, TICKS * 9, 9, 1, 9, "broken")]
             result = describe_gap_markers(packets)
-            others = [line for line in result if line.startswith("and at")]
-            self.assertEqual((len(result), others), (
-                min(count, MAX_LISTED_PLACES), [f"and at {more + 1} more places"] * (more > 0)),
-                             count)
+            self.assertEqual((len(result), [line for line in result if line.startswith("and at")]),
+                             (min(count, 20), [last_line] * bool(last_line)), count)
             times = f"PTS {SECOND} and {SECOND + 2 * TICKS} (00:00:00:00 and 00:00:00:02 after " \
                 "the first PTS)"
             self.assertEqual(result[:1], [f"between {times}: 1 TS packet was lost"][:count], count)
@@ -112,86 +123,88 @@ class Silences(unittest.TestCase):
 
 class FirstPictures(unittest.TestCase):
     def test_uses_the_later_of_last_pts_and_pcr(self) -> None:
-        for origin, (pts, pcr, last) in itertools.product(ORIGINS, (
+        for origin, (pts, pcr, expected) in itertools.product(ORIGINS, (
                 (None, None, None), (4, None, 4), (None, 7, 7), (4, 7, 7), (7, 4, 7))):
-            clock, begun, expected = ((None if item is None else (origin + item) % CLOCK)
-                                      for item in (pcr, pts, last))
-            known: Any = SimpleNamespace(packets=Packets(5, last_pts=begun), survey=SimpleNamespace(
-                get_pcr_range=lambda _: None if clock is None else (0, clock)))
-            self.assertEqual(Recording.find_last_time(known), expected, (origin, pts, pcr))
+            last_pcr = move_pts(pcr, origin)
+            recording: Any = SimpleNamespace(
+                packets=Packets(5, last_pts=move_pts(pts, origin)), survey=SimpleNamespace(
+                    get_pcr_range=lambda _: None if last_pcr is None else (0, last_pcr)))
+            self.assertEqual(Recording.find_last_time(recording), move_pts(expected, origin),
+                             (origin, pts, pcr))
 
-    def test_computes_ticks_after_a_frame(self) -> None:
-        for origin, (times, exact, near) in itertools.product(ORIGINS, (
-                ([0, 0, 5], 0, 0), ([5, 5, 0], 5, 5), ([EARLY_TICKS, 1800, 1800], 1800,
-                                                       EARLY_TICKS),
-                ([EARLY_TICKS + 1, 1800, 1800], 1800, 1800), ([-EARLY_TICKS, 1800, 1800], 1800,
-                                                              TICKS - EARLY_TICKS),
-                ([-EARLY_TICKS - 1, 1800, 1800], 1800, 1800))):
-            packets = Packets(5,
-                              [PacketRun(at, 1, (origin + TICKS * (at + 3) + item) % CLOCK, 0, "",
-                                         "")
-                               for at, item in enumerate(times)])
+    def test_finds_the_most_common_distance_of_pts_from_the_frames_of_pictures(self) -> None:
+        # Ticks by which PTS follow the start of a frame, and the distance without and with --within
+        early, half = EARLY_TICKS, TICKS // 2
+        for origin, (ticks, most_common, near_frame) in itertools.product(ORIGINS, (
+                ([0, 0, 5], 0, 0), ([5, 5, 0], 5, 5), ([early, half, half], half, early),
+                ([early + 1, half, half], half, half),
+                ([-early, half, half], half, TICKS - early),
+                ([-early - 1, half, half], half, half))):
+            packets = Packets(5, [
+                PacketRun(at, 1, (origin + TICKS * (at + 3) + item) % CLOCK, 0, "", "")
+                for at, item in enumerate(ticks)])
             result = [find_frame_offset(packets, origin, within) for within in (0, 1)]
-            self.assertEqual(result, [exact, near], (origin, times))
+            self.assertEqual(result, [most_common, near_frame], (origin, ticks))
 
     def test_refuses_subtitles_before_and_after_the_recording(self) -> None:
+        # By the TCP, the recording has the frames 100 to 1000; its last PTS may be unknown.
         request, last = make_example_request("a.stl", "a.ts"), 1000
-        for origin, (begin, end, is_told, is_refused) in itertools.product((
+        for origin, (begin, end, is_last_known, is_refused) in itertools.product((
                 *ORIGINS, CLOCK - last * TICKS), (
                 (100, last + FRAMES_A_SECOND, True, False),
                 (100, last + FRAMES_A_SECOND + 1, True, True),
                 (100, last + FRAMES_A_SECOND + 1, False, False), (99, 200, True, True))):
-            began = StartClock(Clock(origin, TCP), [], 100)
-            pts = (origin + TICKS * last) % CLOCK if is_told else None
-            try:
-                refuse_outside_recording(request, began, begin, end, pts)
-                result = False
-            except Unclear:
-                result = True
-            self.assertEqual(result, is_refused, (origin, begin, end))
+            start = StartClock(Clock(origin, TCP), [], 100)
+            pts = (origin + TICKS * last) % CLOCK if is_last_known else None
+            self.assertEqual(is_refused, bool(refusal(lambda: refuse_outside_recording(
+                request, start, begin, end, pts), Unclear)), (origin, begin, end))
             with self.assertRaises(Unclear):  # the recording ends with the programme's first frame
-                refuse_outside_recording(request, began._replace(frame=0), 0,
+                refuse_outside_recording(request, start._replace(frame=0), 0,
                                          FRAMES_A_SECOND + 1, origin)
 
 
 class ReceivedFrames(unittest.TestCase):
+    """PES packets as a receiver gets them, with the page 888 and frame 0 at the PTS 0."""
+
     # Runs of PES packets: the number of the first packet, and the frame of each packet.
     RUNS = ((0, [10]), (1, [11, 12, 13]), (6, [20, 20, 21]), (9, [30]))
 
     def test_finds_the_frames_around_a_pes_packet(self) -> None:
-        order = Timeline(Packets(5), (0, 0x88), 0)
+        received = Timeline(Packets(5), PAGE, 0)
         for first, frames in self.RUNS:
             run = PacketRun(first, len(frames), TICKS * frames[0], TICKS, "h", "")
-            self.assertTrue(order.add_run(run, frames), (first, frames))
+            self.assertTrue(received.add_run(run, frames), (first, frames))
         known = {first + at: frame for first, frames in self.RUNS
                  for at, frame in enumerate(frames)}
         for number in range(-1, 12):
             before = [frame for other, frame in known.items() if other < number]
             after = [frame for other, frame in known.items() if other > number]
-            self.assertEqual((order.find_frame_before(number), order.find_frame_after(number)),
-                             (before[-1] if before else None, after[0] if after else None), number)
+            self.assertEqual(
+                (received.find_frame_before(number), received.find_frame_after(number)),
+                (before[-1] if before else None, after[0] if after else None), number)
         for frame in range(9, 32):
-            self.assertEqual([run.first for run in order.list_frame_runs(frame)],
+            self.assertEqual([run.first for run in received.list_frame_runs(frame)],
                              [number for number, item in known.items() if item == frame], frame)
-        self.assertEqual((order.first, order.last, order.count), (10, 30, 8))
+        self.assertEqual((received.first, received.last, received.count), (10, 30, 8))
         self.assertEqual(ReceivedPackets().first, NO_FRAME)
 
-    def test_finds_completely_received_frames(self) -> None:
+    def test_a_span_was_received_before_a_step_back_and_away_from_gaps_and_losses(self) -> None:
+        # The frames of four PES packets, and the one before which there is a gap marker (4: none)
         for frames, gap in itertools.product(itertools.product(range(4), repeat=4), range(5)):
             lost = [Span(3, 3)] * (gap % 2)
-            order = ReceivedPackets(lost)
+            received = ReceivedPackets(lost)
             for at, frame in enumerate(frames):
-                order.is_uncertain = order.is_uncertain or at == gap
-                order.add_run(PacketRun(at, 1, 0, 0, "h", ""), [frame])
-            falls = [at for at in range(1, 4) if frames[at] < frames[at - 1]]
-            count = falls[0] if falls else 4
-            doubts = [Span(frames[gap - 1] if gap else 0, frames[gap])] if gap < count else []
-            self.assertEqual((order.count, order.halt, order.uncertain_spans), (
-                count, falls[0] if falls else None, doubts), (frames, gap))
+                received.is_uncertain = received.is_uncertain or at == gap
+                received.add_run(PacketRun(at, 1, 0, 0, "h", ""), [frame])
+            steps_back = [at for at in range(1, 4) if frames[at] < frames[at - 1]]
+            count = steps_back[0] if steps_back else 4
+            uncertain = [Span(frames[gap - 1] if gap else 0, frames[gap])] if gap < count else []
+            self.assertEqual((received.count, received.halt, received.uncertain_spans), (
+                count, steps_back[0] if steps_back else None, uncertain), (frames, gap))
             for first, last in itertools.combinations_with_replacement(range(5), 2):
-                is_seen = (not falls or last <= frames[count - 1]) and not any(
-                    item.first <= last and first <= item.last for item in doubts + lost)
-                self.assertEqual(order.was_received(first, last), is_seen, (frames, gap))
+                is_known = (not steps_back or last <= frames[count - 1]) and not any(
+                    item.first <= last and first <= item.last for item in uncertain + lost)
+                self.assertEqual(received.was_received(first, last), is_known, (frames, gap))
 
     def test_finds_overlapping_spans(self) -> None:
         some = [Span(*item) for item in itertools.combinations_with_replacement(range(4), 2)]
@@ -201,144 +214,167 @@ class ReceivedFrames(unittest.TestCase):
                     item.first <= last and first <= item.last for item in several), (first, last))
 
     @staticmethod
-    def timeline(sent: str, **more: Any) -> Timeline:
-        """Return a timeline of PES packets.
+    def make_timeline(sent: str, **more: Any) -> Timeline:
+        """Return a timeline of PES packets. `more` contains further arguments of `Timeline`.
 
-        `sent` contains FRAME:FLAGS or FRAME:FLAGS:TEXT for each PES packet. A `!` after FRAME
-        stands for a faulty PES packet. `more` contains further arguments of `Timeline`.
+        `sent` contains FRAME:FLAGS or FRAME:FLAGS:TEXT for each PES packet, with the text of row 20
+        after it. A `!` after FRAME stands for a faulty PES packet. The flags are h (page header), e
+        (erase page), o (the page is open after it), c (closed) and s (stray row).
         """
         packets = Packets(5)
         for number, word in enumerate(filter(None, sent.split(" "))):
-            frame, does, *reported = word.split(":")
+            frame, flags, *texts = word.split(":")
             packets.runs.append(PacketRun(number, 1, round(TICKS * float(frame.rstrip("!"))), 0,
-                                          does, "0" * ("h" in does), fault=33 * ("!" in frame)))
+                                          flags, "0" * ("h" in flags), fault=33 * ("!" in frame)))
             packets.decoded_rows += [(number, ((20, text.encode("latin-1").ljust(40)),))
-                                     for text in reported]
-        return Timeline(packets, (0, 0x88), 0, **more)
+                                     for text in texts]
+        return Timeline(packets, PAGE, 0, **more)
 
     def test_decodes_the_transmitted_pages(self) -> None:
+        # PES packets (see `make_timeline`), decoded texts with their first frames, frames in which
+        # the page opens or closes, and frames with a header
         rows: list[tuple[str, str, str, list[int], list[int]]] = [
-            ("none", "", "", [], []), ("before a header", "5:c 7:o:a 10:heo:b", "10 b", [10], [10]),
-            ("a space that was hit", "10:heo:a\xa0b", "10 a b", [10], [10]),
-            ("there and back", "10:heo:a 20:c 30:heo:a 40:c", "10 a", [10, 20, 30, 40], [10, 30]),
-            ("in one frame", "10:heo:a 20:c 20:heo 30:c", "10 a", [10, 30], [10, 20]),
-            ("twice in a frame", "10:heo:a 10:ho:b 20:ho", "10 b", [10], [10, 20]),
-            ("twice in a later one", "10:heo:a 20:ho:b 20:ho", "10 a 20 b", [10], [10, 20]),
-            ("one not heard", "10:heo:a 15!:heo:b 30:ho", "10 a", [10], [10, 30]),
-            ("nor one behind it", "10:heo:a 15!:heo:b 16!:- 30:ho", "10 a", [10], [10, 30]),
-            ("one of no frame", "10:heo:a 15.5:heo:b 30:ho", "10 a", [10], [10, 30]),
-            ("one not heard, nor a header before it", "5:o:a 10!:h 20:ho", "", [20], [20]),
-            ("then erased", "10:heo:a 15!:heo:b 30:heo", "10 a 30 b", [10], [10, 30]),
-            ("then told", "10:heo:a 15!:heo:b 20:o:c 30:ho", "10 a 20 c", [10], [10, 30])]
-        for name, sent, pages, turns, sendings in rows:
-            decoded = self.timeline(sent)
+            ("nothing", "", "", [], []),
+            ("before a header", "5:c 7:o:a 10:heo:b", "10 b", [10], [10]),
+            ("a space with a parity error", "10:heo:a\xa0b", "10 a b", [10], [10]),
+            ("repeated", "10:heo:a 20:c 30:heo:a 40:c", "10 a", [10, 20, 30, 40], [10, 30]),
+            ("closed and opened in a frame", "10:heo:a 20:c 20:heo 30:c", "10 a", [10, 30],
+             [10, 20]),
+            ("two texts in a frame", "10:heo:a 10:ho:b 20:ho", "10 b", [10], [10, 20]),
+            ("two headers in a later frame", "10:heo:a 20:ho:b 20:ho", "10 a 20 b", [10], [10, 20]),
+            ("a faulty one", "10:heo:a 15!:heo:b 30:ho", "10 a", [10], [10, 30]),
+            ("two faulty ones", "10:heo:a 15!:heo:b 16!:- 30:ho", "10 a", [10], [10, 30]),
+            ("one off the frames", "10:heo:a 15.5:heo:b 30:ho", "10 a", [10], [10, 30]),
+            ("a faulty first header", "5:o:a 10!:h 20:ho", "", [20], [20]),
+            ("erased after a faulty one", "10:heo:a 15!:heo:b 30:heo", "10 a 30 b", [10], [10, 30]),
+            ("another text after a faulty one", "10:heo:a 15!:heo:b 20:o:c 30:ho", "10 a 20 c",
+             [10], [10, 30])]
+        for name, sent, pages, open_changes, header_frames in rows:
+            decoded = self.make_timeline(sent)
             result = " ".join(f"{frame} {page[19].decode().strip()}"
                               for frame, page in zip(decoded.frames, decoded.pages))
             self.assertEqual((result, [*decoded.open_changes], [*decoded.header_frames]),
-                             (pages, turns, sendings),
-                             name)
-            self.assertEqual(decoded.find_closed_frame(99), None if len(turns) % 2 else 99, name)
+                             (pages, open_changes, header_frames), name)
+            is_open = len(open_changes) % 2 == 1
+            self.assertEqual(decoded.find_closed_frame(99), None if is_open else 99, name)
 
-    def test_handles_steps_back_and_losses(self) -> None:
+    def test_stops_at_a_step_back_after_the_first_frame_of_the_programme(self) -> None:
         for frame, halt in ((299, None), (300, 2), (310, 2)):
-            decoded = self.timeline(f"200:he {frame}:he 290:he", begin=300)
+            decoded = self.make_timeline(f"200:he {frame}:he 290:he", begin=300)
             self.assertEqual(decoded.halt, halt, frame)
-        twice = "10:heo:a 10:c 11:c"
-        decoded = self.timeline(twice)
+        decoded = self.make_timeline("200:he 310:he 200:he 400:he", begin=300)
+        self.assertEqual((decoded.halt, decoded.last), (2, 310))
+
+    def test_two_pes_packets_of_a_frame_are_no_step_back(self) -> None:
+        decoded = self.make_timeline("10:heo:a 10:c 11:c")
         self.assertEqual((decoded.halt, [run.first for run in decoded.list_frame_runs(10)]),
                          (None, [0, 1]))
-        before, behind = "200:heos:a 205!:he 220:c ", "150:heos:b 160!:h 170:c 310:ho:c"
-        alone, both = (self.timeline(sent, begin=300) for sent in (behind, before + behind))
+
+    def test_forgets_all_pes_packets_before_a_step_back_before_the_programme(self) -> None:
+        before, after = "200:heos:a 205!:he 220:c ", "150:heos:b 160!:h 170:c 310:ho:c"
+        alone, both = (self.make_timeline(sent, begin=300) for sent in (after, before + after))
         for name in ("frames", "pages", "open_changes", "header_frames", "erasure_frames",
                      "stray_rows", "uncertain_spans", "begins", "ends", "count", "first", "last",
                      "states", "state_frames"):
             self.assertEqual(getattr(both, name), getattr(alone, name), name)
         self.assertEqual([*both.pauses], [*alone.pauses])
-        decoded = self.timeline("200:he 310:he 200:he 400:he", begin=300)
-        self.assertEqual((decoded.halt, decoded.last), (2, 310))
-        self.assertEqual([self.timeline(twice, first_packet_frame=came).first
-                          for came in (NO_FRAME, 0, 7)],
-                         [10, 0, 7])
-        decoded = self.timeline(twice, lost=[Span(5, 6)])
+
+    def test_begins_at_the_given_frame_of_the_first_pes_packet(self) -> None:
+        self.assertEqual([self.make_timeline("10:heo:a 11:c", first_packet_frame=frame).first
+                          for frame in (NO_FRAME, 0, 7)], [10, 0, 7])
+
+    def test_knows_the_frames_of_losses(self) -> None:
+        decoded = self.make_timeline("10:heo:a 11:c", lost=[Span(5, 6)])
         self.assertEqual([decoded.lost.includes(*item) for item in ((6, 9), (7, 9))], [True, False])
+
+    def test_stray_rows_stay_until_survey_prints_others(self) -> None:
         runs = [PacketRun(0, 3, 0, 5 * TICKS, "s", ""), PacketRun(3, 1, 20 * TICKS, 0, "s", ""),
                 PacketRun(4, 1, 30 * TICKS, 0, "s", "")]
-        texts = [((20, b"a"),), ((20, b"b"),)]
-        decoded = Timeline(Packets(5, runs, stray_rows=[(0, texts[0]), (4, texts[1])]), (0, 0x88),
-                           0)
-        self.assertEqual(decoded.stray_rows, [(Span(0, 10), texts[0]), (Span(20, 20), texts[0]),
-                                              (Span(30, 30), texts[1])])
+        a, b = ((20, b"a"),), ((20, b"b"),)
+        decoded = Timeline(Packets(5, runs, stray_rows=[(0, a), (4, b)]), PAGE, 0)
+        self.assertEqual(decoded.stray_rows, [(Span(0, 10), a), (Span(20, 20), a),
+                                              (Span(30, 30), b)])
         self.assertEqual([*decoded.ends], [10, 20, 30])
 
-    def test_decodes_only_packets_near_the_subtitle(self) -> None:
+    def test_decodes_250_frames_or_the_repeat_limit_around_a_subtitle(self) -> None:
+        # A page in each tenth frame, but none in frame 750, and a subtitle in frames 1000 to 1200
         runs = [PacketRun(at, 1, TICKS * 10 * at, 0, "heo" if at != 75 else "-", "0" * (at != 75))
                 for at in range(300)]
         packets = Packets(5, runs, decoded_rows=[(at, ((20, b"%d" % at),)) for at in range(300)])
-        for every, inside, first, last in ((25, None, 750, 1450), (400, None, 600, 1600),
-                                           (25, (90, 110), 900, 1100)):
-            decoded = decode_pages_around(packets, (0, 0x88), 0, 0, Span(1000, 1200), every, inside,
-                                          [Span(5, 6)])
+        for every, pes_range, first, last in ((25, None, 750, 1450), (400, None, 600, 1600),
+                                              (25, (90, 110), 900, 1100)):
+            decoded = decode_pages_around(packets, PAGE, 0, 0, Span(1000, 1200), every, pes_range,
+                                          lost=[Span(5, 6)])
             self.assertEqual((decoded.first, decoded.last, decoded.lost.includes(6, 7)),
-                             (first, last, True),
-                             (every, inside, first))
+                             (first, last, True), (every, pes_range))
             self.assertEqual([decoded.get_page_span(at) for at in (0, len(decoded.frames) - 1)], [
                 Span(decoded.frames[0], decoded.frames[0] + 9), Span(last, last)],
-                             (every, inside, first))
-        decoded = decode_pages_around(packets, (0, 0x88), EARLY_TICKS, 1, Span(1000, 1200), 25)
+                             (every, pes_range))
+        decoded = decode_pages_around(packets, PAGE, EARLY_TICKS, 1, Span(1000, 1200), 25)
         self.assertEqual((decoded.first, decoded.last), (750, 1450))
-        decoded = decode_pages_around(packets, (0, 0x88), 0, 0, Span(9000, 9100), 25)
+        decoded = decode_pages_around(packets, PAGE, 0, 0, Span(9000, 9100), 25)
         self.assertEqual((decoded.count, decoded.first), (0, NO_FRAME))
 
-    def test_starts_a_range_with_the_last_printed_rows(self) -> None:
-        for does, is_told in itertools.product(("he", "h"), (True, False)):
+    def test_begins_with_the_last_rows_that_survey_printed_before_the_range(self) -> None:
+        texts: list[tuple[int, Texts]] = [(at, ((20, text),)) for at, text in enumerate(
+            (b"w", b"x", b"y", b"z"))]
+        for flags, has_own_rows in itertools.product(("he", "h"), (True, False)):
             runs = [PacketRun(at, 1, TICKS * at, 0, item, "0") for at, item in enumerate(
-                (does, "h", "ho", "he"))]
-            decoded: list[tuple[int, Texts]] = [(at, ((20, text),)) for at, text in enumerate(
-                (b"w", b"x", b"y", b"z"))]
-            packets = Packets(5, runs, decoded_rows=decoded if is_told else decoded[:2] +
-                              decoded[3:])
-            rows = Timeline(packets, (0, 0x88), 0, 0, (2, 2)).states[-1].rows
-            self.assertEqual((rows[0], rows[19]), ((BLANK_PAGE if "e" in does else OLD_PAGE)[0],
-                                                   b"y" if is_told else b"x"), (does, is_told))
+                (flags, "h", "ho", "he"))]
+            packets = Packets(5, runs,
+                              decoded_rows=texts if has_own_rows else texts[:2] + texts[3:])
+            rows = Timeline(packets, PAGE, 0, inside=(2, 2)).states[-1].rows
+            other_rows = BLANK_PAGE if "e" in flags else OLD_PAGE
+            self.assertEqual((rows[0], rows[19]), (
+                other_rows[0], b"y" if has_own_rows else b"x"), (flags, has_own_rows))
+
+    def test_replaces_unsent_cells_with_spaces(self) -> None:
         for marks in ((), (OLD,), (HIT,), (HIT, OLD)):
             self.assertEqual(clear_unsent_cells((b"a", bytes([*marks, 0x62]))), (
                 b"a", b" " * len(marks) + b"b"), marks)
 
 
 class ClearOrigins(unittest.TestCase):
+    """An origin at which the most cues match, and others that may match as well. Cues match page
+    changes, some of these the expected page (`pages`), and some of these a page with text."""
+
+    OFFSET = CueOffset(is_begin=True, delay=3, matches=5, total=5)  # in-cues 3 frames late
+
     @staticmethod
-    def fit(matches: int, letters: int, texts: int = 0, total: int = 5,
-            start: int = 0) -> OriginFit:
-        return OriginFit(9, matches, letters, texts, matches, total, None, None, start)
+    def fit(matches: int, pages: int, texts: int = 0, total: int = 5, start: int = 0) -> OriginFit:
+        return OriginFit(9, matches, content_matches=pages, text_matches=texts,
+                         exact_matches=matches, total=total, first_text=None, first_unmatched=None,
+                         start=start)
 
     def part(self, best: OriginFit, *others: OriginFit, early: EarlyCues | None = None,
-             apart: object = None) -> Any:
+             offset: CueOffset | None = None) -> Any:
         return SimpleNamespace(best=best, others=others, early=early,
-                               time_base=SimpleNamespace(find_cue_offset=lambda _: apart))
+                               time_base=SimpleNamespace(find_cue_offset=lambda _: offset))
 
-    def test_compares_origins_by_cues_and_characters(self) -> None:
-        five, four, apart = self.fit(5, 5, 2), self.fit(4, 4, 2), CueOffset(True, 3, 5, 5)
-        for best, other, is_apart, expected in (
-                (five, self.fit(5, 4, 9), False, False), (five, self.fit(5, 5), False, True),
-                (five, self.fit(6, 4), False, True), (four, self.fit(4, 3, 1), False, False),
-                (four, self.fit(4, 3, 2), False, True), (four, self.fit(4, 4, 0), False, True),
-                (five, self.fit(5, 5, 2, start=MAX_CUE_OFFSET), True, False),
-                (five, self.fit(5, 5, 2, start=-MAX_CUE_OFFSET), True, False),
-                (five, self.fit(5, 5, 2, start=MAX_CUE_OFFSET + 1), True, True),
-                (five, self.fit(5, 5, 0, start=MAX_CUE_OFFSET + 1), True, False)):
-            part = self.part(best, self.fit(1, 1), other, apart=apart if is_apart else None)
+    def test_an_origin_is_unclear_if_as_many_cues_and_pages_match_at_another(self) -> None:
+        five, four, offset, most = self.fit(5, 5, 2), self.fit(4, 4, 2), self.OFFSET, MAX_CUE_OFFSET
+        for best, other, cue_offset, expected in (
+                (five, self.fit(5, 4, 9), None, False), (five, self.fit(5, 5), None, True),
+                (five, self.fit(6, 4), None, True), (four, self.fit(4, 3, 1), None, False),
+                (four, self.fit(4, 3, 2), None, True), (four, self.fit(4, 4, 0), None, True),
+                (five, self.fit(5, 5, 2, start=most), offset, False),
+                (five, self.fit(5, 5, 2, start=-most), offset, False),
+                (five, self.fit(5, 5, 2, start=most + 1), offset, True),
+                (five, self.fit(5, 5, 0, start=most + 1), offset, False)):
+            part = self.part(best, self.fit(1, 1), other, offset=cue_offset)
             self.assertEqual(find_equal_origins(part), [other] * expected, (best, other))
-            self.assertEqual([is_clear(part), is_clear(part, True)], [not expected] * 2,
-                             (best, other, is_apart))
+            self.assertEqual([is_clear(part), is_clear(part, is_known=True)], [not expected] * 2,
+                             (best, other, cue_offset))
 
-    def test_accepts_an_origin_with_which_half_of_the_cues_agree(self) -> None:
-        for matches, total, is_apart, expected in ((5, 10, False, True), (5, 11, False, False),
-                                                   (5, 11, True, True), (0, 0, False, True)):
-            part = self.part(self.fit(matches, matches, total=total),
-                             apart=CueOffset(True, 3, 5, 5) if is_apart else None)
-            self.assertEqual([is_clear(part), is_clear(part, True)], [expected] * 2,
+    def test_an_origin_is_clear_if_half_of_the_cues_match_or_have_one_offset(self) -> None:
+        for matches, total, offset, expected in (
+                (5, 10, None, True), (5, 11, None, False), (5, 11, self.OFFSET, True),
+                (0, 0, None, True)):
+            part = self.part(self.fit(matches, matches, total=total), offset=offset)
+            self.assertEqual([is_clear(part), is_clear(part, is_known=True)], [expected] * 2,
                              (matches, total))
-        for early, expected, known in ((None, True, True), (EarlyCues(1, 21, 2), True, True),
-                                       (EarlyCues(1, 20, 2), False, True)):
-            part = self.part(self.fit(5, 5), early=early)
-            self.assertEqual((is_clear(part), is_clear(part, True)), (expected, known), early)
+
+    def test_an_unknown_origin_is_unclear_if_one_in_twenty_cues_is_early(self) -> None:
+        for total, expected in ((21, True), (20, False)):
+            part = self.part(self.fit(5, 5), early=EarlyCues(1, total, frames=2))
+            self.assertEqual((is_clear(part), is_clear(part, is_known=True)), (expected, True))

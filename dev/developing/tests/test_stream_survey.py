@@ -4,8 +4,9 @@ Random recordings with all kinds of lines are in dev/check-survey.
 """
 from __future__ import annotations
 
+import operator
 import os
-from typing import Callable, Iterable, Sequence
+from typing import Callable, Iterable, Sequence, Tuple
 
 from developing.multiplex import ADAPTATION_ALONE, PACKET, make_packet_header
 from developing.pes import make_pes_packet
@@ -13,7 +14,7 @@ from subtitles.common.command_line import ProgramInterrupted
 from subtitles.common.program import TOP, read
 from subtitles.common.times import CLOCK, TICKS
 from subtitles.formats.teletext import Page
-from subtitles.stream.packets import GapMarker, PCRStep, PacketRun, Packets, PageChange, Texts
+from subtitles.stream.packets import GapMarker, PCRStep, PacketRun, PageChange, Texts
 from subtitles.stream.pictures import VideoLead
 from subtitles.stream.survey import (
     Announced, ProgramMap, Survey, VERSION, Video, find_first_pages, survey, survey_runs)
@@ -47,13 +48,15 @@ def announce_jump_in_second(packets: list[bytes]) -> list[bytes]:
 
 
 class Lines(Case):
+    """Lines that the program's command `survey` prints about transport streams."""
+
     def list_lines(self, data: bytes, *kinds: str) -> list[str]:
         """Return the lines of `survey` that begin with one of these words."""
         status, lines = self.program("survey", self.write("one.ts", data))
         self.check("status", status, 0)
         return [line for line in lines if line.split()[0] in kinds]
 
-    def test_half_the_clock_is_printed_as_a_step_back(self) -> None:
+    def test_prints_a_step_by_half_the_clock_as_a_step_back(self) -> None:
         for ticks, printed in ((CLOCK // 2, -CLOCK // 2), (CLOCK // 2 - 1, CLOCK // 2 - 1)):
             pes = [make_pes_packet(pts, [CLOSING]) for pts in (FIRST_PTS, FIRST_PTS + ticks)]
             data = make_stream(pes, picture_pts=(FIRST_PTS - ticks) % CLOCK)
@@ -61,27 +64,26 @@ class Lines(Case):
                 f"lead {TELETEXT_PID} {FIRST_PTS} {printed} {VIDEO_PID} 1",
                 f"pes {TELETEXT_PID} 0 2 {FIRST_PTS} {printed} b/ 1 0"])
 
-    def make_clock_stream(self, usual: int, since: int) -> bytes:
-        """Return a stream with 21 PCRs, `usual` TS packets apart, between two PES packets.
-
-        The last PES packet is `since` TS packets after the last PCR.
-        """
+    def make_clock_stream(self, interval: int, after_last: int) -> bytes:
+        """Return a stream with 21 PCRs, `interval` TS packets apart, between two PES packets. The
+        last PES packet is `after_last` TS packets after the last PCR."""
         maker = StreamMaker(make_components())
         maker.put_tables()
         maker.put(TELETEXT_PID, make_pes_packet(FIRST_PTS, []))
         for number in range(21):
             maker.put_pcr(FIRST_PTS + TICKS * number)
-            others = usual if number < 20 else since
+            others = interval if number < 20 else after_last
             maker.packets += [filler(AUDIO_PID, maker.counters).data for _ in range(others - 1)]
         maker.put(TELETEXT_PID, make_pes_packet(LAST_PTS, []))
         return maker.data
 
     def test_samples_no_pts_long_after_the_last_pcr(self) -> None:
-        for usual, most in ((1, 255), (64, 255), (65, 259), (200, 799)):
-            for since in (most, most + 1):
-                lines = self.list_lines(self.make_clock_stream(usual, since), "ahead")
-                first = f"ahead {TELETEXT_PID} {LAST_PTS} {LAST_PTS - FIRST_PTS - TICKS * 20}"
-                self.check(f"{usual} {since}", lines, [first][:since <= most])
+        # TS packets between PCRs, and the most after the last PCR for a comparison with the PTS
+        for interval, most in ((1, 255), (64, 255), (65, 259), (200, 799)):
+            for after_last in (most, most + 1):
+                lines = self.list_lines(self.make_clock_stream(interval, after_last), "ahead")
+                sample = f"ahead {TELETEXT_PID} {LAST_PTS} {LAST_PTS - FIRST_PTS - TICKS * 20}"
+                self.check(f"{interval} {after_last}", lines, [sample] * (after_last <= most))
 
     def test_the_manual_states_the_order_of_gap_and_seam(self) -> None:
         two_ts_packets_each = [make_pes_packet(FIRST_PTS + TICKS * at, [CLOSING] * 4)
@@ -94,8 +96,18 @@ class Lines(Case):
         self.must("the manual", f"A `{first}` at the same place comes first." in manual, first)
 
 
+def of_pid_5(*names: str) -> Callable[[Survey], object]:
+    """Return a function that returns these attributes of the packets of PID 5."""
+    return lambda received: operator.attrgetter(*names)(received.by_pid[5])
+
+
+SurveyRow = Tuple[str, Callable[[Survey], object], object]
+
+
 class SurveyAnswers(Case):
-    def test_accepts_a_last_line_only_with_its_status(self) -> None:
+    """How the tools parse the lines of `survey`, or of a script in its place."""
+
+    def test_refuses_a_survey_that_does_not_end_with_over_and_status_0(self) -> None:
         begin, over = f"survey {VERSION}", "over 0 9"
         for lines, status, why in (
                 ([begin, over], 0, None), ([begin], 0, "it did not end, status 0"),
@@ -111,11 +123,16 @@ class SurveyAnswers(Case):
                 with self.subTest(why), self.assertRaisesRegex(ProgramInterrupted, f": {why}$"):
                     received.refuse(status)
 
-    def test_reads_each_kind_of_line(self) -> None:
-        def get_packets_of_pid_5(received: Survey) -> Packets:
-            return received.by_pid[5]
+    def check_lines(self, rows: Iterable[SurveyRow]) -> None:
+        """Check lines, separated by `; `, by a value of the parsed survey. Further fields, which a
+        new version may print, are ignored, but not after a line whose last fields are optional."""
+        for lines, get_value, expected in rows:
+            for more in ("", " more")[:1 if "sub" in lines or "pictures" in lines else 2]:
+                received = read_survey(*(line + more for line in lines.split("; ")))
+                self.check(f"{lines}{more}", get_value(received), expected)
 
-        rows: list[tuple[str, Callable[[Survey], object], object]] = [
+    def test_reads_lines_about_the_recording_and_its_pmts(self) -> None:
+        self.check_lines([
             ("head 4740", lambda it: it.head, b"G@"), ("head ", lambda it: it.head, b""),
             ("size 0", lambda it: it.size, 0), ("size 204", lambda it: it.size, 204),
             ("over 12 9", lambda it: (it.skipped, it.is_complete), (12, True)),
@@ -128,7 +145,7 @@ class SurveyAnswers(Case):
                  Announced((0, 0x88), "eng", 2), Announced((1, 0x50), "\xe9ng", 5),
                  Announced((0, 0xFF), "eng", 1)]}), ProgramMap(1, 8, {9: 2})]),
             ("sub 5 888; subs 5 888 9; subs 5 150 7",
-             lambda it: get_packets_of_pid_5(it).header_counts, {"888": 9, "150": 7}),
+             of_pid_5("header_counts"), {"888": 9, "150": 7}),
             *(("programme 1 9; stream 5 6; announce 5 888 656e67 2; announce 5 888 656e67 2; " +
                "; ".join(f"sub 5 2{page}" for page in range(9 + count, 9, -1)),
                lambda it: it.lines(), [
@@ -144,101 +161,101 @@ class SurveyAnswers(Case):
                     [20, 20, None, 8]),
                    ("; ".join(["programme 1 7"] * 9), [8] * 9),
                    ("; ".join(f"programme 1 {pid}" for pid in range(10, 20)),
-                    [8] * 8 + [None] * 2))),
-            ("pes 5 3 2 - 0 -/ 4 33; pes 5 5 9 0 -10 he/08080810+0 1 0",
-             lambda it: get_packets_of_pid_5(it).runs,
-             [PacketRun(3, 2, None, 0, "-", "", 4, 33), PacketRun(5, 9, 0, -10, "he", "08080810+0",
-                                                                  1)]),
+                    [8] * 8 + [None] * 2)))])
+
+    def test_reads_lines_about_pes_packets(self) -> None:
+        self.check_lines([
+            ("pes 5 3 2 - 0 -/ 4 33; pes 5 5 9 0 -10 he/08080810+0 1 0", of_pid_5("runs"),
+             [PacketRun(3, 2, None, 0, "-", "", units=4, fault=33),
+              PacketRun(5, 9, 0, -10, "he", "08080810+0", units=1)]),
             ("gap 5 0 1 2; pes 5 1 5 7 10 -/ 1 0; gap 5 6 3 0; gap 5 7 0 4; pes 5 8 1 9 0 -/ 1 0; "
-             "gap 5 9 1 0", lambda it: (get_packets_of_pid_5(it).gap_markers,
-                                        [run.first for run in get_packets_of_pid_5(it).runs]),
+             "gap 5 9 1 0",
+             lambda it: (it.by_pid[5].gap_markers, [run.first for run in it.by_pid[5].runs]),
              ([GapMarker(0, None, 1, 2), GapMarker(6, 47, 3, 0), GapMarker(7, 47, 0, 4),
-               GapMarker(9, 9, 1, 0)],
-              [0, 1, 6, 7, 8, 9])),
+               GapMarker(9, 9, 1, 0)], [0, 1, 6, 7, 8, 9])),
             ("clock 5 - 9 900 8 90 7 broken; clock 5 0 - -1 2 3 4 whole",
-             lambda it: get_packets_of_pid_5(it).pcr_steps,
-             [PCRStep(None, 9, 900, 8, 90, 7, "broken"),
-              PCRStep(0, None, -1, 2, 3, 4,
-                                                                     "whole")]),
-            ("ahead 5 9 -7; ahead 5 0 3", lambda it: get_packets_of_pid_5(it).samples,
-             [(9, -7), (0, 3)]),
-            ("set 5 28 0 1 -; set 5 29 4 - 7", lambda it: get_packets_of_pid_5(it).character_sets,
+             of_pid_5("pcr_steps"),
+             [PCRStep(None, 9, 900, 8, 90, 7, "broken"), PCRStep(0, None, -1, 2, 3, 4, "whole")]),
+            ("ahead 5 9 -7; ahead 5 0 3", of_pid_5("samples"), [(9, -7), (0, 3)]),
+            ("set 5 28 0 1 -; set 5 29 4 - 7", of_pid_5("character_sets"),
              [(28, 0, 1, None), (29, 4, None, 7)]),
-            ("strays 5 3 20:41,21:4243; strays 5 9 -",
-             lambda it: get_packets_of_pid_5(it).stray_rows,
+            ("strays 5 3 20:41,21:4243; strays 5 9 -", of_pid_5("stray_rows"),
              [(3, ((20, b"A"), (21, b"BC"))), (9, ())]),
             # Rows of spaces, and spaces with a parity error, do not change the text.
             ("pes 5 0 1 100 0 he/ 1 0; rows 5 0 20:2041a042; pes 5 1 3 200 50 o/ 1 0; "
              "rows 5 1 20:20412042,21:2020; rows 5 3 -; pes 5 4 1 9 0 o/ 1 0; rows 5 4 20:20412042"
              "; pes 5 5 1 10 0 o/ 1 0; rows 5 5 21:20412042",
-             lambda it: (get_packets_of_pid_5(it).decoded_rows, get_packets_of_pid_5(it).changes),
+             of_pid_5("decoded_rows", "changes"),
              ([(0, ((20, b" A\xa0B"),)), (1, ((20, b" A B"), (21, b"  "))), (3, ()),
                (4, ((20, b" A B"),)), (5, ((21, b" A B"),))],
               [PageChange(100, b"AB", 0, ((20, b" A B"),)), PageChange(300, b"", 3),
                PageChange(9, b"AB", 4, ((20, b" A B"),)),
                PageChange(10, b"AB", 5, ((21, b" A B"),))])),
-            ("damaged 5 3 start", lambda it: get_packets_of_pid_5(it).damage,
+            ("damaged 5 3 start", of_pid_5("damage"),
              "PES packet 3 does not begin with 00 00 01 BD"),
-            ("damaged 5 0 cut", lambda it: get_packets_of_pid_5(it).damage,
-             "PES packet 0 is incomplete"),
-            *((f"end 5 7 8 30 4 {refusal} {cut} {begun}", lambda it: (
-                get_packets_of_pid_5(it).packets, get_packets_of_pid_5(it).scrambled,
-                get_packets_of_pid_5(it).refusal, get_packets_of_pid_5(it).is_cut,
-                get_packets_of_pid_5(it).last_pts), (30, 4, refusal, bool(cut), pts))
+            ("damaged 5 0 cut", of_pid_5("damage"), "PES packet 0 is incomplete"),
+            *((f"end 5 7 8 30 4 {refusal} {cut} {begun}",
+               of_pid_5("packets", "scrambled", "refusal", "is_cut", "last_pts"),
+               (30, 4, refusal, bool(cut), pts))
               for refusal, cut, begun, pts in ((31, 1, "77", 77), (0, 0, "-", None), (0, 0, 0, 0))),
-            ("seam 5 7; seam 5 9", lambda it: get_packets_of_pid_5(it).counter_jumps, [7, 9]),
+            ("seam 5 7; seam 5 9", of_pid_5("counter_jumps"), [7, 9])])
+
+    def test_reads_lines_about_video(self) -> None:
+        self.check_lines([
             ("video 9 3; picture 9 0; picture 9 -; group 9 0 1 open", lambda it: it.videos,
              {9: Video(3, [0, None], form="open")}),
             ("pictures 9 1 2", lambda it: it.videos, {9: Video(0, [], 1, 2)}),
             ("video 9 3; pictures 9 1 2 0 1", lambda it: it.videos, {9: Video(3, [], 1, 2, True)}),
             ("pictures 9 0 0 7 0", lambda it: it.videos, {9: Video(7, [], 0, 0, True)}),
             ("lead 5 7 -9 9 3; lead 5 8 0 9 4; lead 5 1 2 8 1", lambda it: it.leads,
-             {(5, 9): [VideoLead(7, -9, 3), VideoLead(8, 0, 4)], (5, 8): [VideoLead(1, 2, 1)]})]
-        for lines, known, expected in rows:
-            for more in ("", " more")[:1 if "sub" in lines or "pictures" in lines else 2]:
-                received = read_survey(*(line + more for line in lines.split("; ")))
-                self.must(f"{lines}{more}", known(received) == expected, known(received))
+             {(5, 9): [VideoLead(7, -9, 3), VideoLead(8, 0, 4)], (5, 8): [VideoLead(1, 2, 1)]})])
 
     def fake_survey(self, lines: Sequence[str], status: int = 0) -> str:
+        """Write a script that prints the version, an unknown line that is not ASCII, its arguments
+        as `head`, these lines and `over`. Return its path."""
         return self.write_program("program", "\n".join([
             "#!/bin/sh", "echo survey 1", r"printf 'later \377\n'",
             "echo head $(printf %s \"$*\" | od -An -v -tx1 | tr -d ' \\n')",
             *(f"echo '{line}'" for line in lines), "echo over 0 9", f"exit {status}"]))
 
-    def test_calls_the_listener_after_each_line(self) -> None:
+    def test_calls_the_program_and_a_function_after_each_line(self) -> None:
         looks = list[int]()
         result = survey(self.fake_survey([]), "-one.ts", PAGE, 5, lambda: looks.append(1))
-        self.must("words", result.head == b"survey --page 888 --pid 0x5 -- -one.ts"
-                  and len(looks) == 4, result.head)
+        self.check("call", result.head, b"survey --page 888 --pid 0x5 -- -one.ts")
+        self.check("lines", len(looks), 4)
         result = survey(self.fake_survey([]), "one.ts", PAGE)
-        self.must("no more", result.head == b"survey --page 888 -- one.ts", result.head)
-        with self.assertRaises(ProgramInterrupted):
-            survey(self.fake_survey([], 3), "one.ts", PAGE)
+        self.check("call without a PID", result.head, b"survey --page 888 -- one.ts")
 
-    def test_ends_the_program_soon_after_a_page_is_known(self) -> None:
+    def test_raises_an_error_if_the_program_fails(self) -> None:
+        with self.assertRaises(ProgramInterrupted):
+            survey(self.fake_survey([], status=3), "one.ts", PAGE)
+
+    def test_reads_1000_lines_from_the_first_subtitle_page_on(self) -> None:
         rows: dict[str, tuple[list[str], list[Page]]] = {
-            "sent": (["sub 257 1A0", *["pcr 5 1"] * 998, "sub 257 199"], [(1, 0x99), (1, 0xA0)]),
-            "late": (["sub 257 1A0", *["pcr 5 1"] * 999, "sub 257 199"], [(1, 0xA0)]),
-            "none": ([], [(0, 0x88)]),
-            "announced": (["programme 1 5", "announce 257 8FF 656e67 2",
-                           "announce 257 777 656e67 5"], [(7, 0x77)])}
+            "the second page in line 1000": (["sub 257 1A0", *["pcr 5 1"] * 998, "sub 257 199"],
+                                             [(1, 0x99), (1, 0xA0)]),
+            "in line 1001": (["sub 257 1A0", *["pcr 5 1"] * 999, "sub 257 199"], [(1, 0xA0)]),
+            "no page in the whole recording": ([], [(0, 0x88)]),
+            "announced pages": (["programme 1 5", "announce 257 8FF 656e67 2",
+                                 "announce 257 777 656e67 5"], [(7, 0x77)])}
         for name, (lines, pages) in rows.items():
             program = self.fake_survey(lines)
-            if lines:  # a program that does not end by itself
+            if lines:  # let it print lines without end
                 self.write("program", self.read("program").replace(b"echo over", b"yes pcr 5 1 #"))
             self.check(name, find_first_pages(program, "one.ts", None), pages)
 
-    def test_returns_each_run_before_the_program_ends(self) -> None:
+    def test_yields_each_run_with_its_rows_before_the_program_ends(self) -> None:
         runs = [f"pes 0 {number} 1 {number} 0 -/ 1 0" for number in range(4)]
-        rows = "rows 0 0 20:41", "rows 0 2 -", "rows 0 3 20:41"
-        lines = [runs[0], rows[0], runs[1], runs[2], rows[1], runs[3], rows[2]]
-        for count, expected in enumerate([[], [((20, b"A"),)], [((20, b"A"),), None]]):
-            reported = [*survey_runs(self.fake_survey(lines[:2 * count - (count == 2)]), "one.pes",
-                                     PAGE)]
-            self.must(f"{count}", [texts for _, texts in reported] == expected, reported)
-        reported_runs: list[tuple[PacketRun, Texts | None]] = []
+        lines = [runs[0], "rows 0 0 20:41", runs[1], runs[2], "rows 0 2 -", runs[3],
+                 "rows 0 3 20:41"]
+        rows_of_first = ((20, b"A"),)
+        for count, expected in ((0, []), (2, [(0, rows_of_first)]),
+                                (3, [(0, rows_of_first), (1, None)])):
+            self.check(f"{count} lines", [(run.first, rows) for run, rows in survey_runs(
+                self.fake_survey(lines[:count]), "one.pes", PAGE)], expected)
+        yielded: list[tuple[int, Texts | None]] = []
         with self.assertRaises(ProgramInterrupted):
-            for item in survey_runs(self.fake_survey(lines, 3), "one.pes", PAGE):
-                reported_runs.append(item)
-        self.must("all", [(run.first, texts) for run, texts in reported_runs] == [
-            (0, ((20, b"A"),)), (1, None), (2, ())], reported_runs)
+            for run, rows in survey_runs(self.fake_survey(lines, status=3), "one.pes", PAGE):
+                yielded.append((run.first, rows))
+        self.check("a program that fails at the end", yielded,
+                   [(0, rows_of_first), (1, None), (2, ())])
