@@ -5,7 +5,7 @@ import itertools
 import random
 import unittest
 from types import SimpleNamespace
-from typing import Any, Sequence
+from typing import Any, Iterable, Sequence
 
 from subtitles.clock.stretches import MIN_BREAK_FRAMES, Stretch, split_at_breaks
 from subtitles.common.times import CLOCK, FRAMES_OF_A_DAY, Spans, TICKS, join_spans, subtract_pts
@@ -20,36 +20,44 @@ from .parts import read_survey
 from .stories import read_table
 
 
+PID = 257
+
+
 def make_packets_with_pts(pts: Sequence[int | None], **more: Any) -> Packets:
     """Return PES packets with these PTS; `None` stands for a gap marker."""
-    packets = Packets(257, **more)
-    packets.runs = [PacketRun(number, 1, None if item is None else item % CLOCK, 0, "m"
-                              if item is None else "h", "") for number, item in enumerate(pts)]
-    return packets
+    return Packets(PID, [
+        PacketRun(number, 1, None if item is None else item % CLOCK, 0,
+                  "m" if item is None else "h", "") for number, item in enumerate(pts)], **more)
 
 
-def clocked(before: int, ticks: int, counters: str, packets: int = 100) -> PCRStep:
-    """Return an unusual step between two PCRs that are `packets` TS packets apart."""
+def make_packets_in_frames(frames: Iterable[int], flags: str) -> Packets:
+    """Return PES packets in these frames, all with the same flags."""
+    return Packets(PID, [PacketRun(at, 1, TICKS * frame, 0, flags, "")
+                         for at, frame in enumerate(frames)])
+
+
+def make_pcr_step(before: int, ticks: int, counters: str, packets: int = 100) -> PCRStep:
+    """Return a step of `ticks` and `packets` TS packets between two PCRs, after the PTS `before`.
+    Usual are a tenth of a second and 100 TS packets."""
     return PCRStep(before, before + 1, ticks, packets, SECOND // 10, 100, counters)
 
 
-def find_airings(numbers: set[int]) -> list[tuple[int, int]]:
+def list_spans(numbers: set[int]) -> list[tuple[int, int]]:
+    """Return the first and the last number of each row of consecutive numbers."""
     firsts = sorted(number for number in numbers if number - 1 not in numbers)
     return list(zip(firsts, sorted(number for number in numbers if number + 1 not in numbers)))
 
 
-def text_of(number: int, does: str) -> Texts:
-    """Return the rows decoded after a PES packet: no rows, an unchanged text, or a new text.
-
-    `does` contains the flags of a `pes` line. It ends with `y` if the text is unchanged.
-    """
-    return () if "b" in does else ((20, b"same" if does[-1] == "y" else b"%d" % number),)
+def text_of(number: int, flags: str) -> Texts:
+    """Return the rows decoded after a PES packet: none, the same text (y), or a new text."""
+    return () if "b" in flags else ((20, b"same" if flags[-1] == "y" else b"%d" % number),)
 
 
-# PES packets, each with its frame and flags, and the range found for frames 100 to 200. The flags
-# are h (header), e (erase page), b (blank), o (open), c (closed), x (another text) and y (the same
-# text). `m` is a gap marker. `found` has whether the last page transmission was found, and whether
-# no later PES packet can be in the range. `read` is the number of PES packets that were read.
+# PES packets, each with its frame and flags, and the range found for a programme with the first TCI
+# in frame 100 and the last TCO in frame 200. The flags are h (header), e (erase page), b (blank), o
+# (open), c (closed), x (another text) and y (the same text). `m` is a gap marker. `found` has `end`
+# if the last page transmission was found, and `over` if no later PES packet can be in the range.
+# `read` is the number of PES packets that were read.
 RANGES = """
 sent                                   | range | found    | read | where it begins or ends
 100:he 200:he                          | 0-1   | end      | 2    | at the first header
@@ -118,22 +126,24 @@ sent                                   | range | found    | read | where it begi
 
 
 class ClockTables(unittest.TestCase):
-    def test_spans_agree_with_a_list_of_frames(self) -> None:
+    def test_spans_agree_with_a_set_of_frames(self) -> None:
         chance = random.Random(7)
         for _ in range(300):
             several = [Spans(sorted((first, first + chance.randrange(6)) for first in chance.sample(
                 range(40), chance.randrange(5)))) for _ in range(3)]
-            item, other, third = ({number for first, last in spans for number in range(
+            frames, others, more = ({number for first, last in spans for number in range(
                 first, last + 1)} for spans in several)
             begin, end = sorted((chance.randrange(45), chance.randrange(45)))
             spans = several[0]
             self.assertEqual((list(spans), spans.total(), len(spans)), (
-                find_airings(item), len(item), len(find_airings(item))))
+                list_spans(frames), len(frames), len(list_spans(frames))))
             self.assertEqual(list(spans.between(begin, end)), [
                 span for span in spans if span[1] >= begin and span[0] < end])
             self.assertEqual(list(spans.exclude([*several[1], *several[2]])),
-                             find_airings(item - other - third))
-            self.assertEqual(list(join_spans(several)), find_airings(item | other | third))
+                             list_spans(frames - others - more))
+            self.assertEqual(list(join_spans(several)), list_spans(frames | others | more))
+
+    def test_joins_spans_that_are_not_in_order(self) -> None:
         falling = Spans([(7, 9), (1, 3), (4, 8)])
         self.assertEqual((list(falling), falling.is_rising()), ([(7, 9), (1, 8)], False))
         self.assertEqual(list(join_spans([falling])), [(1, 9)])
@@ -145,8 +155,8 @@ class ClockTables(unittest.TestCase):
             known: list[tuple[int, int | None, str]] = []
             for _ in range(chance.randrange(7)):
                 pts = chance.choice((None, 0, CLOCK - 2 * TICKS, 5 * TICKS, 9 * TICKS))
-                run = PacketRun(len(known), chance.randrange(1, 8), pts,
-                          chance.choice((0, TICKS, -TICKS)), chance.choice(("h", "oh", "-")), "")
+                run = PacketRun(len(known), chance.randrange(1, 8), pts, chance.choice(
+                    (0, TICKS, -TICKS)), chance.choice(("h", "oh", "-")), "")
                 known += [(run.first + at, None if pts is None else (pts + run.step * at) % CLOCK,
                            run.flags) for at in range(run.length)]
                 packets.runs.append(run)
@@ -156,10 +166,10 @@ class ClockTables(unittest.TestCase):
             self.assertEqual([item for run in packets.list_runs_between(first, last)
                               for item in Packets(5, [run])], inside)
             self.assertEqual(list(packets), known)
-            for does, some, several in (("", None, known), ("h", (first, last), inside)):
-                self.assertEqual(list(packets.pts(some, does)), [
-                    pts for _, pts, kinds in several if pts is not None and does in kinds],
-                                 (does, some, several))
+            for flags, some, several in (("", None, known), ("h", (first, last), inside)):
+                self.assertEqual(list(packets.pts(some, flags)), [
+                    pts for _, pts, kinds in several if pts is not None and flags in kinds],
+                                 (flags, some, several))
             self.assertEqual([packets.get_pts(number) for number in range(-1, len(known) + 1)],
                              [None, *(pts for _, pts, _ in known), None])
             timed = [(number, pts) for number, pts, _ in known if pts is not None]
@@ -167,13 +177,15 @@ class ClockTables(unittest.TestCase):
                 subtract_pts(new, old) > 0 for _, old in timed[at - 2:at]
                 for _, new in timed[at:at + 2])]
             self.assertEqual([base.start for base in packets.split_time_bases()], begins)
+
+    def test_parses_the_headers_of_a_run(self) -> None:
         self.assertEqual(parse_headers("0808081f+10"), (bytes([0, 8, 0, 8, 0, 8, 1, 15]), b"\1\0"))
 
-    def test_begins_a_time_base_where_pts_go_back(self) -> None:
-        second = 90_000
+    def test_begins_a_time_base_where_two_pts_go_back(self) -> None:
+        # The PTS of PES packets, and the first PES packet of each time base
         for pts, begins in (
-                ([0, 1, 2, 3], [0]), ([second * 9, second * 10, 0, second], [0, 2]),
-                ([-2, -1, 0, 1], [0]), ([1, 2, -second * 2, -second], [0, 2]),
+                ([0, 1, 2, 3], [0]), ([SECOND * 9, SECOND * 10, 0, SECOND], [0, 2]),
+                ([-2, -1, 0, 1], [0]), ([1, 2, -SECOND * 2, -SECOND], [0, 2]),
                 ([9, 10, 5, 11], [0]), ([9, 10, 5, 6, 1, 2], [0, 2, 4]),
                 ([0, 1, CLOCK // 2 - 9, CLOCK // 2 - 8], [0])):
             bases = make_packets_with_pts(pts).split_time_bases()
@@ -182,6 +194,8 @@ class ClockTables(unittest.TestCase):
 
     def test_splits_a_programme_at_breaks(self) -> None:
         five = MIN_BREAK_FRAMES
+        # For each stretch of nine page changes: its time base, and its origin as a frame. Expected
+        # is the number of page changes before the end of each part.
         for tracks, ends in (
                 ([(0, 0)], [9]), ([(0, 0), (0, -five)], [9, 18]), ([(0, 0), (0, 1 - five)], [18]),
                 ([(0, 0), (0, -1)], [18]), ([(0, 0), (0, 1)], [18]),
@@ -190,7 +204,7 @@ class ClockTables(unittest.TestCase):
                 ([(0, 0), (0, -five), (0, -2 * five)], [9, 18, 27]),
                 ([(0, 0), (0, -75), (0, -150)], [27]),  # two delays of three seconds each
                 ([(0, 0), (0, -75), (0, -75 - five)], [18, 27]),
-                ([(0, 0), (0, 75), (0, 75 - five)], [27]),  # early, then late
+                ([(0, 0), (0, 75), (0, 75 - five)], [27]),  # early for a while
                 ([(0, 0), (0, -five), (0, -1 - five)], [9, 27]),
                 ([(0, 0), (0, 5), (0, 0)], [27]), ([(0, 0), (0, 5), (0, -five)], [18, 27])):
             row: Any = [Stretch(SimpleNamespace(base=base, start=start),  # type: ignore[arg-type]
@@ -206,54 +220,58 @@ class ClockTables(unittest.TestCase):
                           for pid in (257, 258, 259)], [(9, 11), (1, 1), None])
 
     def test_finds_unusual_pts_and_the_worst_one(self) -> None:
+        # Usually PTS are 1000 ticks ahead of the PCR. Further samples, once a second, and the
+        # anomalies: how many samples show them, and the worst distance (`changed`: from the usual)
         rows: list[tuple[list[int], list[tuple[str, int, int]]]] = [
-                ([], []), ([-5, -700, -20], [("behind", 3, -700)]), ([-1], [("behind", 1, -1)]),
-                ([SECOND, SECOND + 1], [("early", 1, SECOND + 1), ("changed", 2, SECOND - 999)]),
-                ([1000 + SECOND // 2], []), ([1001 + SECOND // 2] * 20, [("changed", 20, 45_001)]),
-                ([-45_000, 47_000], [("behind", 1, -45_000), ("changed", 2, -46_000)])]
-        # The rows begin after the first minute, or before a PTS wrap in the first minute.
-        for begin, (more, wanted) in itertools.product((61, -100), rows):
+            ([], []), ([-5, -700, -20], [("behind", 3, -700)]), ([-1], [("behind", 1, -1)]),
+            ([SECOND, SECOND + 1], [("early", 1, SECOND + 1), ("changed", 2, SECOND - 999)]),
+            ([1000 + SECOND // 2], []), ([1001 + SECOND // 2] * 20, [("changed", 20, 45_001)]),
+            ([-45_000, 47_000], [("behind", 1, -45_000), ("changed", 2, -46_000)])]
+        # The samples come after the first minute, or before a PTS wrap in the first minute.
+        for begin, (more, expected) in itertools.product((61, -100), rows):
             ahead = [*enumerate([*[30_000] * 3, *[1000] * 6]), *enumerate(more, begin)]
             samples = [(SECOND * (at - 3) % CLOCK, item) for at, item in ahead]
             result = list(find_pts_anomalies(make_packets_with_pts([], samples=samples)))
             self.assertEqual([(item.kind, item.number, item.worst) for item in result],
-                             wanted, more)
+                             expected, more)
             self.assertTrue(all(item.total == len(samples) and item.pts in dict(samples[9:])
                                 for item in result), (begin, more))
+
+    def test_a_single_sample_is_compared_with_the_pcr(self) -> None:
         for alone, kind in ((-5, "behind"), (0, ""), (SECOND, ""), (SECOND + 1, "early")):
             result = list(find_pts_anomalies(make_packets_with_pts([], samples=[(7, alone)])))
             self.assertEqual([(item.kind, item.pts) for item in result], [(kind, 7)] * bool(kind),
                              (alone, kind))
 
     def test_lists_gap_markers_and_losses_once(self) -> None:
-        hole, back = clocked(500, 99_000, "broken"), clocked(500, -99_000, "broken")
-        rows: list[tuple[list[int], list[PCRStep], list[tuple[int, int]]]] = [
-                ([], [hole], [(500, 90_000)]), ([], [back], []),
-                ([], [clocked(500, 9001, "broken")], [(500, 1)]),
-                ([], [clocked(500, 0, "broken")], []),
-                ([], [hole, hole], [(500, 90_000)] * 2),
-                ([1], [], [(100, 0)]), ([1], [hole], [(100, 0), (500, 90_000)]),
-                ([1], [clocked(150, 99_000, "broken")], [(100, 0)]),
-                ([], [clocked(500, 99_000, "whole"), clocked(500, 99_000, "unknown")], [])]
-        for marks, several, expected in rows:
-            packets = make_packets_with_pts([100, None, 200, 600], pcr_steps=several, gap_markers=[
-                GapMarker(number, 100, 3, 0) for number in marks])
-            self.assertEqual([(loss_place.before, loss_place.missing)
-                              for loss_place in find_loss_places(packets)],
-                             expected, (marks, several))
+        late = make_pcr_step(500, ticks=99_000, counters="broken")
+        marker = GapMarker(1, before=100, lost=3, scrambled=0)
+        # Gap markers, PCR steps, and the losses: the PTS before each, and the missing ticks
+        rows: list[tuple[list[GapMarker], list[PCRStep], list[tuple[int, int]]]] = [
+            ([], [late], [(500, 90_000)]), ([], [late._replace(ticks=-99_000)], []),
+            ([], [late._replace(ticks=9001)], [(500, 1)]), ([], [late._replace(ticks=0)], []),
+            ([], [late, late], [(500, 90_000)] * 2),
+            ([marker], [], [(100, 0)]), ([marker], [late], [(100, 0), (500, 90_000)]),
+            ([marker], [make_pcr_step(150, 99_000, "broken")], [(100, 0)]),
+            ([], [late._replace(counters="whole"), late._replace(counters="unknown")], [])]
+        for markers, pcr_steps, expected in rows:
+            packets = make_packets_with_pts([100, None, 200, 600], pcr_steps=pcr_steps,
+                                            gap_markers=markers)
+            self.assertEqual([(place.before, place.missing) for place in find_loss_places(packets)],
+                             expected, (markers, pcr_steps))
 
     def check_ranges(self, table: str, every: int | None = None, within: int = 0) -> None:
-        """Check the ranges found for frames 100 to 200."""
+        """Check the ranges found for frames 100 to 200, and their first and last frames."""
         low, high = 100 - (every or 0), 200 + (every or 0)
         for row in read_table(table):
             sent = [item.partition(":")[::2] for item in row["sent"].split()]
             times = [-1.0 if frame == "m" else float(frame) for frame, _ in sent]
             pts = [None if frame < 0 else round(TICKS * frame) for frame in times]
-            packets = Packets(257, [
-                PacketRun(at, 1, pts[at], 0, does.strip("xy-"), "")
-                for at, (_, does) in enumerate(sent)], changes=[
-                    PageChange(pts[at] or 0, b"", at, text_of(at, does))
-                    for at, (_, does) in enumerate(sent) if does[-1:] in {"x", "y"}])
+            packets = Packets(PID, [
+                PacketRun(at, 1, pts[at], 0, flags.strip("xy-"), "")
+                for at, (_, flags) in enumerate(sent)], changes=[
+                    PageChange(pts[at] or 0, b"", at, text_of(at, flags))
+                    for at, (_, flags) in enumerate(sent) if flags[-1:] in {"x", "y"}])
             result = find_range(packets, 100, 200, 0, every, within)
             found = "-".join(map(str, result.range or ()))
             words = f"{result.read} PES packet{'s' * (result.read != 1)}"
@@ -277,30 +295,31 @@ class ClockTables(unittest.TestCase):
         self.check_ranges(RANGES_WITH_REPEATS, 25)
         self.check_ranges(RANGES_OF_LATE_PAGES, 25, 2)
 
-    def test_finds_the_range_of_a_part(self) -> None:
-        packets = Packets(257,
-                          [PacketRun(at, 1, TICKS * frame, 0, does, "") for at, (frame, does) in
-                           enumerate(((75, "he"), (100, "he"), (200, "heb")))],
-                          changes=[PageChange(TICKS * 75, b"", 0, text_of(0, "hey"))])
+    def test_a_part_omits_an_earlier_header_if_the_text_was_expected_before_the_part(self) -> None:
+        packets = make_packets_in_frames((75, 100, 200), "he")
+        packets.runs[-1] = packets.runs[-1]._replace(flags="heb")
+        packets.changes = [PageChange(TICKS * 75, b"", 0, text_of(0, "hey"))]
         for within, is_continued in itertools.product((0, 1), (False, True)):
             result = find_range(packets, 100, 200, 0, 25, within, is_continued=is_continued)
-            self.assertEqual(result.range, (int(is_continued), 2), "the text was due before")
-        packets = Packets(257,
-                          [PacketRun(at, 1, TICKS * (100 + at), 0, "he", "") for at in range(9)])
+            self.assertEqual(result.range, (int(is_continued), 2), (within, is_continued))
+
+    def test_uses_only_the_given_pes_packets(self) -> None:
+        packets = make_packets_in_frames(range(100, 109), "he")
         result = find_range(packets, 100, 200, 0, 25, inside=(3, 5))
         self.assertEqual((result.range, result.first_packet_frame, result.read), ((3, 5), 103, 7))
-        # Ranges at the start and end of the day.
-        for frames, begin, end, expected in (([0, 5], 0, 9, (0, 1)), ([-50, -20, 0, 1], -50, -20,
-                                                                      (0, 1))):
+
+    def test_finds_ranges_at_the_start_and_end_of_the_day(self) -> None:
+        for frames, begin, end in (([0, 5], 0, 9), ([-50, -20, 0, 1], -50, -20)):
             first, last = (item % FRAMES_OF_A_DAY for item in (begin, end))
-            packets = Packets(257,
-                              [PacketRun(at, 1, TICKS * (first + item - begin), 0, "h-h-"[at], "")
-                               for at, item in enumerate(frames)])
+            packets = Packets(PID, [
+                PacketRun(at, 1, TICKS * (first + item - begin), 0, "h-h-"[at], "")
+                for at, item in enumerate(frames)])
             result = find_range(packets, first, last, 0, 25)
             self.assertEqual((result.range, result.first_packet_frame, result.has_end),
-                             (expected, first, False), (frames, begin, end))
+                             ((0, 1), first, False), (frames, begin, end))
 
-    def test_judges_a_gap_marker_just_after_the_last_frame(self) -> None:
+    def test_a_range_includes_gap_markers_just_after_the_last_frame(self) -> None:
+        # Frames of headers, or `None` for a gap marker; the first TCI is 0, the last TCO is 50
         for frames, expected in (
                 ([0, 50, None, 75], (0, 2)), ([0, 50, None, None, 75], (0, 3)),
                 ([0, 50, None], (0, 2)), ([0, 50, 75, None], (0, 1)), ([None, 0, 50, 75], (1, 2)),
@@ -309,22 +328,23 @@ class ClockTables(unittest.TestCase):
             result = find_range(make_packets_with_pts(pts), 0, 50, 0, 25).range
             self.assertEqual(result, expected, frames)
 
-    def test_cuts_all_of_a_long_programme(self) -> None:
-        hour, step = 90_000, 250
+    def test_finds_all_of_a_long_programme(self) -> None:
+        hour, step = 90_000, 250  # frames in an hour and from one header to the next
+        # Hours of the programme, and of the recording before and after it
         for hours, before, after in ((1, 3, 9), (9, 0, 9), (13, 1, 1), (14, 0, 0), (14, 1, 8),
                                      (20, 0, 0), (20, 1, 2), (23, 0, 0), (23, 0, 2)):
             begin, end = before * hour, (before + hours) * hour
             for length, origin in itertools.product((1, 10, 360), (0, CLOCK - TICKS * end // 2)):
                 count = (before + hours + after) * hour // step
-                packets = Packets(257, [
-                    PacketRun(at, length, (origin + TICKS * step * at) % CLOCK, TICKS * step, "heb",
-                              "")
+                packets = Packets(PID, [PacketRun(
+                    at, length, (origin + TICKS * step * at) % CLOCK, TICKS * step, "heb", "")
                     for at in range(0, count, length)])
                 result = find_range(packets, begin, end, origin, step).range
                 expected = max(begin // step - 1, 0), min(end // step, count - 1)
                 self.assertEqual(result, expected, (hours, before, after, length, origin))
 
-    def test_skips_only_runs_far_from_the_time(self) -> None:
+    def test_skips_runs_that_are_more_than_a_frame_before_or_after_the_range(self) -> None:
+        # A run from frame `first` on, and the range from frame 5 to 8, with frame `shift` at PTS 0
         for first, step, length, shift in itertools.product(
                 range(14), (-2, -1, 0, 1, 3), (1, 2, 5), (0, 5, 7, 9)):
             frames = [first + step * at for at in range(length)]
@@ -338,44 +358,49 @@ class ClockTables(unittest.TestCase):
     def test_extends_a_range_by_the_longer_limit(self) -> None:
         for (every, within), more in itertools.product(((25, 2), (25, 40), (2, 40)), (0, 1)):
             last = 100 + max(every, within) + more
-            packets = Packets(257, [PacketRun(at, 1, TICKS * frame, 0, "heo", "") for at, frame in
-                                    enumerate((*range(80), last, last + 1, last + 2))])
+            packets = make_packets_in_frames((*range(80), last, last + 1, last + 2), "heo")
             result = find_range(packets, 0, 100, 0, every, within)
             self.assertEqual((result.range, result.has_end), ((0, 80 - more), not more),
                              (every, within, more))
 
     def test_finds_clock_jumps_where_nothing_is_missing(self) -> None:
-        for item, expected in ((clocked(5, 99_000, "whole"), [ClockJump(5, 90_000)]),
-                               (clocked(5, 99_000, "broken"), []),
-                               (clocked(5, 99_000, "unknown"), []),
-                               (clocked(5, 99_000, "whole", 109), [ClockJump(5, 90_000)]),
-                               (clocked(5, 99_000, "whole", 110), []),
-                               (clocked(5, -99_000, "whole"), [ClockJump(5, -108_000)])):
+        for item, expected in (
+                (make_pcr_step(5, 99_000, "whole"), [ClockJump(5, 90_000)]),
+                (make_pcr_step(5, 99_000, "broken"), []),
+                (make_pcr_step(5, 99_000, "unknown"), []),
+                (make_pcr_step(5, 99_000, "whole", packets=109), [ClockJump(5, 90_000)]),
+                (make_pcr_step(5, 99_000, "whole", packets=110), []),
+                (make_pcr_step(5, -99_000, "whole"), [ClockJump(5, -108_000)])):
             self.assertEqual(list(find_clock_jumps(make_packets_with_pts([], pcr_steps=[item]))),
                              expected, item)
 
     def test_describes_losses(self) -> None:
         for place, words in (
                 (LossPlace(1, 2), "a break in the stream"),
-            (LossPlace(1, 2, 1), "1 TS packet was lost"),
-                (LossPlace(1, 2, 2, 1), "2 TS packets were lost, 1 TS packet was scrambled"),
+                (LossPlace(1, 2, lost=1), "1 TS packet was lost"),
+                (LossPlace(1, 2, lost=2, scrambled=1),
+                 "2 TS packets were lost, 1 TS packet was scrambled"),
                 (LossPlace(1, 2, missing=225_000),
                  "2.50 s of TS packets are missing according to the PCR and "
                  "the counters of other PIDs")):
             self.assertEqual(describe_loss(place), words, place)
+
+    def test_describes_the_place_of_a_loss(self) -> None:
         for place, words in (
                 (LossPlace(3600, 7200, 1), "between PTS 3600 and 7200 (00:00:00:01 and 00:00:00:02 "
                  "after the first PTS)"),
                 (LossPlace(None, 7200, 1), "before PTS 7200 (00:00:00:02 after the first PTS)"),
                 (LossPlace(3600, None, 1), "after PTS 3600 (00:00:00:01 after the first PTS)")):
             self.assertEqual(describe_loss_place(place, 0), f"{words}: 1 TS packet was lost", place)
+        self.assertEqual(describe_loss_place(LossPlace(None, 3600, 0), None),
+                         "before PTS 3600 (00:00:00:01 after the first PTS): a break in the stream")
+        self.assertEqual(describe_loss_place(LossPlace(None, None, 1), None),
+                         "1 TS packet was lost")
+
+    def test_describes_the_place_of_a_loss_over_the_wrap(self) -> None:
         words = f"between PTS {CLOCK - 3600} and 3600 (00:00:00:01 and 00:00:00:03 after the " \
             "first PTS): "
         for first, last in ((CLOCK - 7200, 3600), (CLOCK - 7201, 3599)):
             printed = describe_loss_place(LossPlace(CLOCK - 3600, last, 1, 2), first)
             self.assertEqual(printed, words.replace(" 3600", f" {last}") +
                              "1 TS packet was lost, 2 TS packets were scrambled", (first, last))
-        self.assertEqual(describe_loss_place(LossPlace(None, 3600, 0), None),
-                         "before PTS 3600 (00:00:00:01 after the first PTS): a break in the stream")
-        self.assertEqual(describe_loss_place(LossPlace(None, None, 1), None),
-                         "1 TS packet was lost")
