@@ -28,25 +28,24 @@ class Row(NamedTuple):
     """A test case of `compute_pace`.
 
     `rows` has the frames of the PES packets between two losses, `each` is the number of TS packets
-    of a PES packet, and `every` the longest time without a page header. Expected are the kind of
-    the pace, the value `frames` of --pace, and the number `hidden` of places at which a loss leaves
-    no longer interval.
+    of a PES packet, `every` the longest time without a page header, and `pauses` has the frames
+    between subtitles. Expected are the kind of the pace, if it is REGULAR the value `frames` of
+    --pace, and the number `hidden` of places at which a loss leaves no longer interval.
     """
 
     name: str
     rows: Sequence[Sequence[int]]
-    kind: str
-    frames: int | None = None
+    kind: str = REGULAR
+    frames: int = 2
     each: int = 1
     every: int = 250
     pauses: Pauses = ()
     hidden: int = 0
-    is_stream: bool = True
 
 
-def remove_frames(frames: Sequence[int], *holes: tuple[int, int]) -> list[int]:
-    """Return the frames outside `holes`. A hole (F, N) contains the N frames after frame F."""
-    missing = {frame for first, count in holes for frame in range(first + 1, first + 1 + count)}
+def remove_frames(frames: Sequence[int], *losses: tuple[int, int]) -> list[int]:
+    """Return the frames outside `losses`. A loss (F, N) contains the N frames after frame F."""
+    missing = {frame for first, count in losses for frame in range(first + 1, first + 1 + count)}
     return [frame for frame in frames if frame not in missing]
 
 
@@ -73,154 +72,135 @@ def draw_steps(seed: int, weights: Sequence[float], count: int = 400) -> list[in
     return [0, *itertools.accumulate(drawn)]
 
 
-def make_regular_pace_row(name: str, *rows: Sequence[int], frames: int = 2, each: int = 1,
-                          every: int = 250, pauses: Pauses = (), hidden: int = 0) -> Row:
-    """Return a test case for a stream. `frames` is the expected maximum interval."""
-    return Row(name, rows, REGULAR, frames, each, every, pauses, hidden)
-
-
-def make_pes_pace_row(name: str, *rows: Sequence[int], frames: int = 1, every: int = 250,
-                      pauses: Pauses = (), hidden: int = 0) -> Row:
-    return Row(name, rows, REGULAR, frames, 1, every, pauses, hidden, False)
-
-
-TABLE = [
+# No PES packet is sent between the frames 999 and 1100, and between 2999 and 3100.
+ONE_SILENCE = remove_frames(LONG, (999, 100))
+TWO_SILENCES = remove_frames(LONG, (999, 100), (2999, 100))
+STREAM_ROWS = [
     Row("no PES packet is read", [], TOO_FEW), Row("a row without PES packets", [[]], TOO_FEW),
     Row("one PES packet", [[7]], TOO_FEW), Row("99 intervals, one too few", [range(100)], TOO_FEW),
-    make_regular_pace_row("100 intervals", range(101)),
-    Row("two PES packets between two others", [sorted({*range(0, 3000, 10), 1003, 1006})], REGULAR,
-        22, hidden=3),
-    make_regular_pace_row("nine rows, between eight losses",
-                          *[range(50 * at, 50 * at + 40) for at in range(9)]),
+    Row("100 intervals", [range(101)]),
+    Row("two PES packets between two others", [sorted({*range(0, 3000, 10), 1003, 1006})],
+        frames=22, hidden=3),
+    Row("nine rows, between eight losses", [range(50 * at, 50 * at + 40) for at in range(9)]),
     Row("rows of three PES packets", [range(50 * at, 50 * at + 3) for at in range(99)], TOO_FEW),
     Row("few: 30 frames across two lost ones, --every 30", [range(0, 990, 10)], TOO_FEW, every=30),
     Row("few: 30 frames across two lost ones, --every 29", [range(0, 990, 10)], BY_EVERY, every=29),
     Row("few: 3 frames across two lost ones", [[0, 1, 2, 3, 999]], TOO_FEW),
     Row("four: 300 frames across two lost ones", [[0, 100, 200, 300]], BY_EVERY),
     # Streams with longer intervals, up to and over the limit.
-    make_regular_pace_row("75 frames across two lost ones, --every 75", repeat_steps([25], 200),
-                          frames=74, every=75),
+    Row("75 frames across two lost ones, --every 75", [repeat_steps([25], 200)], frames=74,
+        every=75),
     Row("75 frames across two lost ones, --every 74", [repeat_steps([25], 200)], BY_EVERY,
         every=74),
-    make_regular_pace_row("the same, but three steps are short",
-                          repeat_steps([*[25] * 300, 1, 1, 1], 1), frames=74, every=74, hidden=3),
+    Row("the same, but three steps are short", [repeat_steps([*[25] * 300, 1, 1, 1], 1)],
+        frames=74, every=74, hidden=3),
     # Streams with two or more PES packets in some frames.
-    make_regular_pace_row("all in one frame", [5] * 400, hidden=397),
-    make_regular_pace_row("two in a frame, 24 frames without", list_frames_without(24), hidden=746),
-    make_regular_pace_row("one frame of 200 without", repeat_steps([*[0, 1] * 198, 0, 2], 5),
-                          hidden=1979),
+    Row("all in one frame", [[5] * 400], hidden=397),
+    Row("two in a frame, 24 frames without", [list_frames_without(24)], hidden=746),
+    Row("one frame of 200 without", [repeat_steps([*[0, 1] * 198, 0, 2], 5)], hidden=1979),
     Row("one frame of 40 without", [repeat_steps([*[0, 1] * 38, 0, 2], 25)], IRREGULAR),
     # Streams with jitter, with changes between repetitions, or with bursts.
-    make_regular_pace_row("jitter", repeat_steps([1, 1, 2, 0, 1], 100), frames=3, hidden=398),
-    make_regular_pace_row("a frame of three", repeat_steps([1, 1, 3, 1, 0], 100), frames=4, each=9,
-                          hidden=298),
+    Row("jitter", [repeat_steps([1, 1, 2, 0, 1], 100)], frames=3, hidden=398),
+    Row("a frame of three", [repeat_steps([1, 1, 3, 1, 0], 100)], frames=4, each=9, hidden=298),
     Row("bursts", [repeat_steps([1] * 20 + [100], 50)], IRREGULAR),
-    make_regular_pace_row("bursts of two TS packets", repeat_steps([1] * 10 + [60], 50),
-                          frames=61, each=2, hidden=400),
+    Row("bursts of two TS packets", [repeat_steps([1] * 10 + [60], 50)], frames=61, each=2,
+        hidden=400),
     # Streams with few bursts, which are ignored.
-    make_regular_pace_row("few bursts", repeat_steps([*[25] * 300, 1, 1, 1], 1), frames=74, each=2,
-                          hidden=3),
-    make_regular_pace_row("one burst of two", repeat_steps([*[25] * 300, 1, 1, *[25] * 100], 1),
-                          frames=26),
-    make_regular_pace_row("one of five", repeat_steps([*[25] * 100, *[1] * 5, *[25] * 100], 1),
-                          frames=26, hidden=3),
-    make_regular_pace_row("one of six", repeat_steps([*[25] * 100, *[1] * 6, *[25] * 100], 1),
-                          frames=26, hidden=4),
+    Row("few bursts", [repeat_steps([*[25] * 300, 1, 1, 1], 1)], frames=74, each=2, hidden=3),
+    Row("one burst of two", [repeat_steps([*[25] * 300, 1, 1, *[25] * 100], 1)], frames=26),
+    Row("one of five", [repeat_steps([*[25] * 100, *[1] * 5, *[25] * 100], 1)], frames=26,
+        hidden=3),
+    Row("one of six", [repeat_steps([*[25] * 100, *[1] * 6, *[25] * 100], 1)], frames=26, hidden=4),
     # Streams with few losses at different places, up to the allowed number.
-    *(make_regular_pace_row(f"a hole of {count} behind {first}",
-                            remove_frames(LONG, (first, count)))
+    *(Row(f"{count} frames lost after frame {first}", [remove_frames(LONG, (first, count))])
       for first in (0, 2500, 4700) for count in (16, 249)),
-    make_regular_pace_row("a hole just before the end", remove_frames(LONG, (4990, 5))),
-    Row("four of 400",
+    Row("a loss just before the end", [remove_frames(LONG, (4990, 5))]),
+    Row("four losses in 400 frames",
         [remove_frames(FOUR_HUNDRED_FRAMES, (50, 20), (150, 20), (250, 20), (300, 20))], IRREGULAR),
-    Row("six of 6000", [remove_frames(range(6000), *((900 * at, 20) for at in range(6)))],
-        IRREGULAR),
-    # Pauses of the programme in which no PES packet is sent.
-    *(Row(f"a pause to {end}", [remove_frames(LONG, (999, 100))], PAUSED, pauses=[(999, end)])
+    Row("six losses in 6000 frames",
+        [remove_frames(range(6000), *((900 * at, 20) for at in range(6)))], IRREGULAR),
+    # A silence, and pauses of the programme.
+    *(Row(f"a pause to {end}", [ONE_SILENCE], PAUSED, pauses=[(999, end)])
       for end in (1095, 1105)),
-    *(make_regular_pace_row(f"no pause to {end}", remove_frames(LONG, (999, 100)),
-                            pauses=[(999, end)])
+    *(Row(f"another pause, to {end}", [ONE_SILENCE], pauses=[(999, end)])
       for end in (1094, 1106)),
-    make_regular_pace_row("a pause that began later", remove_frames(LONG, (999, 100)),
-                          pauses=[(1000, 1100)]),
-    Row("a pause in the second row", [range(500), remove_frames(LONG, (999, 100))], PAUSED,
-        pauses=[(999, 1100)]),
-    Row("behind the last", [remove_frames(LONG, (999, 100))], PAUSED,
-        pauses=[(0, 500), (999, None)]),
-    make_regular_pace_row("before its end", remove_frames(LONG, (999, 100)),
-                          pauses=[(0, 500), (1000, None)]),
-    Row("before the first", [remove_frames(LONG, (999, 100))], PAUSED,
-        pauses=[(None, 1095), (1500, 1600)]),
-    Row("long before it", [remove_frames(LONG, (999, 100))], PAUSED, pauses=[(None, 3000)]),
+    Row("a pause that began later", [ONE_SILENCE], pauses=[(1000, 1100)]),
+    Row("a pause in the second row", [range(500), ONE_SILENCE], PAUSED, pauses=[(999, 1100)]),
+    Row("after the last subtitle", [ONE_SILENCE], PAUSED, pauses=[(0, 500), (999, None)]),
+    Row("before the last subtitle ends", [ONE_SILENCE], pauses=[(0, 500), (1000, None)]),
+    Row("before the first subtitle", [ONE_SILENCE], PAUSED, pauses=[(None, 1095), (1500, 1600)]),
+    Row("long before the first subtitle", [ONE_SILENCE], PAUSED, pauses=[(None, 3000)]),
     # Streams with few PES packets in a part of the frames, and streams with two losses.
-    Row("seldom", [[*range(2500), *range(2500, 3000, 100), *range(2900, 5000)]], PAUSED),
-    make_regular_pace_row("two, seventeen steps between",
-                          remove_frames(LONG, (999, 100), (1116, 100))),
+    Row("each 100th frame for a while",
+        [[*range(2500), *range(2500, 3000, 100), *range(2900, 5000)]], PAUSED),
+    Row("two, seventeen steps between", [remove_frames(LONG, (999, 100), (1116, 100))]),
     *(Row(f"two, {steps - less} steps of {each} TS packets between",
-          [make_two_silences(steps - less)], PAUSED if less else REGULAR, None if less else 2, each)
+          [make_two_silences(steps - less)], PAUSED if less else REGULAR, each=each)
       for each, steps in ((1, 17), (2, 9), (4, 5), (9, 3)) for less in (0, 1)),
     # Streams without PES packets in most pauses of the programme, or only in some of them.
-    make_regular_pace_row("in one pause of two that are as long", remove_frames(LONG, (999, 100)),
-                          pauses=[(999, 1100), (2999, 3100)]),
-    Row("in both", [remove_frames(LONG, (999, 100), (2999, 100))], PAUSED,
-        pauses=[(999, 1100), (2999, 3100)]),
-    Row("in the longest", [remove_frames(LONG, (999, 100))], PAUSED,
-        pauses=[(999, 1100), (2999, 3099)]),
-    Row("in two of three", [remove_frames(LONG, (999, 100), (2999, 50))], PAUSED,
-        pauses=[(999, 1100), (2900, 3050), (3999, 4120)]),
-    make_regular_pace_row("in two of four", remove_frames(LONG, (999, 100), (2999, 50)),
-                          pauses=[(999, 1100), (2900, 3050), (3999, 4120), (4500, 4700)]),
-    make_regular_pace_row("one of two", remove_frames(LONG, (999, 100), (2999, 100)),
-                          pauses=[(999, 1100)]),
-    Row("two of three", [remove_frames(LONG, (999, 100), (1999, 100), (2999, 100))], PAUSED,
-        pauses=[(999, 1100), (2999, 3100)]),
+    Row("in one pause of two that are as long", [ONE_SILENCE], pauses=[(999, 1100), (2999, 3100)]),
+    Row("in both of two pauses", [TWO_SILENCES], PAUSED, pauses=[(999, 1100), (2999, 3100)]),
+    Row("in the longer of two pauses", [ONE_SILENCE], PAUSED, pauses=[(999, 1100), (2999, 3099)]),
+    Row("in two of three pauses that are as long", [remove_frames(LONG, (999, 100), (2999, 50))],
+        PAUSED, pauses=[(999, 1100), (2900, 3050), (3999, 4120)]),
+    Row("in two of four pauses that are as long", [remove_frames(LONG, (999, 100), (2999, 50))],
+        pauses=[(999, 1100), (2900, 3050), (3999, 4120), (4500, 4700)]),
+    Row("one of two is in a pause", [TWO_SILENCES], pauses=[(999, 1100)]),
+    Row("two of three are in a pause", [remove_frames(LONG, (999, 100), (1999, 100), (2999, 100))],
+        PAUSED, pauses=[(999, 1100), (2999, 3100)]),
     # With a larger `every`, intervals of more than 250 and at most `every` frames are pauses.
     *(Row(f"{count + 1} frames of {every}", [remove_frames(LONG, (999, count))], PAUSED,
           every=every)
       for count, every in ((299, 300), (250, 1500), (1499, 1500))),
-    *(make_regular_pace_row(f"{count + 1} frames of {every}, which are none",
-                            remove_frames(LONG, (999, count)), every=every)
+    *(Row(f"{count + 1} frames of {every}, which are none", [remove_frames(LONG, (999, count))],
+          every=every)
       for count, every in ((249, 1500), (1500, 1500))),
-    # Files of PES packets.
-    make_pes_pace_row("a file", FOUR_HUNDRED_FRAMES),
-    make_pes_pace_row("a file, one missing", remove_frames(FOUR_HUNDRED_FRAMES, (50, 1))),
-    make_pes_pace_row("three missing",
-                      remove_frames(FOUR_HUNDRED_FRAMES, (50, 1), (150, 1), (250, 1))),
-    make_pes_pace_row("four missing",
-                      remove_frames(FOUR_HUNDRED_FRAMES, (50, 1), (150, 1), (250, 1), (300, 1)),
-                      frames=2, hidden=386),
-    make_pes_pace_row("a file, 50 frames across a lost one, --every 26", repeat_steps([25], 200),
-                      frames=25, every=26),
-    Row("a file, --every 25", [repeat_steps([25], 200)], BY_EVERY, every=25, is_stream=False),
-    make_pes_pace_row("a file, over the bound but for some", repeat_steps([10, 15, 25], 70),
-                      frames=25, every=25, hidden=70),
-    Row("a file, all over the bound", [repeat_steps([10, 16, 25], 70)], BY_EVERY, every=25,
-        is_stream=False),
-    make_pes_pace_row("a file, all in one frame", [5] * 400, frames=2, hidden=398),
-    make_pes_pace_row("a file, a timer, one missing",
-                      remove_frames(repeat_steps([25, 25, 12, 25, 7], 60), (94 * 20, 30)),
-                      frames=25),
-    make_pes_pace_row("a file, two of three frames, three missing",
-                      remove_frames(repeat_steps([1, 2], 200), (59, 3), (149, 3), (239, 3)),
-                      frames=2, hidden=0),
-    make_pes_pace_row("a file, twelve missing, two together",
-                      remove_frames(FOUR_HUNDRED_FRAMES, (9, 2), *((30 * at, 1)
-                                    for at in range(1, 11))), frames=2, hidden=364),
-    Row("a file, thirteen missing, two together",
+]
+FILE_ROWS = [
+    Row("each frame", [FOUR_HUNDRED_FRAMES], frames=1),
+    Row("one missing", [remove_frames(FOUR_HUNDRED_FRAMES, (50, 1))], frames=1),
+    Row("three missing", [remove_frames(FOUR_HUNDRED_FRAMES, (50, 1), (150, 1), (250, 1))],
+        frames=1),
+    Row("four missing",
+        [remove_frames(FOUR_HUNDRED_FRAMES, (50, 1), (150, 1), (250, 1), (300, 1))], frames=2,
+        hidden=386),
+    Row("50 frames across a lost one, --every 26", [repeat_steps([25], 200)], frames=25, every=26),
+    Row("--every 25", [repeat_steps([25], 200)], BY_EVERY, every=25),
+    Row("over the bound but for some", [repeat_steps([10, 15, 25], 70)], frames=25, every=25,
+        hidden=70),
+    Row("all over the bound", [repeat_steps([10, 16, 25], 70)], BY_EVERY, every=25),
+    Row("all in one frame", [[5] * 400], frames=2, hidden=398),
+    Row("a timer, one missing",
+        [remove_frames(repeat_steps([25, 25, 12, 25, 7], 60), (94 * 20, 30))], frames=25),
+    Row("two of three frames, three missing",
+        [remove_frames(repeat_steps([1, 2], 200), (59, 3), (149, 3), (239, 3))], frames=2,
+        hidden=0),
+    Row("twelve missing, two together",
+        [remove_frames(FOUR_HUNDRED_FRAMES, (9, 2), *((30 * at, 1) for at in range(1, 11)))],
+        frames=2, hidden=364),
+    Row("thirteen missing, two together",
         [remove_frames(FOUR_HUNDRED_FRAMES, (9, 2), *((30 * at, 1) for at in range(1, 13)))],
-        IRREGULAR, is_stream=False),
-    Row("a file, too few", [range(100)], TOO_FEW, is_stream=False),
-    Row("a file, few, up to the bound", [range(0, 990, 10)], TOO_FEW, every=20, is_stream=False),
-    Row("a file, few, over the bound", [range(0, 990, 10)], BY_EVERY, every=19, is_stream=False),
+        IRREGULAR),
+    Row("too few", [range(100)], TOO_FEW),
+    Row("few, up to the bound", [range(0, 990, 10)], TOO_FEW, every=20),
+    Row("few, over the bound", [range(0, 990, 10)], BY_EVERY, every=19),
 ]
 
 
 class PaceDecisions(Case):
-    def test_measures_the_pace_of_each_row(self) -> None:
-        for row in TABLE:
-            pace = compute_pace(row.rows, row.each, row.every, row.pauses, row.is_stream)
+    """How far apart PES packets may be (the pace), from the frames in which they come."""
+
+    def check_paces(self, table: Sequence[Row], is_stream: bool) -> None:
+        for row in table:
+            pace = compute_pace(row.rows, row.each, row.every, row.pauses, is_stream)
             self.check(row.name, (pace.kind, pace.frames, pace.hidden_places),
-                       (row.kind, row.frames, row.hidden))
+                       (row.kind, row.frames if row.kind == REGULAR else None, row.hidden))
+
+    def test_measures_the_pace_of_transport_streams(self) -> None:
+        self.check_paces(STREAM_ROWS, is_stream=True)
+
+    def test_measures_the_pace_of_files_of_pes_packets(self) -> None:
+        self.check_paces(FILE_ROWS, is_stream=False)
 
     def test_returns_the_usual_interval_and_the_shortest_after_a_loss(self) -> None:
         self.check_rows(lambda *arguments: compute_pace(*arguments)[:3], {
@@ -276,6 +256,8 @@ class PaceDecisions(Case):
 
     def test_splits_the_frames_at_losses(self) -> None:
         origin = CLOCK - 5 * TICKS
+        # Runs of PES packets: the first number, how many, the first frame (`None`: a gap marker),
+        # the step in frames, and the fault; --within; and the frames of PES packets without a loss
         rows: list[tuple[list[tuple[int, int, float | None, int, int]], int, list[list[int]]]] = [
             ([], 0, []), ([(0, 3, 0, 1, 0)], 0, [[0, 1, 2]]),
             ([(0, 3, 0, 1, 0), (3, 9, 9, 1, 0)], 0, [[0, 1, 2, *range(9, 18)]]),
@@ -289,13 +271,15 @@ class PaceDecisions(Case):
             packets = Packets(5, [PacketRun(first, count, None if frame is None else int(
                 origin + frame * TICKS) % CLOCK, step * TICKS, "-", "", fault=fault)
                                   for first, count, frame, step, fault in runs])
-            reported = [[*row] for row in list_frame_rows(packets, (0, 99), origin, within)]
-            self.must(f"{runs}", reported == expected, reported)
+            self.check(f"{runs}", [[*row] for row in list_frame_rows(
+                packets, (0, 99), origin, within)], expected)
         packets = Packets(5, [PacketRun(0, 9, origin, TICKS, "-", "")])
-        self.must("some",
-                  [[*row] for row in list_frame_rows(packets, (3, 5), origin, 0)] == [[3, 4, 5]])
+        self.check("PES packets 3 to 5", [[*row] for row in list_frame_rows(
+            packets, (3, 5), origin, within=0)], [[3, 4, 5]])
 
-    def test_counts_ts_packets_of_a_pes_packet(self) -> None:
+    def test_estimates_the_ts_packets_of_a_pes_packet(self) -> None:
+        # TS packets of the PID, bytes of 100 PES packets if it is a file, and Teletext packets in
+        # the last PES packet; the TS packets of each PES packet
         for total, size, units, expected in (
                 (100, None, 0, 1), (103, None, 3, 1), (103, None, 4, 2), (149, None, 0, 1),
                 (151, None, 0, 2), (800, None, 3, 8), (100, None, 35, 9), (5000, None, 1, 9),
@@ -303,26 +287,27 @@ class PaceDecisions(Case):
                 (0, None, 0, 1)):
             packets = Packets(5, [PacketRun(0, 99, 0, TICKS, "-", "", 3 * (units > 3)),
                                   PacketRun(99, 1, 0, 0, "-", "", units)], packets=total)
-            self.must(f"{total} {size} {units}",
-                      estimate_packets_per_pes(packets, (0, 99), size) == expected)
+            self.check(f"{total} {size} {units}",
+                       estimate_packets_per_pes(packets, (0, 99), size), expected)
             self.must("without the last", estimate_packets_per_pes(packets, (0, 98), size) <= max(
                 1, round((total if size is None else size // 184) / 100)))
-        self.must("no PES packet", estimate_packets_per_pes(Packets(5, packets=3), (0, 0), None)
-                  == 1)
+        self.check("no PES packet", estimate_packets_per_pes(Packets(5, packets=3), (0, 0), None),
+                   1)
 
     def test_finds_silences_between_frames(self) -> None:
+        # Five intervals; one of 5 frames or more is a silence, which is near another if fewer than
+        # `steps` intervals are between them.
         for apart, steps in itertools.product(itertools.product((1, 4, 5, 6), repeat=5), (1, 2, 4)):
             row = [*itertools.accumulate(apart, initial=7)]
             places = [at for at, frames in enumerate(apart) if frames >= 5]
             self.assertEqual([*find_silences(row, 5, steps)], [Silence(row[at], row[at + 1], any(
                 0 < abs(at - other) < steps for other in places)) for at in places], (row, steps))
-        self.must("one a frame", not [*find_silences(range(9), 1, 3)])
+        self.check("one a frame", [*find_silences(range(9), 1, 3)], [])
 
     def test_finds_the_pauses_between_subtitles(self) -> None:
-        self.must("edges", list_cue_frames([(5, 9), (9, 30), (2, 5)]) == [2, 5, 9, 30])
-        self.must("none", not find_pauses([]))
-        self.must("two", find_pauses([(5, 9), (20, 30)]) ==
-                  [(None, 5), (9, 20), (30, None)])
+        self.check("cues", list_cue_frames([(5, 9), (9, 30), (2, 5)]), [2, 5, 9, 30])
+        self.must("no subtitle", not find_pauses([]))
+        self.check("two", find_pauses([(5, 9), (20, 30)]), [(None, 5), (9, 20), (30, None)])
 
 
 # Start and end frames of the subtitles in a programme of one minute.
@@ -354,8 +339,8 @@ PACE_LINE = "PES packets are at most 1 frame apart, or at least 3 after a loss o
 
 
 class Losses(ProgrammeCase):
-    """Losses that only the intervals between PES packets show, on a PID whose PES packets have one
-    TS packet each: if 16 are lost, the continuity counter goes on as if none were."""
+    """A stream with a PES packet of one TS packet in each frame, from 10:00:00:00 on. If 16 are
+    lost, the continuity counter goes on as if none were, and only the intervals show it."""
 
     due = TIMES
     first = 660  # number of the first lost PES packet, whose frame is 10:00:26:10
@@ -370,11 +355,12 @@ class Losses(ProgrammeCase):
         self.check(name, (judged.word, listed), (word, [f"refused {line}" for line in faults]))
 
     def test_measures_the_pace_of_a_regular_stream(self) -> None:
-        whole = self.judge_stream(self.make_stream_packets(fill_missing_frames(self.sent)))
-        self.check_faults("verdict", whole, "accepted")
-        self.check("line", whole.lines("pace: "), [PACE_LINE])
-        self.check("result", (whole.parts("pace"), whole.result["request"]["pace"]), ([(2,)], None))
-        self.must("command", " --complete --pace 2 --all" in whole.verdict.commands[-1])
+        judged = self.judge_stream(self.make_stream_packets(fill_missing_frames(self.sent)))
+        self.check_faults("verdict", judged, "accepted")
+        self.check("line", judged.lines("pace: "), [PACE_LINE])
+        self.check("result", (judged.parts("pace"), judged.result["request"]["pace"]),
+                   ([(2,)], None))
+        self.must("command", " --complete --pace 2 --all" in judged.verdict.commands[-1])
 
     def test_reports_a_silence_although_no_counter_shows_the_loss(self) -> None:
         multiplex = self.make_stream_packets(fill_missing_frames(self.sent))
@@ -383,30 +369,33 @@ class Losses(ProgrammeCase):
                             (delete_between, (1, 15, 16, 17))):
             for count in counts:
                 faults = [*[self.lost] * (count % 16 > 0), *[self.silent] * (count > 1)]
-                self.check_faults(f"{cut.__name__} {count}", self.judge_stream(
-                    cut(multiplex, self.first, count)), "refused", *faults)
+                judged = self.judge_stream(cut(multiplex, self.first, count))
+                self.check_faults(f"{cut.__name__} {count}", judged, "refused", *faults)
+                if count == 16:
+                    self.check(f"{cut.__name__}: sentence", judged.sentence, "Refused: there was "
+                               "no PES packet for 16 frames from 10:00:26:10 on.")
+
+    def test_reports_a_silence_of_several_times_16_pes_packets(self) -> None:
+        multiplex = self.make_stream_packets(fill_missing_frames(self.sent))
         for cut, count in ((remove_pid_packets, 32), (remove_pid_packets, 160),
                            (delete_between, 160)):
             judged = self.judge_stream(cut(multiplex, self.first, count))
-            self.must(f"{cut.__name__} {count}", judged.word == "refused" and
-                      f"refused {self.silent}" in judged.listed and not any(
-                          line.startswith("refused 45") for line in judged.listed), judged.listed)
-        judged = self.judge_stream(remove_pid_packets(multiplex, self.first, 16))
-        self.check("sentence", judged.sentence,
-                   "Refused: there was no PES packet for 16 frames from 10:00:26:10 on.")
+            self.check(f"{cut.__name__} {count}: verdict", judged.word, "refused")
+            self.must(f"{cut.__name__} {count}: faults", f"refused {self.silent}" in judged.listed
+                      and not any("refused 45" in line for line in judged.listed), judged.listed)
 
     def test_judges_by_the_given_pace(self) -> None:
         multiplex = remove_pid_packets(self.make_stream_packets(fill_missing_frames(self.sent)),
                                        self.first, 16)
         # The option, the verdict, the pace that is used, and the lines about it
-        for words, word, pace, lines in (
+        for option, word, pace, lines in (
                 ("--pace=none", "accepted", None, []), ("--pace=17", "accepted", 17, []),
                 ("--pace=16", "refused", 16, []), ("--allow-lost", "waived", 2, [PACE_LINE])):
-            judged = self.judge_stream(multiplex, words)
-            self.check(words, (judged.word, judged.lines("pace: "), judged.parts("pace")),
+            judged = self.judge_stream(multiplex, option)
+            self.check(option, (judged.word, judged.lines("pace: "), judged.parts("pace")),
                        (word, lines, [(pace,)]))
-            self.check(f"{words}: requested", judged.result["request"]["pace"],
-                       words[7:] if words.startswith("--pace") else None)
+            self.check(f"{option}: requested", judged.result["request"]["pace"],
+                       option[7:] if option.startswith("--pace") else None)
 
     def test_reports_a_silence_of_a_pipe_and_of_a_file_of_pes_packets(self) -> None:
         sent = fill_missing_frames(self.sent)
@@ -433,9 +422,9 @@ class Losses(ProgrammeCase):
                                              IRREGULAR_NOTE in judged.notes), (True, True))
             self.check(f"{name}: no pace", (judged.lines("pace: "), judged.parts("pace")),
                        ([], [(None,)]))
-        for words in ("--pace=none", "--pace=180"):
-            judged = self.judge_stream(remove_pid_packets(multiplex, first, 16), words)
-            self.check(words, (judged.word, IRREGULAR_NOTE in judged.told), ("accepted", False))
+        for option in ("--pace=none", "--pace=180"):
+            judged = self.judge_stream(remove_pid_packets(multiplex, first, 16), option)
+            self.check(option, (judged.word, IRREGULAR_NOTE in judged.told), ("accepted", False))
         # The first burst of each subtitle ends 24 frames after its TCI; the fault is 100 later.
         self.check_faults("--pace=100", self.judge_stream(multiplex, "--pace=100"), "refused", *(
             f"79 Silent frame 10:00:{10 * at + 4:02}:24" for at in range(6)))
