@@ -442,7 +442,7 @@ class WholeCalls(Case):
         pes = packets(data)
         broken = bytearray(data)
         broken[len(b"".join(pes[:10])) + 5] ^= 1
-        for name, content in (("a wrong length", bytes(broken)), ("the end is missing", data[:-50])):
+        for name, content in (("a wrong length", bytes(broken)), ("no end", data[:-50])):
             call = self.read_pages(self.write("a.pes", content))
             self.check(name, (call.status, self.result()["faults"][0]["name"]), (1, "ends early"))
 

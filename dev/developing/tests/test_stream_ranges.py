@@ -24,23 +24,26 @@ EARLIER, LATER = ("--to", "00:01:00:00"), ("--from", "00:01:00:00")
 BAD = b"no letter: \xe6"
 
 
-def three(first: int) -> list[tuple[int, int]]:
+def make_times(first: int) -> list[tuple[int, int]]:
+    """Return the TCI and TCO of three subtitles, 2, 4 and 6 seconds after a frame."""
     return [(first + 50 * at, first + 50 * at + 40) for at in range(1, 4)]
 
 
 class DayFiles(Case):
-    def day(self, *texts: bytes, name: str = "day.stl") -> str:
+    """The subtitle file of a day with two programmes of three subtitles, from 00:00:00:00 and from
+    00:01:00:00 on, and the transmission of the second programme."""
+
+    def write_day(self, *texts: bytes, name: str = "day.stl") -> str:
         texts = texts or tuple(b"Number %d" % number for number in range(1, 7))
         return write_subtitle_file(self, [(begin, end, text) for (begin, end), text in zip(
-            [*three(0), *three(MINUTE)], texts)], name)
+            [*make_times(0), *make_times(MINUTE)], texts)], name)
 
-    def transmission(self, *args: str) -> str:
-        """Write the transmission of the subtitles in LATER, or in the range that `args` gives."""
-        self.schedule(self.day(), "second.pes", *(args or LATER))
-        return self.path("second.pes")
+    def write_second(self) -> str:
+        return self.schedule(self.write_day(), "second.pes", *LATER)
 
     def test_judges_only_subtitles_in_the_range(self) -> None:
-        day, second = self.day(), self.transmission()
+        day, second = self.write_day(), self.write_second()
+        # The options, the verdict, and the number of subtitles
         for words, word, count in (
                 (LATER, "accepted", 3), (("--from", "00:01:02:00"), "accepted", 3),
                 (("--from", "00:01:02:01"), "accepted", 2), ((), "refused", 6),
@@ -48,42 +51,39 @@ class DayFiles(Case):
                 ((*LATER, "--to", "00:01:06:00"), "accepted", 2),
                 ((*LATER, "--to", "00:01:06:01"), "accepted", 3)):
             judged_pair = judge_files(self, day, second, "--origin", "0", *words)
-            self.must(f"{words}",
-                      (judged_pair.word, judged_pair.verdict.subtitle_count) == (word, count),
-                      judged_pair.said)
-            self.must(f"{words}: subtitles", word == "not judged" or len(
-                judged_pair.result["subtitles"]) == count, judged_pair.result["subtitles"])
-        judged_pair = judge_files(self, day, second, *LATER, "-o", self.path("out"))
-        self.must("fitted", judged_pair.word == "accepted"
-                  and judged_pair.parts("from", "to", "stl") == [
-            ("00:01:02:00", "00:01:07:15", day)], judged_pair.said)
-        self.must("places",
-                  [item["position"] for item in judged_pair.result["subtitles"]] == [4, 5, 6])
+            self.check(f"{words}", (judged_pair.word, judged_pair.verdict.subtitle_count),
+                       (word, count))
+            if word != "not judged":
+                self.check(f"{words}: subtitles", len(judged_pair.result["subtitles"]), count)
+
+    def test_reports_only_subtitles_in_the_range(self) -> None:
+        day = self.write_day()
+        judged = judge_files(self, day, self.write_second(), *LATER, "-o", self.path("out"))
+        self.check("part", (judged.word, judged.parts("from", "to", "stl")),
+                   ("accepted", [("00:01:02:00", "00:01:07:15", day)]))
+        self.check("places", [item["position"] for item in judged.result["subtitles"]], [4, 5, 6])
         page = self.read("out/one.html")
         self.must("report", b'<tr id="s4"' in page and b'<tr id="s3"' not in page and
                   b"--from 00:01:00:00" in page, page)
-        self.must("files", sorted(os.listdir(self.path("out"))) == [
+        self.check("files", sorted(os.listdir(self.path("out"))), [
             "one.html", "one.json", "one.txt"])
 
     def test_ignores_faults_outside_the_range(self) -> None:
-        second = self.transmission()
         texts = [b"Number %d" % number for number in range(1, 7)]
-        first_bad, last_bad = self.day(*texts[:2], BAD, *texts[3:], name="first.stl"), \
-            self.day(*texts[:5], BAD, name="last.stl")
-        judged_pair = judge_files(self, first_bad, second, *LATER, "-o", self.path("out"))
-        self.must("outside", judged_pair.word == "accepted"
-                  and judged_pair.verdict.subtitle_count == 3, judged_pair.said)
-        judged_pair = judge_files(self, first_bad, second)
-        self.must("the whole", judged_pair.verdict.line == "refused 50 Character block 3 at 11",
-                  judged_pair.said)
-        judged_pair = judge_files(self, last_bad, second, *LATER, "-o", self.path("out"))
-        self.must("inside", judged_pair.verdict.line == "refused 50 Character block 6 at 11" and
-                  judged_pair.result["faults"][0]["subtitle"]["position"] == 6, judged_pair.said)
+        third_bad = self.write_day(*texts[:2], BAD, *texts[3:], name="third.stl")
+        last_bad, second = self.write_day(*texts[:5], BAD, name="last.stl"), self.write_second()
+        judged = judge_files(self, third_bad, second, *LATER, "-o", self.path("out"))
+        self.check("outside", (judged.word, judged.verdict.subtitle_count), ("accepted", 3))
+        self.check("no range", judge_files(self, third_bad, second).verdict.line,
+                   "refused 50 Character block 3 at 11")
+        judged = judge_files(self, last_bad, second, *LATER, "-o", self.path("out"))
+        self.check("inside", (judged.verdict.line, judged.result["faults"][0]["subtitle"][
+            "position"]), ("refused 50 Character block 6 at 11", 6))
         for words, word in ((EARLIER, "valid"), ((), "refused"), (LATER, "refused")):
-            self.must(f"alone {words}", judge_files(self, last_bad, *words).word == word)
+            self.check(f"no recording, {words}", judge_files(self, last_bad, *words).word, word)
 
     def test_refuses_a_range_without_subtitles(self) -> None:
-        day, second = self.day(), self.transmission()
+        day, second = self.write_day(), self.write_second()
         for words in (("--from", "00:02:00:00", "--to", "00:01:00:00"), ("--from", "00:05:00:00"),
                       ("--to", "00:00:00:00"), (*LATER, "--to", "00:01:02:00")):
             for recording in list[list[str]]([[], [second]]):
@@ -95,26 +95,26 @@ class DayFiles(Case):
                    "00:05:00:00 or later and before 00:06:00:00")
         none = self.write("none.stl", make_gsi_block(b"", 0, 0))
         result = judge_files(self, none, second)
-        self.must("nor has the file one", result.word == "not judged" and
-                  result.told[-1] == f"{none} has no subtitle", result.said)
+        self.check("a file without subtitles", (result.word, result.told[-1]),
+                   ("not judged", f"{none} has no subtitle"))
 
     def test_refuses_invalid_times(self) -> None:
-        for words in (("--from", "1:00"), ("--to", "24:00:00:00"), ("--from", "00:00:00:25")):
-            process = self.tool("qc", self.day(), *words)
-            self.must(f"{words}", process.status == 64 and process.told == [
-                f"qc: argument {words[0]}: {words[1]} is not a time of day: give HH:MM:SS:FF, 25 "
-                "frames a second"], process)
+        for option, time in (("--from", "1:00"), ("--to", "24:00:00:00"),
+                             ("--from", "00:00:00:25")):
+            process = self.tool("qc", self.write_day(), option, time)
+            self.check(f"{option} {time}", (process.status, process.told), (64, [
+                f"qc: argument {option}: {time} is not a time of day: give HH:MM:SS:FF, 25 frames "
+                "a second"]))
 
     def test_finds_parts_within_the_range(self) -> None:
         times = [(100 * at, 100 * at + 60) for at in range(1, 15)]
         day = write_programme(self, [*times, (MINUTE * 5, MINUTE * 5 + 9)], name="day.stl")
-        sent = [(pts + (pts >= 780 * 3600) * 3600 * 999, packets)
+        # From frame 780 on, before the eighth subtitle, the PTS are 999 frames later.
+        sent = [(pts + (pts >= 780 * TICKS) * TICKS * 999, packets)
                 for pts, packets in schedule_pages(self, write_programme(self, times))]
         result = judge_files(self, day, self.write("day.pes", join_pes_packets(sent)),
-                             "--breaks", "1", "--to",
-                             "00:04:00:00")
-        self.must("accepted", result.word == "accepted" and result.verdict.subtitle_count == 14,
-                  result.said)
+                             "--breaks", "1", "--to", "00:04:00:00")
+        self.check("accepted", (result.word, result.verdict.subtitle_count), ("accepted", 14))
         commands = result.lines("+ ")
         self.must("commands", len(commands) == 2 and
                   "--from 00:00:04:00 --to 00:00:30:10" in commands[0] and
@@ -126,47 +126,46 @@ class DayFiles(Case):
                 ("./subttx check 'one of.stl' /dev/null --option german",
                  ["one of.stl", "/dev/null"]),
                 ("subttx check out/film.1.stl film.ts --pid 0x101", ["out/film.1.stl", "film.ts"])):
-            self.must(line, list_shown_files(line) == files, list_shown_files(line))
+            self.check(line, list_shown_files(line), files)
 
 
 class SkippedSubtitles(Case):
-    def test_leaves_out_subtitles_by_their_first_block(self) -> None:
-        result = [make_tti_block(1, 25, 50, 20, 2, b"one"), make_tti_block(2, 75, 99, 20, 2, b"tw",
-                                                                           0),
-                  make_tti_block(2, 0, 0, 20, 2, b"o"),
+    def test_leaves_out_subtitles_by_the_tci_of_their_first_block(self) -> None:
+        # Block 2 and 3 are one subtitle, block 5 is a comment, and block 7 has an invalid TCI.
+        blocks = [make_tti_block(1, 25, 50, 20, 2, b"one"),
+                  make_tti_block(2, 75, 99, 20, 2, b"tw", 0), make_tti_block(2, 0, 0, 20, 2, b"o"),
                   make_tti_block(3, 100, 150, 20, 2, b"three"),
                   make_tti_block(4, 0, 0, 20, 2, b"note", comment=1),
                   make_tti_block(5, 200, 225, 20, 2, b"five")]
         timeless = bytearray(make_tti_block(6, 0, 0, 20, 2, b"six"))
         timeless[5] = 99
-        path = self.write("one.stl", make_gsi_block(b"", 7, 5) + b"".join(result) + timeless)
-        for between, begins, lasts in (
+        path = self.write("one.stl", make_gsi_block(b"", 7, 5) + b"".join(blocks) + timeless)
+        # The range of TCI, and the TCI and the last block of each subtitle in it
+        for between, begins, last_blocks in (
                 (FrameRange(), [25, 75, 100, 200], [1, 3, 4, 6, 7]),
-                (FrameRange(25), [25, 75, 100, 200],
-                 [1, 3, 4, 6, 7]),
+                (FrameRange(25), [25, 75, 100, 200], [1, 3, 4, 6, 7]),
                 (FrameRange(26, 100), [75], [3, 7]), (FrameRange(75, 101), [75, 100], [3, 4, 7]),
                 (FrameRange(101, 100), [], [7])):
             file = SubtitleFile(path, between)
-            self.must(f"{between}", ([*file.begins], [*file.list_last_blocks()]) == (begins, lasts),
-                      (file.begins, [*file.list_last_blocks()]))
-            at = [file.find_by_block(block) for block in range(1, 8)]
-            self.must(f"{between}: places", [item and item.position for item in at] == [
-                1, 2, 2, 3, 3, 4, 5], at)
+            self.check(f"{between}", ([*file.begins], [*file.list_last_blocks()]),
+                       (begins, last_blocks))
+            subtitles = [file.find_by_block(block) for block in range(1, 8)]
+            self.check(f"{between}: places of blocks", [
+                item and item.position for item in subtitles], [1, 2, 2, 3, 3, 4, 5])
 
     def test_reads_a_file_as_the_program_shows_it(self) -> None:
         path = write_programme(self, [(9, 20), (20, 30), (40, 50)], 2)
-        with open(path, "rb") as file:
-            self.must("read",
-                      decode_subtitles(file.read()) == read_subtitles(self.bench.program, path))
+        self.check("two lines", decode_subtitles(self.read(path)),
+                   read_subtitles(self.bench.program, path))
         data = b"".join(make_subtitle_blocks(at, 50 * at, 50 * at + 9, 20 + at, at % 4, text)
                         for at, text in enumerate((b"one", b"", b"x" * 38 + b"\x8a" + b"y" * 80,
                                                    b"\x8f".join([b"z"] * 60))))
         path = self.write("long.stl", make_gsi_block(b"", 6, 4) + data)
         shown = read_subtitles(self.bench.program, path)
-        self.must("long texts", len(shown) == 4 and decode_subtitles(self.read(path)) == shown,
-                  shown)
+        self.check("long texts", (len(shown), decode_subtitles(self.read(path))), (4, shown))
 
     def test_notes_a_title_an_hour_before_the_programme(self) -> None:
+        # The TCI of a file's subtitles, and the first TCI after the title
         rows: list[tuple[list[int], str | None]] = [
             ([0, HOUR], "01:00:00:00"), ([0, HOUR - 1], None), ([1, HOUR], None), ([0], None),
             ([], None), ([0, 0, HOUR + 25, 2 * HOUR], "01:00:01:00"), ([0, 9, HOUR], None),
@@ -179,9 +178,10 @@ class SkippedSubtitles(Case):
                       words)
 
     def test_prints_the_note_on_a_title_once(self) -> None:
-        times = [(10 * HOUR + begin, 10 * HOUR + end) for begin, end in three(0)]
+        times = make_times(10 * HOUR)
         without = write_programme(self, times, name="without.stl")
         pes = self.write("one.pes", join_pes_packets(schedule_pages(self, without)))
+        # TCI and TCO of the title, and the fault for which it is refused
         for title, number in (((0, 0), 21), ((0, 25), 63)):
             whole = write_programme(self, [title, *times], name="whole.stl", first=0)
             for recording in list[list[str]]([[], [pes, "--origin", "0"]]):
@@ -198,53 +198,53 @@ class SkippedSubtitles(Case):
 
 
 class AdjoiningSubtitles(ProgrammeCase):
+    """Subtitles of which the second, third and fourth follow each other without a pause."""
+
     due = [(100, 150), (200, 250), (250, 300), (300, 350), (400, 450), (500, 550)]
 
     def test_advises_pauses_instead_of_an_end_between_adjoining_subtitles(self) -> None:
-        for frame, near in ((250, (151, 351)), (300, (151, 351))):
+        for frame in (250, 300):
             judged = self.judge(self.sent, "--to", format_frame(frame))
-            self.must(f"{frame}", judged.word == "not judged" and judged.result["parts"] == [] and [
-                word.rpartition(" ")[2] for word in judged.verdict.suggestions] ==
-                      [*map(format_frame, near)],
-                      (judged.said, judged.verdict.suggestions))
+            self.check(f"{frame}", (judged.word, judged.result["parts"]), ("not judged", []))
+            self.check(f"{frame}: suggested ends", [
+                word.rpartition(" ")[2] for word in judged.verdict.suggestions],
+                       [format_frame(151), format_frame(351)])
             self.check(f"{frame}: reason", judged.verdict.unjudged_reason, "--to ends the range at "
                        f"{format_frame(frame)}, where the next subtitle follows directly: the page "
                        "is not erased there")
-            for end in near:
-                judged = self.judge(self.sent, "--to", format_frame(end))
-                self.must(f"{frame}, {end}", judged.word == "accepted", judged.said)
-        judged = self.judge(self.sent, "--to", format_frame(500))
-        self.must("a pause", judged.word == "accepted", judged.said)
+        for frame in (151, 351, 500):
+            self.check(f"{frame}", self.judge(self.sent, "--to", format_frame(frame)).word,
+                       "accepted")
 
+    def test_reports_other_faults_and_not_the_end_between_adjoining_subtitles(self) -> None:
         other = [(pts, [HEADER, make_numbered_row(22, b"Other"), CLOSING])
                  if pts == 250 * TICKS else (pts, packets) for pts, packets in self.sent]
         one_late = make_delay(1, 200 * TICKS, 200 * TICKS)(self.sent)
-        for name, sent in (("another page", other), ("another fault", one_late)):
+        for name, sent in (("another page", other), ("a late subtitle", one_late)):
             judged = self.judge(sent, "--to", format_frame(250))
-            self.must(name, judged.word == "refused", judged.said)
-        self.check("the fault leads, and not the end", judged.sentence,
+            self.check(name, judged.word, "refused")
+        self.check("sentence", judged.sentence,
                    'Refused: subtitle 2 at 00:00:08:00, "Number 2", appeared 1 frame late.')
 
     def test_expects_pages_with_the_options_of_the_call(self) -> None:
         words = "--open", "--layout", "row=-2", "--option", "german", "--page", "150"
-        stl = write_subtitle_file(self,
-                                  [(*item, b"Gr\xc8u\xfbe %d" % item[0]) for item in self.due],
-                                  row=20)
+        stl = write_subtitle_file(
+            self, [(*item, b"Gr\xc8u\xfbe %d" % item[0]) for item in self.due], row=20)
         with open(stl, "r+b") as file:
             file.seek(11)
             file.write(b"0")  # set DSC to open subtitles
         pes = self.schedule(stl, "one.pes", "--every", "25", *words)
         judged = judge_files(self, stl, pes, "--origin", "0", *words, "--to", format_frame(250))
-        self.must("not judged",
-                  judged.word == "not judged" and len(judged.verdict.suggestions) == 2,
-                  judged.said)
+        self.check("suggestions", (judged.word, len(judged.verdict.suggestions)), ("not judged", 2))
 
-    def test_finds_the_last_tco_at_which_a_subtitle_adjoins(self) -> None:
-        rows: list[tuple[int, int, list[int], int | None]] = [
-            (72, 0, [200], 200), (72, 0, [199], None), (72, 0, [201], None), (72, 0, [], None),
-            (72, 2, [202], 200), (72, 2, [203], None), (67, 0, [200], None),
-            (72, 0, [200, 200], None)]
-        for number, within, frames, expected in rows:
+    def test_finds_an_end_that_only_the_next_subtitle_makes_a_fault(self) -> None:
+        # The part has the frames 100 to 200. The number and the frames of faults, --within, and the
+        # end of the part if the only fault is 72 (Content) there
+        rows: list[tuple[int, list[int], int, int | None]] = [
+            (72, [200], 0, 200), (72, [199], 0, None), (72, [201], 0, None), (72, [], 0, None),
+            (72, [202], 2, 200), (72, [203], 2, None), (67, [200], 0, None),
+            (72, [200, 200], 0, None)]
+        for number, frames, within, expected in rows:
             lines = [f"refused {number} Name frame {format_frame(frame)}" for frame in frames]
             printed = make_answer([*lines, f"{len(lines)} faults"] if lines
                                   else ["accepted 9 frames 2 transmissions"])
@@ -255,6 +255,7 @@ class AdjoiningSubtitles(ProgrammeCase):
     def test_finds_the_pauses_near_a_frame(self) -> None:
         subtitles = [Subtitle(at, at, begin, end, 22, 2, b"")
                      for at, (begin, end) in enumerate(self.due)]
+        # The number of subtitles in the file, a frame, and the nearest TCOs that a pause follows
         for count, frame, expected in ((6, 300, [150, 350]), (6, 100, [150]), (6, 500, [450, 550]),
                                        (4, 300, [150, 350]), (0, 300, [])):
             self.assertEqual(find_nearest_pauses(subtitles[:count], frame), expected,
@@ -263,7 +264,8 @@ class AdjoiningSubtitles(ProgrammeCase):
 
 class StepsBack(Case):
     def test_finds_a_pts_before_that_of_the_previous_pes_packet(self) -> None:
-        # Runs of PES packets: the frame of the first, their number and the step in frames
+        # Runs of PES packets: the frame of the first, their number and the step in frames; and the
+        # PES packet, the frame before it and the ticks back, if that frame is between 10 and 40
         rows: dict[str, tuple[list[tuple[int, int, int]], tuple[int, int, int] | None]] = {
             "forward": ([(10, 3, 1), (13, 2, 5)], None),
             "to the same frame": ([(10, 3, 1), (12, 1, 0)], None),
@@ -282,7 +284,7 @@ class StepsBack(Case):
                 number += length
             self.check(f"{name}, {origin}", find_step_back(packets, 10, 40, origin), expected)
 
-    def test_the_sentence_names_it_first(self) -> None:
+    def test_the_sentence_names_a_step_back_before_subtitles(self) -> None:
         stl = write_programme(self, subtitle_times(9))
         for by, words in ((150, "the PTS go back by 5 s 10 frames in PES packet 10, after "
                            "00:00:11:10; 2 of 9 subtitles"), (5, "")):
