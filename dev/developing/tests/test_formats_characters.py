@@ -7,7 +7,7 @@ import dataclasses
 import json
 import os
 import unittest
-from typing import Any, Iterator, NamedTuple
+from typing import Iterator, NamedTuple
 
 from developing.pes import (
     NATIONAL, decode_address, decode_header, decode_pts, encode_triplet, get_data_field,
@@ -23,11 +23,10 @@ from subtitles.formats.teletext import (
     choose_track_option, find_options, reverse_bits)
 from subtitles.judging.subtitles import advise_on_character
 from subtitles.recording.notices import find_character_set_notices, find_option_notices
-from subtitles.request.request import Request
 from .bench import Case, CompletedCall, read_example_file
-from .parts import survey_packets
+from .parts import make_example_request, survey_packets
 from .results import check_schema
-from .transmissions import packets
+from .transmissions import CLOSING, HEADER, packets
 from .test_cli_pairs import STORY, qc, split_output_lines
 
 NATIONAL_FOLDER = os.path.join(TOP, "dev", "vectors", "national")
@@ -39,7 +38,10 @@ def read_vector_rows(name: str) -> Iterator[dict[str, str]]:
 
 
 class NationalOptions(unittest.TestCase):
-    def test_each_byte_gives_its_cell_and_its_character(self) -> None:
+    """The codes of characters in subtitle files, the cells (codes of Teletext) with which each
+    national option draws them, and the tables in dev/vectors/national, from outside sources."""
+
+    def test_each_character_has_the_cell_of_the_table(self) -> None:
         count = 0
         for row in read_vector_rows("options.tsv"):
             count += 1
@@ -54,22 +56,22 @@ class NationalOptions(unittest.TestCase):
                 self.assertIn(option, find_options(text))
         self.assertEqual(count, 1228)
 
-    def test_decodes_codes_that_no_subtitle_uses_as_libzvbi(self) -> None:
+    def test_decodes_cells_that_no_subtitle_uses_as_libzvbi(self) -> None:
         for option in OPTIONS:
             self.assertEqual(make_character_table(option.number)[0x7F], "\u25a0", option)
         self.assertEqual("".join(make_character_table(ENGLISH.bits)[code]
                                  for code in b"[\\]^`{|}~"),
                          "←½→↑—¼‖¾÷")
         self.assertEqual(make_character_table(GERMAN.bits)[0x5E:0x60], ["^", "_"])
-        # If C12 to C14 select no option of the region, only the characters that are the same in all
-        # options are known.
-        for number in (7, 8 + 5, 8 * 3):
-            self.assertEqual([(code, make_character_table(number)[code] != "\u25a1") for code in
-                              range(32, 127)],
-                             [(code, code not in NATIONAL_CODES) for code in range(32, 127)],
-                             number)
 
-    def test_encodes_no_other_text_in_one_cell(self) -> None:
+    def test_national_characters_are_unknown_if_the_bits_select_no_option_of_the_region(
+            self) -> None:
+        for number in (7, 8 + 5, 8 * 3):  # eight times the region, plus C12 to C14
+            table = make_character_table(number)
+            self.assertEqual([code for code in range(32, 127) if table[code] == "\u25a1"],
+                             sorted(NATIONAL_CODES), number)
+
+    def test_encodes_no_other_character_in_one_cell(self) -> None:
         known = {(row["option"], bytes.fromhex(row["stl"]))
                  for row in read_vector_rows("options.tsv")}
         for option in OPTIONS:
@@ -82,21 +84,22 @@ class NationalOptions(unittest.TestCase):
                         self.assertEqual(whole, [code for byte in text for code in encode_line(
                             bytes([byte]), option)], (option.word, text))
 
-    def test_encodes_texts_in_eleven_languages(self) -> None:
-        count = 0
-        for row in read_vector_rows("vectors.tsv"):
-            if row["kind"] in ("drawn", "refused"):
-                count += 1
-                with self.subTest(no=row["no"], option=row["option"], text=row["text"]):
-                    text = bytes.fromhex(row["stl"])
-                    self.assertEqual(has_characters(text, OPTION_BY_WORD[row["option"]]),
-                                     row["kind"] == "drawn")
-        self.assertGreater(count, 150)
+    def test_finds_the_texts_of_eleven_languages_that_an_option_can_draw(self) -> None:
+        rows = [row for row in read_vector_rows("vectors.tsv")
+                if row["kind"] in ("drawn", "refused")]
+        self.assertGreater(len(rows), 150)
+        for row in rows:
+            with self.subTest(no=row["no"], option=row["option"], text=row["text"]):
+                text = bytes.fromhex(row["stl"])
+                self.assertEqual(has_characters(text, OPTION_BY_WORD[row["option"]]),
+                                 row["kind"] == "drawn")
+
+    def test_a_text_may_have_codes_80_to_8f_but_not_90(self) -> None:
         for byte in range(0x80, 0x90):
             self.assertTrue(has_characters(b"A%cA" % byte, ENGLISH), byte)
         self.assertFalse(has_characters(b"A\x90A", ENGLISH))
 
-    def test_chooses_the_option_of_each_language(self) -> None:
+    def test_chooses_the_option_of_each_language_code_of_subtitle_files(self) -> None:
         for word, codes in {
                 "english": "09 00 1D 18 ?", "german": "08", "swedish": "27 28 1B 1b",
                 "italian": "15", "french": "0F", "spanish": "0A 21", "czech": "06 25",
@@ -106,6 +109,8 @@ class NationalOptions(unittest.TestCase):
                 self.assertEqual(choose_language_option(code).word, word, code)
         for code in (b"", b"\xff\x00"):
             self.assertEqual(choose_language_option(code), ENGLISH, code)
+
+    def test_chooses_the_option_of_a_language_that_the_pmt_announces(self) -> None:
         for track, named in (("FRE", FRENCH), ("gre", None), ("lav", None)):
             self.assertEqual(choose_track_option(track), named, track)
 
@@ -114,7 +119,8 @@ class NationalOptions(unittest.TestCase):
 
 
 class Advice(unittest.TestCase):
-    def test_names_the_options_that_have_a_character(self) -> None:
+    def test_names_the_options_that_have_a_refused_character(self) -> None:
+        # The bytes of a character in a subtitle file, and the begin of the advice
         for text, words in (
                 ("C265", "no national option has all the characters in the file; é is in swedish, "
                  "italian, french, spanish and czech"),
@@ -128,6 +134,7 @@ class Advice(unittest.TestCase):
                          "file")
 
     def test_a_diacritical_mark_includes_the_next_letter(self) -> None:
+        # A text, the place of a byte, and the bytes of the character there
         for text, at, letter in ((b"a\xc2eb", 1, b"\xc2e"), (b"a\xc2", 1, b"\xc2"),
                                  (b"\xc2\x80e", 0, b"\xc2"), (b"ab", 1, b"b"),
                                  (b"\xc2 e", 0, b"\xc2"), (b"\xc9e", 0, b"\xc9")):
@@ -229,11 +236,13 @@ OTHER_LETTERS = {
 
 
 class Transmissions(Case):
+    """Subtitle files with one text in each subtitle, scheduled and checked with each option."""
+
     def schedule_texts(self, option: NationalOption, several: list[Text]) -> str:
         blocks = [make_tti_block(number, begin, begin + LENGTH, item.row, item.justify, item.text)
                   for number, item in enumerate(several) for begin in [FIRST_TCI + LENGTH * number]]
-        self.write("a.stl",
-                   make_gsi_block(b"", len(blocks), len(blocks), FIRST_TCI) + b"".join(blocks))
+        gsi = make_gsi_block(b"", len(blocks), len(blocks), FIRST_TCI)
+        self.write("a.stl", gsi + b"".join(blocks))
         return self.program("schedule", "a.stl", "a.pes", "--every", "1500", "--option",
                             option.word)[1][-1]
 
@@ -257,27 +266,27 @@ class Transmissions(Case):
                 self.must(f"{name}: the same page", item.cells == before)
                 continue
             header, *rows, _ = result
-            bits = [has_bit(decode_header(header) or b"", bit) for bit in NATIONAL]
-            self.must(f"{name}: C12 to C14", bits == [
-                bool(option.bits >> at & 1) for at in range(3)], bits)
-            reported = [(decode_address(row), bytes(byte & 0x7F for byte in row[2:]))
-                        for row in rows]
-            self.must(f"{name}: the row", reported == [((0, item.row), item.cells)], reported)
+            self.check(f"{name}: C12 to C14", [
+                has_bit(decode_header(header) or b"", bit) for bit in NATIONAL],
+                       [bool(option.bits >> at & 1) for at in range(3)])
+            self.check(f"{name}: the row", [
+                (decode_address(row), bytes(byte & 0x7F for byte in row[2:])) for row in rows],
+                       [((0, item.row), item.cells)])
             before = item.cells
 
-    def test_encodes_each_character_as_in_the_table(self) -> None:
+    def test_sends_each_character_as_in_the_table(self) -> None:
         for option in OPTIONS:
             self.check_cells(option, [item for item, _ in list_character_texts(option)])
 
-    def test_encodes_texts_or_names_the_refused_byte(self) -> None:
+    def test_sends_texts_or_names_the_refused_byte(self) -> None:
         for option in OPTIONS:
             several = texts(option)
-            self.check_cells(option, [item for item, reported in several if not reported])
-            for item, reported in several:
-                if reported:
-                    line = self.schedule_texts(option, [item])
-                    self.must(f"{option.word} {item.text.hex()}", line ==
-                              "refused {} {} block 1 {} {}".format(*reported.split()), line)
+            self.check_cells(option, [item for item, message in several if not message])
+            for item, message in several:
+                if message:
+                    self.check(f"{option.word} {item.text.hex()}",
+                               self.schedule_texts(option, [item]),
+                               "refused {} {} block 1 {} {}".format(*message.split()))
 
     def test_refuses_all_remaining_bytes(self) -> None:
         singles = [bytes([byte]) for byte in range(256) if byte != UNUSED[0]]
@@ -289,8 +298,8 @@ class Transmissions(Case):
             for number, text in enumerate(tried, 1):
                 if text not in known:
                     is_control = text[0] < 0x20 or 0x80 <= text[0] < 0xA0
-                    reported = "51 Control" if is_control else "50 Character"
-                    expected.append(f"refused {reported} block {number} at 0")
+                    fault = "51 Control" if is_control else "50 Character"
+                    expected.append(f"refused {fault} block {number} at 0")
             self.schedule_texts(option, [Text(text, 5, 0) for text in tried])
             lines = self.program("check", "a.stl", "/dev/null", "--all", "--option", option.word)[1]
             result = [line for line in lines if " block " in line]
@@ -310,89 +319,80 @@ class Transmissions(Case):
                     character, OTHER_LETTERS.get((option.word, character))), shown)
 
 
-PAGE = (0, 0x88)
-JUDGED_REQUEST = Request(stl="a.stl", recording="a.ts", page=PAGE, every=250, option="english",
-                         origin=0,
-              is_complete=True, pid=None, is_loss_allowed=False, severity=None, breaks=0, pes=None,
-                         start=None)
-HEADER, OTHER_HEADER, CLOSING = (make_packet(0, 0, numbers, b" " * 32) for numbers in (
-    (8, 8, 0, 8, 0, 8, 1, 0), (1, 0, 0, 0, 0, 0, 0, 0), (15, 15, 15, 7, 15, 3, 0, 0)))
+JUDGED_REQUEST = make_example_request("a.stl", "a.ts", "--option", "english", "--origin", "0")
 ROW = make_packet(0, 20, (), b"a row".ljust(40))
 
 
-def make_character_set_packet(number: int, character_set: int, designation: int = 0,
-                              magazine: int = 0,
-                              function: int = 0) -> bytes:
-    """Return a packet X/28 or M/29 that designates a character set (seven bits)."""
-    first = encode_triplet(function | character_set << 7)
-    address = magazine + 8 * number
+def make_character_set_packet(character_set: int, designation: int = 0,
+                              magazine: int = 0) -> bytes:
+    """Return a packet M/29 that designates a character set: eight times the region, plus an
+    option."""
+    address = magazine + 8 * 29
     head = bytes(CODE_WORDS[item] for item in (address & 15, address >> 4, designation))
-    return (head + first).ljust(42, encode_triplet(0)[:1])
+    return (head + encode_triplet(character_set << 7)).ljust(42, encode_triplet(0)[:1])
 
 
-def flip_header_bits(data: bytes, *bits: int) -> bytes:
+def flip_bits(data: bytes, *bits: int) -> bytes:
     result = bytearray(data)
     for bit in bits:
         result[bit >> 3] ^= 1 << (bit & 7)
     return bytes(result)
 
 
-def check_warnings(case: Case, name: str, process: CompletedCall, kinds: list[str]) -> list[Any]:
-    """Check the kinds of the warnings in one.json, and that all were printed. Return them."""
-    verdict = json.loads(case.read("one.json"))
-    check_schema(case, verdict, f"{name}: the schema")
-    result: list[Any] = verdict["warnings"]
-    case.must(f"{name}: kinds", [item["kind"] for item in result] == kinds, (result, process))
-    lines = [item["line"] for item in result]
-    printed = [line.removeprefix("qc: warning: ") for line in process.told
-               if line.startswith("qc: warning: ")]
-    case.must(f"{name}: said", printed == lines, process.told)
-    report = case.read("out/story.html").decode()
-    case.must(f"{name}: in the report", all(
-        f'<p class="note">warning: {line}</p>' in report for line in lines), lines)
-    return result
-
-
 class Warnings(Case):
-    def test_warns_of_another_option_than_that_of_the_language(self) -> None:
+    """Recordings whose packets M/29 designate a character set for receivers above level 1, judged
+    with the option english (000 in region 0000) or another one."""
+
+    def test_warns_if_another_character_set_is_designated(self) -> None:
         may = "receivers above level 1 may show other characters"
         english = ", not 000 of region 0000 (English)"
         cases: list[tuple[str, bytes, list[str]]] = [
-            ("another region", make_character_set_packet(29, 8),
+            ("another region", make_character_set_packet(8),
              [f"packet 8/29/0 names character set 000 of region 0001 (Polish){english}: {may}"]),
-            ("another option", make_character_set_packet(29, 1, 4),
+            ("another option", make_character_set_packet(1, designation=4),
              [f"packet 8/29/4 names character set 001 of region 0000 (German){english}: {may}"]),
-            ("a set without an option", make_character_set_packet(29, 24),
+            ("a set without an option", make_character_set_packet(24),
              [f"packet 8/29/0 names character set 000 of region 0011{english}: {may}"]),
-            ("not to be read", flip_header_bits(make_character_set_packet(29, 8), 30, 40),
+            ("unreadable", flip_bits(make_character_set_packet(8), 30, 40),
              [f"packet 8/29/0 names an unreadable character set: {may}"]),
-            ("the same", make_character_set_packet(29, 0), []),
-            ("the same of another region", make_character_set_packet(29, 16), []),
-            ("another magazine's", make_character_set_packet(29, 8, magazine=1), [])]
-        for name, more, lines in cases:
-            reported = survey_packets(self, make_pes_packet(0, [HEADER, ROW, CLOSING, more]))
-            result = list(find_character_set_notices(reported, JUDGED_REQUEST))
-            self.must(name, [item.line for item in result] == lines, result)
-            self.must(f"{name}: kind", {item.kind for item in result} <= {"character_set"}, result)
+            ("the same", make_character_set_packet(0), []),
+            ("the same of another region", make_character_set_packet(16), []),
+            ("another magazine's", make_character_set_packet(8, magazine=1), [])]
+        for name, packet, lines in cases:
+            surveyed = survey_packets(self, make_pes_packet(0, [HEADER, ROW, CLOSING, packet]))
+            self.check(name, [(item.kind, item.line) for item in find_character_set_notices(
+                surveyed, JUDGED_REQUEST)], [("character_set", line) for line in lines])
 
-    def test_warns_if_another_option_is_designated(self) -> None:
+    def test_warns_with_each_option_but_the_designated_one(self) -> None:
         for designated, region in {"french": 0, "polish": 1, "romanian": 3}.items():
             bits = reverse_bits(OPTION_BY_WORD[designated].bits)
-            reported = survey_packets(self, make_pes_packet(
-                0, [HEADER, make_character_set_packet(29, 8 * region + bits)]))
+            surveyed = survey_packets(self, make_pes_packet(
+                0, [HEADER, make_character_set_packet(8 * region + bits)]))
             for option in OPTIONS:
                 request = dataclasses.replace(JUDGED_REQUEST, option=option.word)
-                self.must(f"{designated} {option.word}", bool([*find_character_set_notices(
-                    reported, request)]) == (option.word != designated))
+                self.check(f"{designated} {option.word}", bool([*find_character_set_notices(
+                    surveyed, request)]), option.word != designated)
+
+    def check_warnings(self, process: CompletedCall, kinds: list[str]) -> None:
+        """Check the warnings in one.json, and that all were printed and are in the report."""
+        verdict = json.loads(self.read("one.json"))
+        check_schema(self, verdict, "the schema")
+        self.check("kinds", [item["kind"] for item in verdict["warnings"]], kinds)
+        lines = [item["line"] for item in verdict["warnings"]]
+        self.check("printed", [line.removeprefix("qc: warning: ") for line in process.told
+                               if line.startswith("qc: warning: ")], lines)
+        report = self.read("out/story.html").decode()
+        self.must("in the report", all(
+            f'<p class="note">warning: {line}</p>' in report for line in lines), lines)
 
     def test_a_warning_changes_the_verdict_only_with_strict(self) -> None:
         pes = packets(read_example_file("story.pes"))
-        sent = [*get_teletext_packets(get_data_field(pes[1])), make_character_set_packet(29, 8)]
+        sent = [*get_teletext_packets(get_data_field(pes[1])), make_character_set_packet(8)]
         data = b"".join([pes[0], make_pes_packet(decode_pts(pes[1]), sent), *pes[2:]])
         path = self.write("one.pes", data)
         process = qc(self, STORY, path, "--origin", "0", "-o", "out", "--json", "one.json")
-        self.must("accepted", process.status == 0, process)
-        check_warnings(self, "a file", process, ["character_set"])
+        self.check("accepted", process.status, 0)
+        self.check_warnings(process, ["character_set"])
         process = qc(self, STORY, "-", "--origin", "0", "--strict", data=data)
         self.must("strict, a feed", process.status == 1
                   and split_output_lines(process)[-1].startswith(
@@ -401,7 +401,9 @@ class Warnings(Case):
 
 
 class Languages(unittest.TestCase):
-    def test_uses_the_option_of_the_pmt_language(self) -> None:
+    """Languages that the PMT announces for the page, and the option with which it was judged."""
+
+    def test_warns_if_no_announced_language_uses_the_option(self) -> None:
         cases: list[tuple[list[str], str, str]] = [
             (["eng"], "english", ""), (["eng"], "french", "eng, which uses --option english"),
             (["fre"], "french", ""), (["fra"], "german", "fra, which uses --option french"),
@@ -414,18 +416,15 @@ class Languages(unittest.TestCase):
             (["fre", "eng"], "english", ""), (["nld"], "english", ""), (["nld"], "czech", ""),
             (["fre", "und"], "english", ""), ([], "english", "")]
         for languages, option, words in cases:
-            result = [option_notice.line
-                      for option_notice in find_option_notices(languages, dataclasses.replace(
-                JUDGED_REQUEST, option=option))]
+            request = dataclasses.replace(JUDGED_REQUEST, option=option)
+            result = [notice.line for notice in find_option_notices(languages, request)]
             line = f"the PMT announces page 888 in {words}, but it was judged with --option " \
                    f"{option}"
             with self.subTest(languages=languages, option=option):
                 self.assertEqual(result, [line] * bool(words))
 
-    def test_reads_each_pmt_language_as_a_receiver_does(self) -> None:
-        path = os.path.join(TOP, "dev", "vectors", "national", "pmt.tsv")
-        with open(path, encoding="utf-8", newline="") as file:
-            rows = [*csv.DictReader(file, delimiter="\t", quoting=csv.QUOTE_NONE)]
+    def test_warns_with_each_option_but_that_of_the_announced_language(self) -> None:
+        rows = [*read_vector_rows("pmt.tsv")]
         self.assertEqual(len(rows), 32)
         for row in rows:
             language, word = row["ISO 639-2"], row["option"]

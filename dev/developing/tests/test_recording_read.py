@@ -20,12 +20,13 @@ from subtitles.stream.survey import Survey
 from .bench import Case
 from .parts import make_example_request, read_survey
 from .test_formats_files import refusal
+from .test_recording_never_sent import FIRST_PID, SECOND_PID, THIRD_PID, make_pmt_lines
 
-FIRST_PID, SECOND_PID, THIRD_PID = 257, 258, 259
 
-
-def read_recording(survey: Survey, *args: str, name: str = "one.ts", kind: int = stat.S_IFREG,
+def make_recording(survey: Survey, *args: str, name: str = "one.ts", kind: int = stat.S_IFREG,
                    folder: str = "") -> Any:
+    """Return a `Recording` of page 888 that was surveyed, judged with arguments of qc. `kind` is
+    the type of the file. A subtitle is expected in the frames 100 to 150."""
     lines = list[str]()
     listener: Any = SimpleNamespace(lines=lines, print_line=lines.append,
                                     add_selection=lambda item: lines.append(item.line))
@@ -37,61 +38,65 @@ def read_recording(survey: Survey, *args: str, name: str = "one.ts", kind: int =
     return result
 
 
-def make_pes_line(pid: int, does: str = "heob", number: int = 0, pts: int = SECOND) -> str:
-    return f"pes {pid} {number} 1 {pts} 0 {does}/{'0' * ('h' in does)} 1 0"
-
-
-def make_pmt_lines(number: int, pid: int) -> list[str]:
-    return ["pcr 100 0", f"programme {number} 100", f"stream {pid} 6",
-            f"announce {pid} 888 656e67 2", f"pcr 100 {60 * SECOND}"]
+def make_pes_line(pid: int, flags: str = "heob", pts: int = SECOND) -> str:
+    """Return the line of a PES packet. The flag `h` is a header of page 888."""
+    return f"pes {pid} 0 1 {pts} 0 {flags}/{'0' * ('h' in flags)} 1 0"
 
 
 class ChosenPids(Case):
     def test_chooses_the_only_pid_with_the_page(self) -> None:
-        both = [make_pes_line(FIRST_PID), make_pes_line(SECOND_PID, "he")]
-        moves = [*make_pmt_lines(7, FIRST_PID), make_pes_line(FIRST_PID),
-                 *make_pmt_lines(7, SECOND_PID), make_pes_line(SECOND_PID, pts=60 * SECOND)]
-        others = [make_pes_line(FIRST_PID), f"sub {SECOND_PID} 888", f"sub {THIRD_PID} 801"]
-        rows: list[tuple[list[str], list[str], object]] = [
-            ([make_pes_line(FIRST_PID)], [], FIRST_PID),
-            ([make_pes_line(FIRST_PID, "he")], [], FIRST_PID),
-            ([make_pes_line(FIRST_PID), make_pes_line(SECOND_PID, "-")], [], FIRST_PID),
-            ([make_pes_line(SECOND_PID), make_pes_line(FIRST_PID, "-")], [], SECOND_PID),
-            (both, [], ["--pid 0x101", "--pid 0x102"]),
-            (both[::-1], [], ["--pid 0x101", "--pid 0x102"]),
-            ([make_pes_line(FIRST_PID, "-")], [], []),
-            ([make_pes_line(FIRST_PID, "-"), f"sub {SECOND_PID} 801"], [],
-             ["--page 801"]),
-            ([], [], []),
-            ([make_pes_line(FIRST_PID, "-"), *make_pmt_lines(7, FIRST_PID)], [], NeverSent),
-            (moves, [], ["--pid 0x101", "--pid 0x102"]),
-            (others, ["--pid", f"{FIRST_PID}"], FIRST_PID),
-            (both, ["--pid", f"{SECOND_PID}"], SECOND_PID),
-            ([make_pes_line(FIRST_PID), make_pes_line(SECOND_PID, "-")], ["--pid", f"{SECOND_PID}"],
-             SECOND_PID),
-            (others, ["--pid", f"{THIRD_PID}"], [f"--pid 0x{SECOND_PID:X}"]),
-            ([make_pes_line(FIRST_PID)], ["--pid", f"{SECOND_PID}"], ["--pid PID"]),
-            ([make_pes_line(FIRST_PID, "-"), *make_pmt_lines(7, FIRST_PID)],
-             ["--pid", f"{FIRST_PID}"], NeverSent)]
-        for lines, words, expected in rows:
-            recording = read_recording(read_survey("size 188", *lines), *words)
+        page_on_first, page_on_second = make_pes_line(FIRST_PID), make_pes_line(SECOND_PID)
+        rows_on_first, rows_on_second = make_pes_line(FIRST_PID, "-"), make_pes_line(
+            SECOND_PID, "-")
+        announced_on_first = ["pcr 100 0", *make_pmt_lines(7, FIRST_PID), f"pcr 100 {60 * SECOND}"]
+        announced_on_second = [*announced_on_first[:1], *make_pmt_lines(7, SECOND_PID),
+                               announced_on_first[-1]]
+        both = [page_on_first, make_pes_line(SECOND_PID, "he")]
+        moves = [*announced_on_first, page_on_first,
+                 *announced_on_second, make_pes_line(SECOND_PID, pts=60 * SECOND)]
+        others = [page_on_first, f"sub {SECOND_PID} 888", f"sub {THIRD_PID} 801"]
+        never_sent = [rows_on_first, *announced_on_first]
+        # Lines of `survey`, the value of --pid (`None`: not given), and the PID, suggested options,
+        # or `NeverSent`
+        rows: list[tuple[list[str], int | None, object]] = [
+            ([page_on_first], None, FIRST_PID),
+            ([make_pes_line(FIRST_PID, "he")], None, FIRST_PID),
+            ([page_on_first, rows_on_second], None, FIRST_PID),
+            ([page_on_second, rows_on_first], None, SECOND_PID),
+            (both, None, ["--pid 0x101", "--pid 0x102"]),
+            (both[::-1], None, ["--pid 0x101", "--pid 0x102"]),
+            ([rows_on_first], None, []), ([], None, []),
+            ([rows_on_first, f"sub {SECOND_PID} 801"], None, ["--page 801"]),
+            (never_sent, None, NeverSent), (never_sent, FIRST_PID, NeverSent),
+            (moves, None, ["--pid 0x101", "--pid 0x102"]),
+            (others, FIRST_PID, FIRST_PID), (both, SECOND_PID, SECOND_PID),
+            ([page_on_first, rows_on_second], SECOND_PID, SECOND_PID),
+            (others, THIRD_PID, [f"--pid 0x{SECOND_PID:X}"]),
+            ([page_on_first], SECOND_PID, ["--pid PID"])]
+        for lines, pid, expected in rows:
+            args = [] if pid is None else ["--pid", f"{pid}"]
+            recording = make_recording(read_survey("size 188", *lines), *args)
             result: object = None
             try:
                 packets = recording.find_packets()
                 result = packets.pid
-                self.must(f"{lines}: all", packets.count == 1)
+                self.check(f"{lines}: PES packets", packets.count, 1)
             except NeverSent:
                 result = NeverSent
             except Unclear as reason:
                 result = [*reason.commands]
-            self.must(f"{lines} {words}", result == expected, result)
+            self.check(f"{lines} {pid}", result, expected)
+
+    def test_reads_all_of_a_file_of_pes_packets(self) -> None:
         for count in (0, 1):
-            packets = read_recording(read_survey("size 0",
-                                                 *[make_pes_line(PES)] * count)).find_packets()
-            self.must(f"{count}", (packets.pid, packets.count) == (PES, count))
+            survey = read_survey("size 0", *[make_pes_line(PES)] * count)
+            packets = make_recording(survey).find_packets()
+            self.check(f"{count}", (packets.pid, packets.count), (PES, count))
 
     def test_distinguishes_files_pipes_and_streams(self) -> None:
         file, pipe = stat.S_IFREG, stat.S_IFIFO
+        # The name, the type, the TS packet size (0: PES packets), whether the recording is stored
+        # first, and the name shown for it and the ending of the kept copy
         rows: list[tuple[str, int, int, bool, tuple[str, str | None]]] = [
             ("one.ts", file, 188, False, ("one.ts", "recording.pes")),
             ("one.ts", file, 204, False, ("one.ts", "recording.pes")),
@@ -101,16 +106,19 @@ class ChosenPids(Case):
             ("-", file, 188, True, ("one.recording.ts", "recording.ts")),
             ("-", pipe, 0, True, ("one.recording.pes", "recording.pes"))]
         for name, kind, packet_size, is_piped, expected in rows:
-            item = read_recording(read_survey(f"size {packet_size}"), name=name, kind=kind)
+            item = make_recording(read_survey(f"size {packet_size}"), name=name, kind=kind)
             item.packets = Packets(FIRST_PID)
-            self.must(f"{name} {kind} {packet_size}", (
-                item.is_piped, item.path, item.stream(), (item.display_name, item.kept_ending)) == (
+            self.check(f"{name} {kind} {packet_size}", (
+                item.is_piped, item.path, item.stream(), (item.display_name, item.kept_ending)), (
                     is_piped, "one.recording" if is_piped else name,
-                    (FIRST_PID, packet_size) if packet_size else None, expected), vars(item))
-        jumped = read_recording(Survey())
-        self.must("jumps", [item.is_announced for item in jumped.list_losses([(5, 9)])] == [True])
+                    (FIRST_PID, packet_size) if packet_size else None, expected))
+
+    def test_lists_an_announced_jump_as_a_loss(self) -> None:
+        losses = make_recording(Survey()).list_losses([(5, 9)])
+        self.check("announced", [item.is_announced for item in losses], [True])
 
     def test_reports_files_that_are_no_recordings(self) -> None:
+        # The first bytes, the TS packet size that `survey` found (0: PES packets), and the message
         for head, size, words in (
                 (b"", None, "is empty"), (b"850STL25", None, "is a subtitle file"),
                 (b"\0\0\1\xe0", None, "stream_id E0 instead of BD"), (b"\0\0\1\xe0", 188, ""),
@@ -125,45 +133,47 @@ class ChosenPids(Case):
 
 class Messages(Case):
     def check_lines(self, lines: Sequence[str], expected: Sequence[str]) -> None:
+        """Check that each line contains the expected text."""
         self.assertEqual(len(lines), len(expected), (lines, expected))
         self.assertTrue(all(map(str.__contains__, lines, expected)), (lines, expected))
 
     def test_reports_missing_parts_of_a_recording(self) -> None:
-        for damage, refusal, skipped, marks, size in itertools.product(
+        for damage, refusal, skipped, markers, size in itertools.product(
                 (None, "is damaged"), (0, 31), (0, 40), range(3), (0, 188)):
-            recording = read_recording(read_survey(f"size {size}", f"over {skipped} 9"))
+            recording = make_recording(read_survey(f"size {size}", f"over {skipped} 9"))
             recording.packets = Packets(FIRST_PID, [PacketRun(0, 9, 0, TICKS, "-", "")] + [
-                PacketRun(9 + at, 1, None, 0, "m", "") for at in range(marks)], damage=damage,
+                PacketRun(9 + at, 1, None, 0, "m", "") for at in range(markers)], damage=damage,
                 refusal=refusal, gap_markers=[GapMarker(9 + at, 8 * TICKS, 1, 0)
-                                              for at in range(marks)])
+                                              for at in range(markers)])
             recording.print_losses()
-            expected = [["is damaged"] * bool(damage), [
-                *["refused 31 Start"] * bool(refusal),
-                *["40 bytes outside TS packets"] * bool(skipped),
-                *["1 TS packet was lost"] * marks] * bool(size)]
-            self.check_lines(recording.listener.lines, [*expected[0], *expected[1]])
+            of_stream = [*["refused 31 Start"] * bool(refusal),
+                         *["40 bytes outside TS packets"] * bool(skipped),
+                         *["1 TS packet was lost"] * markers]
+            self.check_lines(recording.listener.lines,
+                             ["is damaged"] * bool(damage) + of_stream * bool(size))
 
     def test_warns_of_a_cut_and_of_damage(self) -> None:
         for is_cut, refusal, damage, size in itertools.product(
                 (False, True), (0, 31), (None, "is damaged"), (0, 188)):
-            recording = read_recording(read_survey(f"size {size}"))
+            recording = make_recording(read_survey(f"size {size}"))
             recording.packets = Packets(FIRST_PID, is_cut=is_cut, refusal=refusal, damage=damage)
             result = [notice.line.split(" ", 1)[1] for notice in recording.find_notices()]
             ends = ["ends within"] * (is_cut and not refusal and size > 0) + ["is damaged"] * bool(
                 damage)
             self.check_lines(result, ends)
 
-    def test_stores_the_extracted_pid(self) -> None:
+    def test_keeps_the_extracted_pid_if_extract_ends_with_status_0_or_1(self) -> None:
+        # `extract` with --pid PID writes this PID. It is killed, or ends with status 2 or 1.
         path = self.write_program(
             "program", '#!/bin/sh\nfor file; do :; done\necho "$3" >"$file"\n'
             '[ "$3" != 0x103 ] || exit 2\n[ "$3" != 0x102 ] || kill -9 $$\n[ "$3" != 0x104 ]\n')
         rows: list[tuple[int, bytes | None]] = [(FIRST_PID, b"0x101\n"), (SECOND_PID, None),
                                                 (THIRD_PID, None), (0x104, b"0x104\n")]
         for pid, expected in rows:
-            recording, result = read_recording(read_survey("size 188"), folder=self.folder), None
+            recording, result = make_recording(read_survey("size 188"), folder=self.folder), None
             recording.command_paths.program_path, recording.packets = path, Packets(pid)
             try:
                 result = b"".join(recording.read_kept_data())
             except subprocess.CalledProcessError:
                 pass
-            self.must(f"{pid:#x}", result == expected, result)
+            self.check(f"{pid:#x}", result, expected)
