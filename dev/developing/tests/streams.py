@@ -139,10 +139,8 @@ def make_components(kind: int = MPEG_2, descriptor: bytes = make_teletext_descri
 def add_pictures(pes: bytes, first: int, kind: int = MPEG_2, picture: bytes = b"",
                  passed: int = 3, leading: int = 2) -> StreamMaker:
     """Make a stream whose first random access picture in display order has the PTS `first`.
-
     `passed` pictures precede it. `leading` pictures follow it but are displayed before it. The
-    group is closed, except with H.264.
-    """
+    group is closed, except with H.264."""
     maker = StreamMaker(make_components(kind))
     result = picture or {MPEG_2: make_mpeg_2_picture(), H_264: make_h_264_picture(),
                          HEVC: make_hevc_picture()}[kind]
@@ -164,13 +162,10 @@ def add_pictures(pes: bytes, first: int, kind: int = MPEG_2, picture: bytes = b"
 
 
 class Programme(NamedTuple):
-    """A programme with one picture per frame.
-
-    `pes` contains the PES packets of each Teletext PID. The PID `video` carries pictures from the
-    PTS `first` on, and PCRs. Pictures of the frames `flagged` have a random_access_indicator.
-    `later` contains frames, each with the ticks by which pictures from this frame on are delayed,
-    and the PCR too if `is_pcr_late`.
-    """
+    """A programme with one picture per frame. `pes` contains the PES packets of each Teletext PID.
+    The PID `video` carries pictures from the PTS `first` on, and PCRs. Pictures of the frames
+    `flagged` have a random_access_indicator. `later` contains frames, each with the ticks by which
+    pictures from this frame on are delayed, and the PCR too if `is_pcr_late`."""
 
     pes: Mapping[int, Sequence[bytes]]
     first: int
@@ -181,10 +176,8 @@ class Programme(NamedTuple):
 
 
 def multiplex_programmes(programmes: Sequence[Programme], frames: int) -> StreamMaker:
-    """Make a transport stream with several programmes.
-
-    Each frame has a PCR, a picture, and the PES packets whose PTS is not later than the frame.
-    """
+    """Make a transport stream with several programmes. Each frame has a PCR, a picture, and the PES
+    packets whose PTS is not later than the frame."""
     maker, waiting = StreamMaker([]), [{pid: [*pes] for pid, pes in item.pes.items()}
                                        for item in programmes]
     pmt_pids = range(PMT_PID, PMT_PID - len(programmes), -1)
@@ -209,11 +202,8 @@ def multiplex_programmes(programmes: Sequence[Programme], frames: int) -> Stream
 
 def multiplex_frames(pes: list[bytes], begin: int, count: int, rounds: int = 66,
                      page: int = 0x88) -> Iterator[bytes]:
-    """Yield the frames of a transport stream.
-
-    Each frame has a PCR, PES packets, and 16 * `rounds` video packets. If `rounds` is 66, the bit
-    rate is 40 Mbit/s.
-    """
+    """Yield the frames of a transport stream. Each frame has a PCR, PES packets, and 16 * `rounds`
+    video packets. If `rounds` is 66, the bit rate is 40 Mbit/s."""
     maker = StreamMaker(make_components(AUDIO, make_teletext_descriptor(page=page)))
     filler = b"".join(make_packet_header(VIDEO_PID, 0, PAYLOAD | counter) + b"\x55" * (PACKET - 4)
                       for counter in range(16)) * rounds
@@ -254,12 +244,10 @@ FILLER_PACKETS = {pid: [Packet(pid, make_packet_header(pid, 0, PAYLOAD | counter
 
 
 class Shape(NamedTuple):
-    """The parameters of a transport stream.
-
-    The stream has `rate` TS packets per second, and PCRs at intervals of `every` ticks. `has_null`
-    adds null packets. `pause` contains the frames without a PCR. `jump` contains the frame and the
-    ticks of a clock jump, which is announced if `is_announced` is true.
-    """
+    """The parameters of a transport stream. The stream has `rate` TS packets per second, and PCRs
+    at intervals of `every` ticks. `has_null` adds null packets. `pause` contains the frames without
+    a PCR. `jump` contains the frame and the ticks of a clock jump, which is announced if
+    `is_announced` is true."""
 
     rate: int = 1000
     every: int = 3600
@@ -315,10 +303,8 @@ def find_teletext_places(result: Sequence[Packet], pts: int) -> list[int]:
 
 def remove_packets_at(result: Sequence[Packet], pts: int, count: int, is_announced: bool = False
                       ) -> list[Packet]:
-    """Delete `count` Teletext packets, beginning with the PES packet that has this PTS.
-
-    If the loss is announced, insert a packet with a discontinuity_indicator.
-    """
+    """Delete `count` Teletext packets, beginning with the PES packet that has this PTS. If the loss
+    is announced, insert a packet with a discontinuity_indicator."""
     missing = find_teletext_places(result, pts)[:count]
     field = bytes([PACKET - 5, 0x80]).ljust(PACKET - 4, b"\xff")
     says = Packet(TELETEXT_PID, make_packet_header(TELETEXT_PID, 0, ADAPTATION_ALONE) + field)
@@ -341,11 +327,9 @@ CarriedPackets = Callable[[int], Sequence[tuple[int, bytes]]]
 def make_planned_stream(pes: Sequence[bytes], plan: Sequence[tuple[int, int]],
                         carried: CarriedPackets | None = None,
             descriptor: bytes = make_teletext_descriptor(), ahead: int | None = PTS_AHEAD) -> bytes:
-    """Return a transport stream whose Teletext moves to other PIDs.
-
-    `plan` contains indexes of PES packets, each with the PID that the PMT names from this packet
-    on. `carried` may put PES packets on other PIDs. PCRs precede PES packets by `ahead` ticks.
-    """
+    """Return a transport stream whose Teletext moves to other PIDs. `plan` contains indexes of PES
+    packets, each with the PID that the PMT names from this packet on. `carried` may put PES packets
+    on other PIDs. PCRs precede PES packets by `ahead` ticks."""
     maker, pid = StreamMaker([]), 0
     for number, item in enumerate(pes):
         for begin, named in plan:

@@ -12,17 +12,11 @@ from .transmissions import CLOSING, HEADER, make_numbered_row
 
 CLOCK, DAY = 8_589_934_592, 2_160_000
 START = b"\0\0\1\xbd"
+# Hamming 8/4 code words for 0 to 15, last bit first (EN 300 706, 8.2).
 CODES = ["00010101", "00000010", "01001001", "01011110", "01100100", "01110011", "00111000",
          "00101111", "11010000", "11000111", "10001100", "10011011", "10100001", "10110110",
-         # Hamming 8/4 code words for 0 to 15, last bit first (EN 300 706, 8.2).
          "11111101", "11101010"]
-
-
-NOTHING = b"\x01"  # differs from each code word in at least two bits
-
-
-def format_bits(number: int, count: int) -> str:
-    return f"{number:0{count}b}"
+NO_CODE_WORD = b"\x01"  # differs from each code word in at least two bits
 
 
 class Times(unittest.TestCase):
@@ -97,7 +91,7 @@ class Times(unittest.TestCase):
 class Codes(unittest.TestCase):
     def test_decodes_each_byte_by_its_bits(self) -> None:
         for byte in range(256):
-            bits = format_bits(byte, 8)
+            bits = f"{byte:08b}"
             self.assertEqual(teletext.is_odd(byte), bits.count("1") % 2 == 1, byte)
             self.assertEqual(pes.reverse_bits(bytes([byte])), bytes([int(bits[::-1], 2)]), byte)
             near = [number for number, code in enumerate(CODES)
@@ -113,20 +107,25 @@ class Codes(unittest.TestCase):
             self.assertEqual(pes.decode_address(packet), (magazine, number), (magazine, number))
             self.assertEqual(packet[2], 0x61, (magazine, number))
             for at in (0, 1):
-                self.assertIsNone(pes.decode_address(packet[:at] + NOTHING + packet[at + 1:]), at)
+                damaged = packet[:at] + NO_CODE_WORD + packet[at + 1:]
+                self.assertIsNone(pes.decode_address(damaged), at)
+
+    def test_reads_each_number_of_a_header(self) -> None:
         numbers = bytes([8, 7, 0, 9, 1, 14, 2, 15])
         packet = pes.make_packet(1, 0, numbers, b" " * 32)
         self.assertEqual((len(packet), pes.decode_header(packet)), (42, numbers))
         for at in range(2, 10):
-            self.assertIsNone(pes.decode_header(packet[:at] + NOTHING + packet[at + 1:]), at)
+            damaged = packet[:at] + NO_CODE_WORD + packet[at + 1:]
+            self.assertIsNone(pes.decode_header(damaged), at)
         self.assertEqual(pes.get_page_number(numbers), 0x78)
-        rows = [make_numbered_row(1, b"a"), packet, packet[:9] + NOTHING + packet[10:],
-                NOTHING + packet[1:], HEADER,
+        # `damaged` has an unreadable control bit.
+        rows = [make_numbered_row(1, b"a"), packet, damaged, NO_CODE_WORD + packet[1:], HEADER,
                 CLOSING]
         self.assertEqual([header[:2] for header in pes.find_headers(rows)],
                          [(1, 0x78), (0, 0x88), (0, 0xFF)])
 
     def test_reads_each_control_bit(self) -> None:
+        # The bit of each control bit in the eight four-bit numbers of a header
         places = {4: 3 * 4 + 3, 5: 5 * 4 + 2, 6: 5 * 4 + 3, 7: 24, 8: 25, 9: 26, 10: 27, 11: 28,
                   12: 29, 13: 30, 14: 31}
         for bit, place in places.items():
@@ -150,7 +149,7 @@ class Codes(unittest.TestCase):
 class Packets(unittest.TestCase):
     def test_writes_each_bit_of_a_pts_in_its_place(self) -> None:
         for pts in (0, 1, CLOCK - 1, 0x155555555, 0xAAAAAAAA, *(1 << bit for bit in range(33))):
-            bits = format_bits(pts, 33)
+            bits = f"{pts:033b}"
             expected = int(f"0010{bits[:3]}1{bits[3:18]}1{bits[18:]}1", 2).to_bytes(5, "big")
             self.assertEqual(pes.encode_pts(pts), expected, pts)
             data = pes.make_pes_packet(pts, [])

@@ -45,34 +45,30 @@ class StoredPages(Case):
     """Pages, and the text, the row and the justification with which subtitle files store them."""
 
     def test_stores_rows_as_the_text_that_draws_them(self) -> None:
-        double = b"\x0d\x0b\x0ba\x0a\x0a\x8a\x8a\x0d\x0b\x0bb\x0a\x0a"
-        rows: dict[str, tuple[dict[int, bytes], StoredPage]] = {
-            "centred": ({22: b" " * 16 + boxed(b"Hi!!")}, StoredPage(22, 2, b"Hi!!")),
-            "left": ({22: boxed(b"Hi")}, StoredPage(22, 1, b"Hi")),
-            "right": ({22: b" " * 34 + boxed(b"Hi")}, StoredPage(22, 3, b"Hi")),
-            "at no margin": ({22: b" " * 5 + boxed(b"Hi")},
-                             StoredPage(22, 1, b"     \x0b\x0bHi\x0a\x0a")),
-            "double height": ({20: b"\x0d" + boxed(b"a"), 22: b"\x0d" + boxed(b"b")},
-                              StoredPage(20, 1, double)),
-            "one box": ({1: b"\x0bHi"}, StoredPage(1, 1, b"\x0bHi")),
-            "a dollar": ({23: boxed(b"\x24")}, StoredPage(23, 1, b"\xa4"))}
-        for name, (texts, expected) in rows.items():
-            self.check(name, store_page(make_page(texts), ENGLISH), expected)
-        self.check("a French accent", store_page(make_page({23: boxed(b"caf\x40")}), FRENCH),
-                   StoredPage(23, 1, b"caf\xc1a"))
+        double = b"\x0d" + boxed(b"a"), b"\x0d" + boxed(b"b")
+        self.check_rows(lambda rows, option: store_page(make_page(rows), option), {
+            "centred": (({22: b" " * 16 + boxed(b"Hi!!")}, ENGLISH), StoredPage(22, 2, b"Hi!!")),
+            "left": (({22: boxed(b"Hi")}, ENGLISH), StoredPage(22, 1, b"Hi")),
+            "right": (({22: b" " * 34 + boxed(b"Hi")}, ENGLISH), StoredPage(22, 3, b"Hi")),
+            "at no margin": (({22: b" " * 5 + boxed(b"Hi")}, ENGLISH),
+                             StoredPage(22, 1, b"     " + boxed(b"Hi"))),
+            "double height": (({20: double[0], 22: double[1]}, ENGLISH),
+                              StoredPage(20, 1, b"\x8a\x8a".join(double))),
+            "one box": (({1: b"\x0bHi"}, ENGLISH), StoredPage(1, 1, b"\x0bHi")),
+            "a dollar": (({23: boxed(b"\x24")}, ENGLISH), StoredPage(23, 1, b"\xa4")),
+            "an accent": (({23: boxed(b"caf\x40")}, FRENCH), StoredPage(23, 1, b"caf\xc1a"))})
 
     def test_says_why_a_page_can_not_be_stored(self) -> None:
         no_byte = "for which the national option english has no byte in a text"
-        rows: dict[str, dict[int, bytes]] = {
-            "row 24 has text": {22: boxed(b"a"), 24: b"b"},
-            "row 21 has no start box (0B)": {21: b"Hi"},
-            f"row 21 has the code 11, {no_byte}": {21: b"\x0b\x11a"},  # a mosaic colour
-            f"row 21 has the code 7E, {no_byte}": {21: b"\x0b\x7e"},
-            "row 21 is directly below a row of double height (0D)": {20: b"\x0d\x0ba",
-                                                                     21: b"\x0bb"},
-            "row 23 has double height (0D)": {23: b"\x0d\x0ba"}}
-        for reason, texts in rows.items():
-            self.check(reason, store_page(make_page(texts), ENGLISH), reason)
+        for rows, reason in (
+                ({22: boxed(b"a"), 24: b"b"}, "row 24 has text"),
+                ({21: b"Hi"}, "row 21 has no start box (0B)"),
+                ({21: b"\x0b\x11a"}, f"row 21 has the code 11, {no_byte}"),  # a mosaic colour
+                ({21: b"\x0b\x7e"}, f"row 21 has the code 7E, {no_byte}"),
+                ({20: b"\x0d\x0ba", 21: b"\x0bb"},
+                 "row 21 is directly below a row of double height (0D)"),
+                ({23: b"\x0d\x0ba"}, "row 23 has double height (0D)")):
+            self.check(reason, store_page(make_page(rows), ENGLISH), reason)
 
     def test_counts_blocks_before_subtitles(self) -> None:
         self.check("TNB and TNS", make_gsi_block(b"", 5, 3)[238:248], b"0000500003")
@@ -438,7 +434,7 @@ class WholeCalls(Case):
                 self.check(f"{name} {words}", (call.status, self.list_verdicts()), (1, expected))
 
     def test_reports_a_file_of_which_the_rest_can_not_be_read(self) -> None:
-        data = self.read_transmission()
+        data = self.read(schedule_random_programme(self))
         pes = packets(data)
         broken = bytearray(data)
         broken[len(b"".join(pes[:10])) + 5] ^= 1
@@ -446,17 +442,14 @@ class WholeCalls(Case):
             call = self.read_pages(self.write("a.pes", content))
             self.check(name, (call.status, self.result()["faults"][0]["name"]), (1, "ends early"))
 
-    def read_transmission(self) -> bytes:
-        return self.read(schedule_random_programme(self))
-
     def test_reads_over_the_wrap_of_the_pts(self) -> None:
-        data = self.read_transmission()
+        data = self.read(schedule_random_programme(self))
         first = decode_pts(data)
         moved = replace_pts(data, lambda _, pts: (pts - first - 90_000 * 5) % CLOCK)
         self.check("status", self.read_pages(self.write("a.pes", moved)).status, 0)
 
     def test_asks_for_the_pid_if_the_page_is_on_two(self) -> None:
-        data = self.read_transmission()
+        data = self.read(schedule_random_programme(self))
         self.write("two.ts", make_stream_of_pids((0x101, data), (0x102, data)))
         call = self.read_pages("two.ts")
         reason = self.result()["reason"]

@@ -20,11 +20,10 @@ from .judged import JudgedPair, ProgrammeCase, judge_files
 from .streams import (
     CarriedPackets, NEW, OLD, Programme, VIDEO_PID, make_planned_stream, multiplex_programmes)
 from .parts import make_example_request, read_survey
-from .transmissions import CLOSING, SentPes, join_pes_packets, packets, write_programme
+from .transmissions import CLOSING, PAGE, SentPes, join_pes_packets, packets, write_programme
 from .test_judging_pairs import damage_packet
 from .test_correct_recordings import make_service_stream
 
-PAGE = (0, 0x88)
 FIRST_PID, SECOND_PID, THIRD_PID = 257, 258, 259
 # Lines of `survey` for the second PID: all of its 9 TS packets are scrambled, or it has a PES
 # packet of Teletext and then data other than Teletext (fault 31).
@@ -36,36 +35,35 @@ def list_announcements(*lines: str) -> list[Announcement]:
     return [*find_announcements(read_survey(*lines).programmes, PAGE)]
 
 
-def compute_pcr_or_none(seconds: float | None) -> int | None:
-    return None if seconds is None else int(seconds * SECOND)
-
-
 def make_pmt_lines(number: int, *pids: int, clock: int = 100, page: str = "888") -> list[str]:
+    """Return lines of `survey`: the PMT of a programme announces a page on PIDs. Its PCR PID is
+    `clock`."""
     return [f"programme {number} {clock}", *(line for pid in pids for line in (
         f"stream {pid} 6", f"announce {pid} {page} 656e67 2"))]
 
 
 class Announcements(Case):
+    """Recordings in which PMTs announce the page 888 on some PIDs, in lines of `survey`."""
+
     def test_finds_when_a_pmt_announces_the_page(self) -> None:
-        lines = [*make_pmt_lines(1, FIRST_PID), f"pcr 100 {SECOND}", *make_pmt_lines(1, SECOND_PID),
-                 f"pcr 100 {9 * SECOND}",
-                 *make_pmt_lines(2, THIRD_PID, clock=200),
-                 *make_pmt_lines(1, FIRST_PID, page="150")]
-        result = list_announcements(*lines)
-        self.must("when", result == [
-            Announcement(1, frozenset({FIRST_PID}), None, SECOND),
-            Announcement(1, frozenset({SECOND_PID}), SECOND, 9 * SECOND),
-            Announcement(2, frozenset({THIRD_PID}), None, None)], result)
+        self.check("PIDs, and PCRs of the first and the next PMT", list_announcements(
+            *make_pmt_lines(1, FIRST_PID), f"pcr 100 {SECOND}", *make_pmt_lines(1, SECOND_PID),
+            f"pcr 100 {9 * SECOND}", *make_pmt_lines(2, THIRD_PID, clock=200),
+            *make_pmt_lines(1, FIRST_PID, page="150")), [
+            Announcement(1, frozenset({FIRST_PID}), begin=None, end=SECOND),
+            Announcement(1, frozenset({SECOND_PID}), begin=SECOND, end=9 * SECOND),
+            Announcement(2, frozenset({THIRD_PID}), begin=None, end=None)])
 
     def test_warns_of_pts_behind_the_pcr(self) -> None:
+        # One of three samples is behind, in a frame of the day or before the first one.
         for origin, frame in itertools.product((0, CLOCK - 60 * TICKS), (50, 90, -5)):
             pts = (origin + frame * TICKS) % CLOCK
             packets = Packets(1, samples=[(pts, -SECOND // 10), (pts, 9), (pts, 9)])
             time = None if frame < 0 else f"00:00:{frame // 25:02}:{frame % 25:02}"
             where = f"from {time or f'PTS {pts}'} on"
-            self.must(f"{origin} {frame}", [*find_timing_notices(packets, origin)] == [Notice(
+            self.check(f"{origin} {frame}", [*find_timing_notices(packets, origin)], [Notice(
                 "pts_behind", f"{where}, the Teletext PTS are behind the PCR (by up to "
-                "0.10 s, in 1 of 3 samples)", time)], [*find_timing_notices(packets, origin)])
+                "0.10 s, in 1 of 3 samples)", time)])
 
     def test_finds_an_announced_page_that_is_not_sent(self) -> None:
         begin, end = 10 * SECOND, 20 * SECOND
@@ -73,6 +71,8 @@ class Announcements(Case):
         other = Announcement(1, frozenset({SECOND_PID}), None, None)
         both = Announcement(1, frozenset({FIRST_PID, SECOND_PID}), None, None)
         foreign = Announcement(2, frozenset({SECOND_PID}), None, None)
+        # Announcements, the PIDs that carry the page from second 10 to 20, and the announcement that
+        # shows a missing page
         rows: list[tuple[str, Sequence[Announcement], set[int], Announcement | None]] = [
             ("sent", [own], {FIRST_PID}, None), ("sent elsewhere", [other], {FIRST_PID}, other),
             ("one of two", [both], {FIRST_PID}, None), ("sent by none", [other], set(), None),
@@ -84,15 +84,16 @@ class Announcements(Case):
               for first, last, is_in in (
                   (None, 12.5, True), (None, 12, False), (None, 9, False), (17.5, None, True),
                   (18, None, False), (25, None, False), (5, 30, True), (12, 15, True))
-              for item in [Announcement(1, frozenset({SECOND_PID}), compute_pcr_or_none(first),
-                                        compute_pcr_or_none(last))])]
+              for item in [Announcement(1, frozenset({SECOND_PID}),
+                                        int(first * SECOND) if first else None,
+                                        int(last * SECOND) if last else None)])]
         for name, announced, carriers, expected in rows:
-            self.must(name, find_unsent(announced, carriers, begin, end) == expected)
+            self.check(name, find_unsent(announced, carriers, begin, end), expected)
             shifted = [item._replace(begin=item.begin and (item.begin - 15 * SECOND) % CLOCK,
                                      end=item.end and (item.end - 15 * SECOND) % CLOCK)
                        for item in announced]
             unsent = find_unsent(shifted, carriers, (begin - 15 * SECOND) % CLOCK, 5 * SECOND)
-            self.must(f"{name}: over the wrap", (unsent is None) == (expected is None), unsent)
+            self.check(f"{name}: over the wrap", unsent is None, expected is None)
 
     def test_finds_programmes_that_never_send_the_page(self) -> None:
         # The lines of `survey`, the PIDs that carry the page, and the PIDs of programmes that
@@ -131,6 +132,8 @@ class Announcements(Case):
 
     def test_expects_the_page_if_a_subtitle_is_recorded(self) -> None:
         subtitles = [(100, 150), (500, 600)]
+        # The first and last frame of the recording, frame 0 (`None`: the clock is unknown, and the
+        # recording must be longer than the longest pause)
         for first, last, origin, expected in (
                 (0, 1000, 0, True), (100, 150, 0, True), (101, 599, 0, False),
                 (100, 149, 0, False), (500, 600, 0, True), (160, 490, 0, False),
@@ -139,13 +142,13 @@ class Announcements(Case):
             for shift in (0, CLOCK - 300 * TICKS):
                 clock = (shift + first * TICKS) % CLOCK, (shift + last * TICKS) % CLOCK
                 result = is_page_expected(clock, subtitles, None if origin is None else shift)
-                self.must(f"{first} {last} {origin} {shift}", result == expected)
+                self.check(f"{first} {last} {origin} {shift}", result, expected)
         self.must("no PCR", not is_page_expected(None, subtitles, 0))
         self.must("no subtitle", not is_page_expected((0, CLOCK // 2), [], 0))
 
     def find_refusal(self, lines: Sequence[str], words: Sequence[str], is_sent: bool) -> str:
-        """Return why a recording of 60 s with these lines of `survey` is refused, or "". Subtitles
-        are expected in the frames 100 to 150. `is_sent` says whether some PID carries the page."""
+        """Return why a recording of 60 s with these lines of `survey` is refused, or "". A subtitle
+        is expected in frames 100 to 150. `is_sent` says whether some PID carries the page."""
         survey = read_survey(*lines, "pcr 100 0", f"pcr 100 {60 * SECOND}")
         request = make_example_request("a.stl", "a.ts", *words)
         try:
@@ -161,12 +164,12 @@ class Announcements(Case):
         first, second = make_pmt_lines(1, FIRST_PID), make_pmt_lines(1, SECOND_PID)
         both = make_pmt_lines(1, FIRST_PID, SECOND_PID)
         # A programme whose PCRs, on PID 200, are only a second apart
-        short = ["pcr 200 0", f"pcr 200 {SECOND}"]
-        of_short = make_pmt_lines(1, FIRST_PID, clock=200)
+        short, of_short = ["pcr 200 0", f"pcr 200 {SECOND}"], make_pmt_lines(
+            1, FIRST_PID, clock=200)
         # Its first picture has the PTS 90 s.
         picture = [f"stream {THIRD_PID} 2", f"video {THIRD_PID} 0",
                    f"picture {THIRD_PID} {90 * SECOND}"]
-        rows: dict[str, tuple[list[str], list[str], bool]] = {
+        rows: dict[str, tuple[list[str], list[str], bool]] = {  # lines, arguments, is it refused
             "announced on a PID without packets": (first, [], True),
             "announced on the given PID": (second, ["--pid", f"{SECOND_PID}"], True),
             "announced on another PID than the given one": (first, ["--pid", f"{SECOND_PID}"],
@@ -190,10 +193,12 @@ class Announcements(Case):
         for name, (lines, words, is_refused) in rows.items():
             reason = self.find_refusal(lines, words, is_sent=False)
             self.check(f"{name}: {reason}", bool(reason), is_refused)
-        stl = self.write("none.stl", b" " * 1024)
-        survey = read_survey(*first, *picture, f"stream {FIRST_PID} 6")
-        self.check("no TCP", find_origin(make_example_request(
-            stl, "a.ts", "--start", "tcp"), survey, FIRST_PID), None)
+
+    def test_the_clock_is_unknown_if_the_subtitle_file_has_no_tcp(self) -> None:
+        request = make_example_request(self.write("none.stl", b" " * 1024), "a.ts", "--start", "tcp")
+        survey = read_survey(*make_pmt_lines(1, FIRST_PID), f"stream {THIRD_PID} 2",
+                             f"video {THIRD_PID} 0", f"picture {THIRD_PID} {90 * SECOND}")
+        self.check("origin", find_origin(request, survey, FIRST_PID), None)
 
     def test_refuses_a_page_that_is_sent_on_another_pid(self) -> None:
         sent = [f"pes {FIRST_PID} 0 1 {SECOND} 0 h/ 1 0"]
@@ -211,6 +216,8 @@ class Announcements(Case):
 
 
 class JudgedStreams(ProgrammeCase):
+    """Streams whose PMT announces page 888 on the PID 0x111 (NEW), which never carries its rows."""
+
     words = ()
 
     def judge_planned_stream(self, plan: Sequence[tuple[int, int]], sent: CarriedPackets,
@@ -237,8 +244,6 @@ class JudgedStreams(ProgrammeCase):
         self.must(f"{name}: told", any("announces page 888" in line for line in judged.said))
 
     def test_refuses_a_page_that_comes_on_another_pid(self) -> None:
-        judged = self.judge_planned_stream([(0, OLD)], self.send_on_old_pid, "--every", "25")
-        self.must("sent", judged.word == "accepted")
         words = "page 888 is announced on PID 0x111, but was never sent (PID 0x111 has no TS " \
             "packet); PID 0x101 has it"
         self.check_never_sent("announced elsewhere",
@@ -246,12 +251,15 @@ class JudgedStreams(ProgrammeCase):
         half = len(self.pes) // 2
         self.check_never_sent("moved", self.judge_planned_stream([(0, OLD), (half, NEW)],
                                                                  self.send_on_old_pid), words)
-        rows: list[tuple[str, list[tuple[int, int]], list[str]]] = [
-            ("typed", [(0, NEW)], ["--pid", f"0x{OLD:X}"]),
-            ("at the end", [(0, OLD), (len(self.pes) - 1, NEW)], [])]
-        for name, plan, more in rows:
+
+    def test_accepts_a_page_that_comes_on_the_announced_or_the_given_pid(self) -> None:
+        # The indexes of PES packets from which on a PID is announced, and arguments
+        rows: dict[str, tuple[list[tuple[int, int]], list[str]]] = {
+            "announced": ([(0, OLD)], []), "given": ([(0, NEW)], ["--pid", f"0x{OLD:X}"]),
+            "another announced at the end": ([(0, OLD), (len(self.pes) - 1, NEW)], [])}
+        for name, (plan, more) in rows.items():
             judged = self.judge_planned_stream(plan, self.send_on_old_pid, "--every", "25", *more)
-            self.must(name, judged.word == "accepted", judged.said)
+            self.check(name, judged.word, "accepted")
 
     def test_refuses_headers_without_rows_on_the_announced_pid(self) -> None:
         whole, third = len(self.pes), len(self.pes) // 3
@@ -276,27 +284,28 @@ class JudgedStreams(ProgrammeCase):
         result = multiplex_programmes([Programme({OLD: self.pes}, first),
                                        Programme({NEW: []}, first, VIDEO_PID + 1)], frames)
         judged = self.judge_stream(result.data)
-        self.must("asked", judged.word == "not judged" and judged.told[0].endswith(
-            "but sent only on PID 0x101, not on PID 0x111") and [
-                line.split()[-1] for line in judged.told if line.startswith(("try: ", "or: "))] == [
-                    "0x101", "0x111"], judged.said)
+        self.check("verdict", judged.word, "not judged")
+        self.must("reason", judged.told[0].endswith("but sent only on PID 0x101, not on PID 0x111"),
+                  judged.told)
+        self.check("suggested PIDs", [line.split()[-1] for line in judged.told
+                                      if line.startswith(("try: ", "or: "))], ["0x101", "0x111"])
 
     def test_reports_a_refused_subtitle_first(self) -> None:
         with open(self.stl, "rb") as file:
             bad = self.write("bad.stl", file.read().replace(b"Number 3", b"Number \xe6"))
-        judged = judge_files(self, bad,
-                             self.write("one.ts", make_planned_stream(self.pes, [(0, NEW)],
-                                                                      self.send_on_old_pid)))
-        self.must("refused", judged.verdict.line == "refused 50 Character block 3 at 7" and
-                  {item["number"] for item in judged.result["faults"]} == {50, None} and
-                  judged.told[0].startswith("the other subtitles were not judged: page 888 is "
-                                            "announced on PID 0x111, but was never sent "),
-                  judged.said)
+        stream = make_planned_stream(self.pes, [(0, NEW)], self.send_on_old_pid)
+        judged = judge_files(self, bad, self.write("one.ts", stream))
+        self.check("faults", (judged.verdict.line, {
+            item["number"] for item in judged.result["faults"]}),
+                   ("refused 50 Character block 3 at 7", {50, None}))
+        self.must("other subtitles", judged.told[0].startswith(
+            "the other subtitles were not judged: page 888 is announced on PID 0x111, but was "
+            "never sent "), judged.told)
 
     def test_is_not_judged_if_the_fault_is_waived(self) -> None:
         path = self.write("severity", b"never sent warning\n")
         judged = self.judge_planned_stream([(0, NEW)], self.send_headers_only, "--severity", path)
-        self.must("a warning", judged.word == "not judged", judged.said)
+        self.check("verdict", judged.word, "not judged")
 
     def test_writes_report_and_result_of_a_page_never_sent(self) -> None:
         out = self.path("out")
@@ -307,50 +316,57 @@ class JudgedStreams(ProgrammeCase):
 
 
 class SourcesWithoutPage(ProgrammeCase):
+    """Transmissions of ten subtitles, of which the rows or the headers too are missing."""
+
     words = ("--every", "25")
 
-    def blank(self, first: int = 0, last: int = 1 << 30) -> SentPes:
-        return [(pts, [packets[0], packets[-1]] if first <= pts // TICKS <= last and packets
-                 else packets)
+    def remove_rows(self, last: int = 1 << 30) -> SentPes:
+        """Return the transmission without the rows up to frame `last`."""
+        return [(pts, [packets[0], packets[-1]] if pts // TICKS <= last and packets else packets)
                 for pts, packets in self.sent]
 
-    def exclude(self, last: int) -> SentPes:
+    def remove_headers(self, last: int) -> SentPes:
         """Return the transmission without rows. PES packets up to frame `last` are empty."""
-        return [(pts, packets if pts // TICKS > last else []) for pts, packets in self.blank()]
+        return [(pts, packets if pts // TICKS > last else [])
+                for pts, packets in self.remove_rows()]
 
     def test_refuses_headers_without_rows_if_a_subtitle_is_expected(self) -> None:
         end = self.due[-1][1]
         later = [(pts + TICKS * 2 * end, pes_packets) for pts, pes_packets in self.sent]
-        count, own = len(self.sent), "is never sent while subtitles are expected: "
-        cut = join_pes_packets(self.blank())
+        count, without_rows = len(self.sent), join_pes_packets(self.remove_rows())
+        # The PES packets, the arguments, and why the page is never sent ("": another sentence)
         rows: dict[str, tuple[bytes, tuple[str, ...], str]] = {
-            "headers": (cut, (), f"{count} headers, no row"),
-            "headers, with a clock": (cut, ("--origin", "0"), f"{count - 1} headers, no row"),
-            "headers, with a clock before": (cut, ("--origin", f"{TICKS * 2 * end}"), ""),
-            "headers, with a clock behind": (cut, ("--origin", f"{CLOCK - TICKS * 2 * end}"), ""),
+            "headers": (without_rows, (), f"{count} headers, no row"),
+            "headers, with a clock": (without_rows, ("--origin", "0"),
+                                      f"{count - 1} headers, no row"),
+            "headers, with a clock before": (without_rows, ("--origin", f"{TICKS * 2 * end}"), ""),
+            "headers, with a clock behind": (
+                without_rows, ("--origin", f"{CLOCK - TICKS * 2 * end}"), ""),
             "the first header at the last TCO": (
-                join_pes_packets(self.exclude(end - 1)), ("--origin", "0"),
+                join_pes_packets(self.remove_headers(end - 1)), ("--origin", "0"),
                 f"{count - 1} PES packets, no header"),
-            "a header before it": (join_pes_packets(self.exclude(end - 26)), ("--origin", "0"),
-                                   "1 header, no row"),
-            "rows behind the last TCO": (join_pes_packets([*self.blank(), *later]),
+            "a header before it": (join_pes_packets(self.remove_headers(end - 26)),
+                                   ("--origin", "0"), "1 header, no row"),
+            "rows behind the last TCO": (join_pes_packets([*self.remove_rows(), *later]),
                                          ("--origin", "0"),
                                          f"{count - 1} headers, no row; the first row comes "
                                          f"{2 * end} frames after the first TCI"),
-            "rows behind it, without a clock": (join_pes_packets([*self.blank(), *later]), (), ""),
-            "a row": (join_pes_packets(self.blank(0, end - 100)), ("--origin", "0"), ""),
+            "rows behind it, without a clock": (
+                join_pes_packets([*self.remove_rows(), *later]), (), ""),
+            "a row": (join_pes_packets(self.remove_rows(end - 100)), ("--origin", "0"), ""),
             "a row when the page is closed": (join_pes_packets([
-                *self.blank()[:9], (self.sent[9][0], [CLOSING, *self.sent[9][1][1:]]),
-                *self.blank()[10:]]), ("--origin", "0"), ""),
-            "a PES packet that can't be read": (b"".join([damage_packet(packet, 37) if at == 3
-                                                          else packet
-                for at, packet in enumerate(packets(cut))]), ("--origin", "0"), ""),
-            "no header at all": (join_pes_packets(self.exclude(1 << 30)), ("--origin", "0"), ""),
-            "some PES packets, by --pes": (cut, ("--pes", f"0-{count}"), "")}
+                *self.remove_rows()[:9], (self.sent[9][0], [CLOSING, *self.sent[9][1][1:]]),
+                *self.remove_rows()[10:]]), ("--origin", "0"), ""),
+            "a PES packet that can't be read": (b"".join(
+                damage_packet(packet, 37) if at == 3 else packet
+                for at, packet in enumerate(packets(without_rows))), ("--origin", "0"), ""),
+            "no header at all": (join_pes_packets(self.remove_headers(1 << 30)), ("--origin", "0"),
+                                 ""),
+            "some PES packets, by --pes": (without_rows, ("--pes", f"0-{count}"), "")}
         for name, (data, words, printed) in rows.items():
             judged_pair = judge_files(self, self.stl, self.write("one.pes", data),
                                       *self.words, *words)
-            sentence = f"Refused: page 888 {own}{printed}."
+            sentence = f"Refused: page 888 is never sent while subtitles are expected: {printed}."
             self.check(name, judged_pair.verdict.sentence == sentence, bool(printed))
             if printed:
                 self.check(f"{name}: verdict", (judged_pair.word, judged_pair.verdict.line,
@@ -358,13 +374,12 @@ class SourcesWithoutPage(ProgrammeCase):
                            ("refused", "refused never sent", []))
 
     def test_refuses_headers_without_rows_in_a_stream(self) -> None:
-        result = self.judge_stream(make_service_stream(self.blank()))
+        result = self.judge_stream(make_service_stream(self.remove_rows()))
         self.check("stream", (result.word, "headers, no row" in result.verdict.sentence),
                    ("refused", True))
 
     def test_accepts_headers_for_blank_subtitles(self) -> None:
         stl = write_programme(self, self.due, text=b" ", name="blank.stl")
-        result = judge_files(self, stl, self.write("one.pes", join_pes_packets(self.blank())),
-                             *self.words,
-                             "--origin", "0")
+        pes = self.write("one.pes", join_pes_packets(self.remove_rows()))
+        result = judge_files(self, stl, pes, *self.words, "--origin", "0")
         self.check("verdict", "never sent while" in result.verdict.sentence, False)

@@ -48,9 +48,9 @@ class ChosenPids(Case):
         page_on_first, page_on_second = make_pes_line(FIRST_PID), make_pes_line(SECOND_PID)
         rows_on_first, rows_on_second = make_pes_line(FIRST_PID, "-"), make_pes_line(
             SECOND_PID, "-")
-        announced_on_first = ["pcr 100 0", *make_pmt_lines(7, FIRST_PID), f"pcr 100 {60 * SECOND}"]
-        announced_on_second = [*announced_on_first[:1], *make_pmt_lines(7, SECOND_PID),
-                               announced_on_first[-1]]
+        announced_on_first, announced_on_second = (
+            ["pcr 100 0", *make_pmt_lines(7, pid), f"pcr 100 {60 * SECOND}"]
+            for pid in (FIRST_PID, SECOND_PID))
         both = [page_on_first, make_pes_line(SECOND_PID, "he")]
         moves = [*announced_on_first, page_on_first,
                  *announced_on_second, make_pes_line(SECOND_PID, pts=60 * SECOND)]

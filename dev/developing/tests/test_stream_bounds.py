@@ -215,12 +215,10 @@ class ReceivedFrames(unittest.TestCase):
 
     @staticmethod
     def make_timeline(sent: str, **more: Any) -> Timeline:
-        """Return a timeline of PES packets. `more` contains further arguments of `Timeline`.
-
-        `sent` contains FRAME:FLAGS or FRAME:FLAGS:TEXT for each PES packet, with the text of row 20
-        after it. A `!` after FRAME stands for a faulty PES packet. The flags are h (page header), e
-        (erase page), o (the page is open after it), c (closed) and s (stray row).
-        """
+        """Return a timeline of PES packets. `more` contains further arguments of `Timeline`. `sent`
+        contains FRAME:FLAGS or FRAME:FLAGS:TEXT for each PES packet, with the text of row 20 after
+        it. A `!` after FRAME stands for a faulty PES packet. The flags are h (page header), e
+        (erase page), o (the page is open after it), c (closed) and s (stray row)."""
         packets = Packets(5)
         for number, word in enumerate(filter(None, sent.split(" "))):
             frame, flags, *texts = word.split(":")
@@ -259,16 +257,12 @@ class ReceivedFrames(unittest.TestCase):
             self.assertEqual(decoded.find_closed_frame(99), None if is_open else 99, name)
 
     def test_stops_at_a_step_back_after_the_first_frame_of_the_programme(self) -> None:
-        for frame, halt in ((299, None), (300, 2), (310, 2)):
-            decoded = self.make_timeline(f"200:he {frame}:he 290:he", begin=300)
-            self.assertEqual(decoded.halt, halt, frame)
-        decoded = self.make_timeline("200:he 310:he 200:he 400:he", begin=300)
-        self.assertEqual((decoded.halt, decoded.last), (2, 310))
-
-    def test_two_pes_packets_of_a_frame_are_no_step_back(self) -> None:
-        decoded = self.make_timeline("10:heo:a 10:c 11:c")
-        self.assertEqual((decoded.halt, [run.first for run in decoded.list_frame_runs(10)]),
-                         (None, [0, 1]))
+        for sent, halt, last in (
+                ("200:he 299:he 290:he", None, 290), ("200:he 300:he 290:he", 2, 300),
+                ("200:he 310:he 290:he", 2, 310), ("200:he 310:he 200:he 400:he", 2, 310),
+                ("310:heo:a 310:c 311:c", None, 311)):
+            decoded = self.make_timeline(sent, begin=300)
+            self.assertEqual((decoded.halt, decoded.last), (halt, last), sent)
 
     def test_forgets_all_pes_packets_before_a_step_back_before_the_programme(self) -> None:
         before, after = "200:heos:a 205!:he 220:c ", "150:heos:b 160!:h 170:c 310:ho:c"
@@ -282,10 +276,6 @@ class ReceivedFrames(unittest.TestCase):
     def test_begins_at_the_given_frame_of_the_first_pes_packet(self) -> None:
         self.assertEqual([self.make_timeline("10:heo:a 11:c", first_packet_frame=frame).first
                           for frame in (NO_FRAME, 0, 7)], [10, 0, 7])
-
-    def test_knows_the_frames_of_losses(self) -> None:
-        decoded = self.make_timeline("10:heo:a 11:c", lost=[Span(5, 6)])
-        self.assertEqual([decoded.lost.includes(*item) for item in ((6, 9), (7, 9))], [True, False])
 
     def test_stray_rows_stay_until_survey_prints_others(self) -> None:
         runs = [PacketRun(0, 3, 0, 5 * TICKS, "s", ""), PacketRun(3, 1, 20 * TICKS, 0, "s", ""),

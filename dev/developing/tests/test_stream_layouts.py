@@ -49,10 +49,8 @@ BROADCASTER_LAYOUTS = [
 
 def draw_programme(layout: Layout, has_codes: bool = False, leaves_room: bool = False,
                    count: int = 120) -> list[SentSubtitle]:
-    """Return subtitles of one or two lines, with the pages that a layout draws.
-
-    `has_codes` adds control codes to the lines. `leaves_room` puts an empty line between two lines.
-    """
+    """Return subtitles of one or two lines, with the pages that a layout draws. `has_codes` adds
+    control codes to the lines. `leaves_room` puts an empty line between two lines."""
     sent = list[SentSubtitle]()
     for number in range(count):
         colour, begin, end = (b"", b"\3", b"", b"\6")[number % 4], b"", b""

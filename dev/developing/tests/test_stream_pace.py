@@ -25,13 +25,11 @@ FOUR_HUNDRED_FRAMES = range(400)  # in these frames, up to three losses are igno
 
 
 class Row(NamedTuple):
-    """A test case of `compute_pace`.
-
-    `rows` has the frames of the PES packets between two losses, `each` is the number of TS packets
-    of a PES packet, `every` the longest time without a page header, and `pauses` has the frames
-    between subtitles. Expected are the kind of the pace, if it is REGULAR the value `frames` of
-    --pace, and the number `hidden` of places at which a loss leaves no longer interval.
-    """
+    """A test case of `compute_pace`. `rows` has the frames of the PES packets between two losses,
+    `each` is the number of TS packets of a PES packet, `every` the longest time without a page
+    header, and `pauses` has the frames between subtitles. Expected are the kind of the pace, if it
+    is REGULAR the value `frames` of --pace, and the number `hidden` of places at which a loss
+    leaves no longer interval."""
 
     name: str
     rows: Sequence[Sequence[int]]
@@ -52,11 +50,6 @@ def remove_frames(frames: Sequence[int], *losses: tuple[int, int]) -> list[int]:
 def list_frames_without(count: int) -> list[int]:
     """Return the frames of PES packets. Each frame has two, but `count` frames have none."""
     return [at // 2 for at in range(800) if not 200 <= at // 2 < 200 + count]
-
-
-def make_two_silences(steps: int) -> list[int]:
-    """Return frames with two pauses that are `steps` frames apart."""
-    return remove_frames(range(800 + steps), (299, 100), (399 + steps, 100))
 
 
 def repeat_steps(steps: Sequence[int], times: int) -> list[int]:
@@ -134,9 +127,11 @@ STREAM_ROWS = [
     Row("each 100th frame for a while",
         [[*range(2500), *range(2500, 3000, 100), *range(2900, 5000)]], PAUSED),
     Row("two, seventeen steps between", [remove_frames(LONG, (999, 100), (1116, 100))]),
-    *(Row(f"two, {steps - less} steps of {each} TS packets between",
-          [make_two_silences(steps - less)], PAUSED if less else REGULAR, each=each)
-      for each, steps in ((1, 17), (2, 9), (4, 5), (9, 3)) for less in (0, 1)),
+    *(Row(f"two, {steps} steps of {each} TS packets between",
+          [remove_frames(range(800 + steps), (299, 100), (399 + steps, 100))], kind, each=each)
+      for kind, each, steps in (
+          (REGULAR, 1, 17), (REGULAR, 2, 9), (REGULAR, 4, 5), (REGULAR, 9, 3),
+          (PAUSED, 1, 16), (PAUSED, 2, 8), (PAUSED, 4, 4), (PAUSED, 9, 2))),
     # Streams without PES packets in most pauses of the programme, or only in some of them.
     Row("in one pause of two that are as long", [ONE_SILENCE], pauses=[(999, 1100), (2999, 3100)]),
     Row("in both of two pauses", [TWO_SILENCES], PAUSED, pauses=[(999, 1100), (2999, 3100)]),

@@ -22,6 +22,7 @@ from subtitles.stream.steps import UnusualStep
 from subtitles.stream.survey import Survey
 from .bench import Case
 from .judged import judge_files
+from .parts import read_survey
 from .streams import Programme, TELETEXT_PID, multiplex_programmes
 from .transmissions import write_programme, schedule_pes, subtitle_times
 
@@ -121,9 +122,7 @@ class PictureDepartures(Case):
         def make_leads_around(frames: float, jitter: float, count: int = 40) -> list[float]:
             return [frames - chance.uniform(0, jitter) for _ in range(count)]
 
-        rows: dict[str, tuple[list[VideoLead], list[int | None]]] = {  # leads, and jumps in frames
-            "steady": (make_video_leads(
-                make_leads_around(6, 0) + make_leads_around(4, 0), {40: 2}), [2]),
+        rows: dict[str, tuple[Any, list[int | None]]] = {  # leads, and jumps in frames
             "a frame of jitter": (make_video_leads(
                 make_leads_around(6, 1) + make_leads_around(4, 1), {40: 2}), [2]),
             "eight frames of jitter": (make_video_leads(
@@ -189,14 +188,11 @@ def survey_extra_lines(lines: Sequence[str] = (), origin: int = 0) -> Survey:
     """Return a survey of two programmes. The first, with the Teletext PID, has the video in `lines`
     and a video without jumps, and the second a video that jumps."""
     quiet, others = 0x300, 0x302
-    survey = Survey()
-    for line in [f"programme 1 {VIDEO}", f"stream {PID} 6", f"programme 2 {others}",
-                 f"stream {others} 2", f"programme 1 {VIDEO}", f"stream {PID} 6",
-                 *(f"stream {video} 2" for video in (quiet, VIDEO)),
-                 *make_lead_survey_lines([], origin, quiet), *lines,
-                 *make_lead_survey_lines([(9, 1500)], video=others)]:
-        survey.read_line(line)
-    return survey
+    return read_survey(
+        f"programme 1 {VIDEO}", f"stream {PID} 6", f"programme 2 {others}", f"stream {others} 2",
+        f"programme 1 {VIDEO}", f"stream {PID} 6", f"stream {quiet} 2", f"stream {VIDEO} 2",
+        *make_lead_survey_lines([], origin, quiet), *lines,
+        *make_lead_survey_lines([(9, 1500)], video=others))
 
 
 class DepartureFaults(Case):
@@ -223,8 +219,7 @@ class DepartureFaults(Case):
         allowed = f"from {middle} on, subtitles are 2 frames late for viewers: the video's " \
             "timestamps jump, as --within 2 allows"
         # Jumps (by how many frames, at which frame), --within, the faults, and the notes
-        rows: dict[str, tuple[list[tuple[float, int]], int, list[tuple[str, str, str]],
-                              list[str]]] = {
+        rows: dict[str, tuple[Any, ...]] = {
             "none": ([], 0, [], []),
             "early": ([(2, 1500)], 0, [(middle, end, "2 frames early")], []),
             "early is not allowed": ([(2, 1500)], 5, [(middle, end, "2 frames early")], []),

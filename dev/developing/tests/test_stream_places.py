@@ -5,7 +5,7 @@ import contextlib
 import io
 import itertools
 import os
-from typing import Iterable, Optional, Tuple
+from typing import Any, Iterable
 
 from subtitles.common.command_line import Stop
 from subtitles.common.times import CLOCK, TICKS, pts_of
@@ -22,8 +22,6 @@ from .bench import Case, import_script
 from .parts import make_example_request
 
 PID, PCR_PID = 5, 0x200
-Jump = Tuple[int, int]  # PTS before and after a clock jump
-LossBounds = Tuple[Optional[int], Optional[int]]  # PTS before and after a loss
 
 
 class LossPlaces(Case):
@@ -38,8 +36,7 @@ class LossPlaces(Case):
                                                         GapMarker(8, pts[7], 0, 1)]
             # Gap markers, late PCRs, and announced jumps of the counter; and the PTS before and
             # after each loss, and whether it is known only from an announced jump
-            rows: dict[str, tuple[list[GapMarker], list[PCRStep], list[Jump],
-                                  list[tuple[LossBounds, bool]]]] = {
+            rows: dict[str, tuple[Any, ...]] = {
                 "nothing": ([], [], [], []), "a jump": ([], [], [jump], [(jump, True)]),
                 "two jumps": ([], [], [jump, other], [(jump, True), (other, True)]),
                 "a late PCR at a jump": ([], [late_pcr], [jump], [(jump, False)]),
@@ -97,12 +94,11 @@ class LatePts(Case):
     def test_the_pts_delay_and_lead_shorten_the_recorded_range(self) -> None:
         # Ticks by which PTS are ahead of the PCR, once a second; by how many ticks a PTS in the
         # last MAX_LATE samples is late at most, and in the first MAX_LATE samples ahead at most
-        rows: list[tuple[list[int], int, int]] = [
-            ([], 0, 0), ([9], 0, 9), ([-9], 9, 0), ([-9, -30, 5, 7, 6], 30, 7),
-            ([-30, *[5] * MAX_LATE], 0, 5), ([*[5] * MAX_LATE, -30], 30, 5),
-            ([-30, *[5] * (MAX_LATE - 1)], 30, 5), ([*[5] * MAX_LATE, 7], 0, 5),
-            ([*[5] * (MAX_LATE - 1), 7], 0, 7)]
-        for samples, late, ahead in rows:
+        for samples, late, ahead in (
+                (list[int](), 0, 0), ([9], 0, 9), ([-9], 9, 0), ([-9, -30, 5, 7, 6], 30, 7),
+                ([-30, *[5] * MAX_LATE], 0, 5), ([*[5] * MAX_LATE, -30], 30, 5),
+                ([-30, *[5] * (MAX_LATE - 1)], 30, 5), ([*[5] * MAX_LATE, 7], 0, 5),
+                ([*[5] * (MAX_LATE - 1), 7], 0, 7)):
             packets = Packets(PID, samples=[(at * SECOND, sample)
                                             for at, sample in enumerate(samples)])
             self.check(f"{samples}", find_pts_delay(packets), late)

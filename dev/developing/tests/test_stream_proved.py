@@ -60,18 +60,14 @@ def make_stream_with_late_tables(pes: list[bytes], count: int) -> bytes:
         if number == count:
             maker.put_tables()
             maker.put_packet(SCRAMBLED_PID, PAYLOAD_START, item[:184])
-            maker.packets[-1] = scramble(maker.packets[-1])
+            packet = maker.packets.pop()  # then with transport_scrambling_control 2
+            maker.packets.append(packet[:3] + bytes([packet[3] | 0x80]) + packet[4:])
         maker.put_pcr(decode_pts(item) - PTS_AHEAD)
         first = 40 if number < count else 184
         maker.put_packet(PID, PAYLOAD_START, item[:first])
         for at in range(first, len(item), 184):
             maker.put_packet(PID, 0, item[at:at + 184])
     return maker.data
-
-
-def scramble(packet: bytes) -> bytes:
-    """Return a TS packet with transport_scrambling_control 2."""
-    return packet[:3] + bytes([packet[3] | 0x80]) + packet[4:]
 
 
 class Comparison(Case):
@@ -139,20 +135,14 @@ class Comparison(Case):
         self.check("another end", compared.includes(collect_items(other, (1, 4))), False)
 
     def test_calls_packets_for_at_most_twenty_gap_markers(self) -> None:
-        calls = list[int]()
-
-        class GapMarkersOnly:
-            def list_packets(self, first: int, last: int) -> list[str]:
-                calls.append(first)
-                return [f"refused 45 Lost pes {first}"]
-
-        command: Any = GapMarkersOnly()
         packets = Packets(PID, [PacketRun(at, 1, None, 0, "m", "") for at in range(30)])
-        for last, first_not_compared in ((18, None), (19, None), (20, 20), (29, 20)):
-            calls.clear()
+        for last, first_not_compared, calls in ((18, None, 19), (19, None, 20), (20, 20, 20),
+                                                (29, 20, 20)):
+            command = mock.Mock()
+            command.list_packets.side_effect = lambda first, _: [f"refused 45 Lost pes {first}"]
             number = find_unproved_number(command, packets, (0, last))
-            self.check(f"0 to {last}", (number, len(calls)),
-                       (first_not_compared, min(last + 1, 20)))
+            self.check(f"0 to {last}", (number, command.list_packets.call_count),
+                       (first_not_compared, calls))
 
 
 class JudgedRecordings(ProgrammeCase):

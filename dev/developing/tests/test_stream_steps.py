@@ -2,7 +2,7 @@
 from __future__ import annotations
 
 import itertools
-from typing import Mapping, Optional
+from typing import Mapping
 
 from subtitles.common.times import CLOCK, TICKS, subtract_pts
 from subtitles.judging.desync import has_own_clock
@@ -54,18 +54,14 @@ def survey_times(times: list[int], jitter: int = 0) -> tuple[list[VideoLead], li
     return leads, find_unusual_steps(list_step_ranges(times), len(times))
 
 
-Jump = tuple[float, Optional[float]]  # picture, and frames by which later subtitles are early
-AWAY_AND_BACK = {203: 10, 223: -10}
-
-
 class Steps(Case):
     """A video with 500 pictures and 25 pictures per second, whose decoding times jump, and regular
     Teletext PTS. There is a lead at the pictures 1, 26, .. 201, 226 and so on, up to 476."""
 
     def locate(self, leads: list[VideoLead], unusual: list[UnusualStep],
-               has_clock: bool = True) -> list[Jump]:
-        """Return the jumps found. `None` as size: it is unclear whether pictures were lost instead.
-        `has_clock` says whether the Teletext PTS show that only the video jumps."""
+               has_clock: bool = True) -> list[tuple[float, float | None]]:
+        """Return the picture and the size in frames of each jump found. The size is `None` if
+        pictures may have been lost instead. `has_clock` says whether only the video jumps."""
         jumps = separate_clock_jumps(leads, unusual, 500, lambda several: has_clock)
         return [(subtract_pts(START, place.pts) / TICKS,
                  None if place.ticks is None else place.ticks / TICKS) for place in [
@@ -73,29 +69,24 @@ class Steps(Case):
 
     def test_finds_the_picture_and_the_size_of_each_jump(self) -> None:
         # Pictures from which on the times are later by some frames, and the jumps found
-        rows: dict[str, tuple[Mapping[int, float], list[Jump]]] = {
-            "no jump": ({}, []),
-            "later for good": ({210: 10}, [(210, 10)]),
-            "earlier for good": ({210: -10}, [(210, -10)]),
-            "later for 20 pictures": (AWAY_AND_BACK, [*AWAY_AND_BACK.items()]),
-            "for 20 pictures with a lead": ({215: 10, 235: -10}, [(215, 10), (235, -10)]),
-            "half a frame": ({203: .5, 223: -.5}, [(203, .5), (223, -.5)]),
-            "earlier for 60 pictures": ({203: -10, 263: 10}, [(203, -10), (263, 10)]),
-            "for two pictures, as if their times were damaged": ({210: 10, 212: -10},
-                                                                 [(212, None)]),
-            "for one picture": ({210: 10, 211: -10}, [(211, None)]),
-            "one frame, as if a picture were lost, no lead between": ({203: 1, 223: -1},
-                                                                      [(223, None)]),
-            "one frame, a lead between": ({203: 1, 233: -1}, [(203, 1), (233, -1)]),
-            "back by one frame, a lead between": ({203: -1, 233: 1}, [(203, -1), (233, 1)]),
+        self.check_rows(lambda *moves: self.locate(*survey_times(make_times(*moves))), {
+            "no jump": (({},), []),
+            "later for good": (({210: 10},), [(210, 10)]),
+            "earlier for good": (({210: -10},), [(210, -10)]),
+            "later for 20 pictures": (({203: 10, 223: -10},), [(203, 10), (223, -10)]),
+            "for 20 pictures with a lead": (({215: 10, 235: -10},), [(215, 10), (235, -10)]),
+            "half a frame": (({203: .5, 223: -.5},), [(203, .5), (223, -.5)]),
+            "earlier for 60 pictures": (({203: -10, 263: 10},), [(203, -10), (263, 10)]),
+            "for two pictures, as if damaged": (({210: 10, 212: -10},), [(212, None)]),
+            "for one picture": (({210: 10, 211: -10},), [(211, None)]),
+            "one frame, as if a picture were lost": (({203: 1, 223: -1},), [(223, None)]),
+            "one frame, a lead between": (({203: 1, 233: -1},), [(203, 1), (233, -1)]),
+            "back by one frame, a lead between": (({203: -1, 233: 1},), [(203, -1), (233, 1)]),
+            "one frame, 1500 pictures": (({710: 1, 772: -1}, 1500), [(710, 1), (772, -1)]),
             "three jumps before the next lead, whose Teletext is the place": (
-                {203: 10, 213: 2, 223: -10}, [(226 + LEAD, 2)]),
-            "later after the last lead": ({490: 10}, [(490, None)]),
-            "earlier after the last lead": ({490: -10}, [(490, -10)])}
-        for name, (moves, expected) in rows.items():
-            self.check(name, self.locate(*survey_times(make_times(moves))), expected)
-        self.check("one frame, with leads", self.locate(*survey_times(make_times(
-            {710: 1, 772: -1}, 1500))), [(710, 1), (772, -1)])
+                ({203: 10, 213: 2, 223: -10},), [(226 + LEAD, 2)]),
+            "later after the last lead": (({490: 10},), [(490, None)]),
+            "earlier after the last lead": (({490: -10},), [(490, -10)])})
 
     def test_finds_jumps_before_the_first_lead(self) -> None:
         for away, back in ((10, 20), (20, 40), (20, 60)):
@@ -105,11 +96,10 @@ class Steps(Case):
 
     def test_finds_jumps_at_which_pictures_are_lost_too(self) -> None:
         # From picture 211 on, the leads are greater by the frames of the lost pictures.
-        rows: dict[str, tuple[Mapping[int, float], float, Jump]] = {
-            "12 lost, half a frame earlier": ({210: 11.5}, 12, (210, -.5)),
-            "as many frames lost as the times jump": ({210: 11.5}, 11.5, (210, None)),
-            "10 frames later, 2 lost after that": ({203: 10, 210: 2}, 2, (203, 10))}
-        for name, (moves, lost, expected) in rows.items():
+        for name, moves, lost, expected in (
+                ("12 lost, half a frame earlier", {210: 11.5}, 12, (210, -.5)),
+                ("as many frames lost as the times jump", {210: 11.5}, 11.5, (210, None)),
+                ("10 frames later, 2 lost after that", {203: 10.0, 210: 2.0}, 2, (203, 10))):
             leads, unusual = survey_times(make_times(moves))
             ticks = round(lost * TICKS)
             later = [lead._replace(pts=(lead.pts + ticks) % CLOCK, ticks=lead.ticks + ticks)
@@ -177,29 +167,27 @@ class Steps(Case):
         jumping_by_half = [pts - TICKS // 2 * (pts >= TICKS * 100) for pts in regular]
         once, twice, by_half = jump_at(100), jump_at(100, 120), jump_at(100, by=-.5)
         # The jumps of the video, Teletext PTS, and PTS of subtitles that changed as expected
-        rows: dict[str, tuple[list[Departure], list[int], list[int], bool]] = {
-            "a PTS in each frame": (once, regular, [], True),
-            "a PTS in each frame, away and back": (twice, regular, [], True),
-            "both jump": (once, jumping, [], False),
-            "in each 25th frame": (once, regular[::25], [], True),
-            "in each 25th frame, both jump": (once, jumping[::25], [], False),
-            "in each 10th frame, both jump": (once, jumping[::10], [], False),
-            "at irregular frames": (once, [TICKS * at for at in (90, 99, 117, 130)], [], False),
-            "no PTS": (once, [], [], False),
-            "a subtitle after the jump": (once, [], [TICKS * 150], True),
-            "a subtitle before the jump": (once, [], [TICKS * 50], False),
-            "a subtitle between two jumps": (twice, [], [TICKS * 110], True),
-            "a subtitle after two jumps": (twice, [], [TICKS * 120], False),
-            "half a frame": (by_half, regular[::25], [], True),
+        self.check_rows(has_own_clock, {
+            "a PTS in each frame": ((once, regular, []), True),
+            "a PTS in each frame, away and back": ((twice, regular, []), True),
+            "both jump": ((once, jumping, []), False),
+            "in each 25th frame": ((once, regular[::25], []), True),
+            "in each 25th frame, both jump": ((once, jumping[::25], []), False),
+            "in each 10th frame, both jump": ((once, jumping[::10], []), False),
+            "at irregular frames": ((once, [TICKS * at for at in (90, 99, 117, 130)], []), False),
+            "no PTS": ((once, [], []), False),
+            "a subtitle after the jump": ((once, [], [TICKS * 150]), True),
+            "a subtitle before the jump": ((once, [], [TICKS * 50]), False),
+            "a subtitle between two jumps": ((twice, [], [TICKS * 110]), True),
+            "a subtitle after two jumps": ((twice, [], [TICKS * 120]), False),
+            "half a frame": ((by_half, regular[::25], []), True),
             "half a frame, a PTS in each half frame": (
-                by_half, [TICKS * at // 2 for at in range(160, 240)], [], True),
+                (by_half, [TICKS * at // 2 for at in range(160, 240)], []), True),
             "both by half a frame, Teletext later": (
-                jump_at(100, by=.5),
-                [pts + TICKS // 2 * (pts > TICKS * 100) for pts in regular[::25]], [], False),
-            "both by half a frame": (by_half, jumping_by_half, [TICKS * 150], False),
-            "half a frame, no PTS": (by_half, [], [TICKS * 150], False)}
-        for name, (several, sent, changes, expected) in rows.items():
-            self.check(name, has_own_clock(several, sent, changes), expected)
+                (jump_at(100, by=.5),
+                 [pts + TICKS // 2 * (pts > TICKS * 100) for pts in regular[::25]], []), False),
+            "both by half a frame": ((by_half, jumping_by_half, [TICKS * 150]), False),
+            "half a frame, no PTS": ((by_half, [], [TICKS * 150]), False)})
 
     def test_a_step_of_the_pcr_shows_a_jump(self) -> None:
         # The video jumps by five frames after the last lead but one. The PCR, usually in each

@@ -6,7 +6,7 @@ from __future__ import annotations
 
 import operator
 import os
-from typing import Callable, Iterable, Sequence, Tuple
+from typing import Callable, Iterable, Sequence
 
 from developing.multiplex import ADAPTATION_ALONE, PACKET, make_packet_header
 from developing.pes import make_pes_packet
@@ -101,9 +101,6 @@ def of_pid_5(*names: str) -> Callable[[Survey], object]:
     return lambda received: operator.attrgetter(*names)(received.by_pid[5])
 
 
-SurveyRow = Tuple[str, Callable[[Survey], object], object]
-
-
 class SurveyAnswers(Case):
     """How the tools parse the lines of `survey`, or of a script in its place."""
 
@@ -123,7 +120,7 @@ class SurveyAnswers(Case):
                 with self.subTest(why), self.assertRaisesRegex(ProgramInterrupted, f": {why}$"):
                     received.refuse(status)
 
-    def check_lines(self, rows: Iterable[SurveyRow]) -> None:
+    def check_lines(self, rows: Iterable[tuple[str, Callable[[Survey], object], object]]) -> None:
         """Check lines, separated by `; `, by a value of the parsed survey. Further fields, which a
         new version may print, are ignored, but not after a line whose last fields are optional."""
         for lines, get_value, expected in rows:

@@ -30,8 +30,8 @@ def make_numbered_row(number: int, text: bytes) -> bytes:
 
 
 def write_subtitle_file(case: Case, subtitles: Iterable[ShownSubtitle], name: str = "one.stl",
-                        first: int = 1,
-                        row: int = 22, justify: int = 2, language: bytes = b"09") -> str:
+                        first: int = 1, row: int = 22, justify: int = 2,
+                        language: bytes = b"09") -> str:
     """Write a subtitle file whose subtitle numbers count up from `first`. Return its path."""
     blocks = [make_subtitle_blocks(number, begin, end, row, justify, text)
               for number, (begin, end, text) in enumerate(subtitles, first)]
@@ -74,11 +74,10 @@ def schedule_pes(case: Case, stl: str, *args: str) -> list[bytes]:
 
 def make_two_parts(case: Case) -> tuple[str, bytes]:
     """Return a subtitle file, and PES packets with a break of three minutes halfway through."""
-    due = [(begin, begin + 60) for begin in range(900_000, 902_000, 100)]
-    sent = [item for first,
-            origin in ((1, 1000), (11, 1000 + 4500 * TICKS)) for item in schedule_pages(
-        case, write_programme(case, due[first - 1:first + 9], first=first, name="part.stl"),
-        origin=origin)]
+    due, sent = [(begin, begin + 60) for begin in range(900_000, 902_000, 100)], SentPes()
+    for first, origin in ((1, 1000), (11, 1000 + 4500 * TICKS)):
+        part = write_programme(case, due[first - 1:first + 9], first=first, name="part.stl")
+        sent += schedule_pages(case, part, origin=origin)
     return write_programme(case, due, name="two.stl"), join_pes_packets(sent)
 
 
@@ -122,14 +121,11 @@ def add_pauses(sent: SentPes, *shifts: int) -> SentPes:
 
 
 def write_pipe(case: Case, data: bytes, path: str = "") -> str:
+    """Make a pipe that a thread writes `data` to. Return its path."""
     path = path or case.path(f"feed{len(os.listdir(case.folder))}")
-    start_feed(path, data)
-    return path
-
-
-def start_feed(path: str, data: bytes) -> None:
     os.mkfifo(path)
     threading.Thread(target=feed_pipe, args=(path, data), daemon=True).start()
+    return path
 
 
 def feed_pipe(path: str, data: bytes) -> None:
