@@ -20,7 +20,7 @@ from .judged import JudgedPair, ProgrammeCase, judge_files
 from .streams import (
     CarriedPackets, NEW, OLD, Programme, VIDEO_PID, make_planned_stream, multiplex_programmes)
 from .parts import make_example_request, read_survey
-from .transmissions import CLOSING, PAGE, SentPes, join_pes_packets, packets, write_programme
+from .transmissions import PAGE, SentPes, join_pes_packets, packets, write_programme
 from .test_judging_pairs import damage_packet
 from .test_correct_recordings import make_service_stream
 
@@ -71,8 +71,7 @@ class Announcements(Case):
         other = Announcement(1, frozenset({SECOND_PID}), None, None)
         both = Announcement(1, frozenset({FIRST_PID, SECOND_PID}), None, None)
         foreign = Announcement(2, frozenset({SECOND_PID}), None, None)
-        # Announcements, the PIDs that carry the page from second 10 to 20, and the announcement that
-        # shows a missing page
+        # Announcements, the PIDs with the page from second 10 to 20, and that of a missing page
         rows: list[tuple[str, Sequence[Announcement], set[int], Announcement | None]] = [
             ("sent", [own], {FIRST_PID}, None), ("sent elsewhere", [other], {FIRST_PID}, other),
             ("one of two", [both], {FIRST_PID}, None), ("sent by none", [other], set(), None),
@@ -195,7 +194,8 @@ class Announcements(Case):
             self.check(f"{name}: {reason}", bool(reason), is_refused)
 
     def test_the_clock_is_unknown_if_the_subtitle_file_has_no_tcp(self) -> None:
-        request = make_example_request(self.write("none.stl", b" " * 1024), "a.ts", "--start", "tcp")
+        stl = self.write("none.stl", b" " * 1024)
+        request = make_example_request(stl, "a.ts", "--start", "tcp")
         survey = read_survey(*make_pmt_lines(1, FIRST_PID), f"stream {THIRD_PID} 2",
                              f"video {THIRD_PID} 0", f"picture {THIRD_PID} {90 * SECOND}")
         self.check("origin", find_origin(request, survey, FIRST_PID), None)
@@ -331,47 +331,44 @@ class SourcesWithoutPage(ProgrammeCase):
                 for pts, packets in self.remove_rows()]
 
     def test_refuses_headers_without_rows_if_a_subtitle_is_expected(self) -> None:
-        end = self.due[-1][1]
+        end, count, headers = self.due[-1][1], len(self.sent), self.remove_rows()
         later = [(pts + TICKS * 2 * end, pes_packets) for pts, pes_packets in self.sent]
-        count, without_rows = len(self.sent), join_pes_packets(self.remove_rows())
-        # The PES packets, the arguments, and why the page is never sent ("": another sentence)
-        rows: dict[str, tuple[bytes, tuple[str, ...], str]] = {
-            "headers": (without_rows, (), f"{count} headers, no row"),
-            "headers, with a clock": (without_rows, ("--origin", "0"),
-                                      f"{count - 1} headers, no row"),
-            "headers, with a clock before": (without_rows, ("--origin", f"{TICKS * 2 * end}"), ""),
-            "headers, with a clock behind": (
-                without_rows, ("--origin", f"{CLOCK - TICKS * 2 * end}"), ""),
-            "the first header at the last TCO": (
-                join_pes_packets(self.remove_headers(end - 1)), ("--origin", "0"),
-                f"{count - 1} PES packets, no header"),
-            "a header before it": (join_pes_packets(self.remove_headers(end - 26)),
-                                   ("--origin", "0"), "1 header, no row"),
-            "rows behind the last TCO": (join_pes_packets([*self.remove_rows(), *later]),
-                                         ("--origin", "0"),
-                                         f"{count - 1} headers, no row; the first row comes "
-                                         f"{2 * end} frames after the first TCI"),
-            "rows behind it, without a clock": (
-                join_pes_packets([*self.remove_rows(), *later]), (), ""),
-            "a row": (join_pes_packets(self.remove_rows(end - 100)), ("--origin", "0"), ""),
-            "a row when the page is closed": (join_pes_packets([
-                *self.remove_rows()[:9], (self.sent[9][0], [CLOSING, *self.sent[9][1][1:]]),
-                *self.remove_rows()[10:]]), ("--origin", "0"), ""),
-            "a PES packet that can't be read": (b"".join(
-                damage_packet(packet, 37) if at == 3 else packet
-                for at, packet in enumerate(packets(without_rows))), ("--origin", "0"), ""),
-            "no header at all": (join_pes_packets(self.remove_headers(1 << 30)), ("--origin", "0"),
-                                 ""),
-            "some PES packets, by --pes": (without_rows, ("--pes", f"0-{count}"), "")}
-        for name, (data, words, printed) in rows.items():
-            judged_pair = judge_files(self, self.stl, self.write("one.pes", data),
-                                      *self.words, *words)
-            sentence = f"Refused: page 888 is never sent while subtitles are expected: {printed}."
-            self.check(name, judged_pair.verdict.sentence == sentence, bool(printed))
+        clock, before, behind = (("--origin", f"{origin % CLOCK}")
+                                 for origin in (0, TICKS * 2 * end, -TICKS * 2 * end))
+        pts, (header, row, closing) = self.sent[10]
+        stray = [*headers[:10], (pts, [header, closing, row]), *headers[11:]]
+        # What is sent, the arguments, and why the page is never sent ("": another sentence)
+        rows: dict[str, tuple[SentPes, tuple[str, ...], str]] = {
+            "headers": (headers, (), f"{count} headers, no row"),
+            "headers, with a clock": (headers, clock, f"{count - 1} headers, no row"),
+            "headers, with a clock before": (headers, before, ""),
+            "headers, with a clock behind": (headers, behind, ""),
+            "the first header at the last TCO": (self.remove_headers(end - 1), clock,
+                                                 f"{count - 1} PES packets, no header"),
+            "a header before it": (self.remove_headers(end - 26), clock, "1 header, no row"),
+            "rows behind the last TCO": (
+                [*headers, *later], clock, f"{count - 1} headers, no row; the first row comes "
+                f"{2 * end} frames after the first TCI"),
+            "rows behind it, without a clock": ([*headers, *later], (), ""),
+            "a row": (self.remove_rows(end - 100), clock, ""),
+            "a row after the page was closed": (stray, clock, ""),
+            "no header at all": (self.remove_headers(1 << 30), clock, ""),
+            "some PES packets, by --pes": (headers, ("--pes", f"0-{count}"), "")}
+        for name, (sent, words, printed) in rows.items():
+            judged = judge_files(self, self.stl, self.write("one.pes", join_pes_packets(sent)),
+                                 *self.words, *words)
+            reason = judged.verdict.sentence.partition(" while subtitles are expected: ")
+            self.check(name, reason[2], printed and f"{printed}.")
             if printed:
-                self.check(f"{name}: verdict", (judged_pair.word, judged_pair.verdict.line,
-                                                judged_pair.result["parts"]),
-                           ("refused", "refused never sent", []))
+                self.check(f"{name}: verdict", (
+                    reason[0], judged.word, judged.verdict.line, judged.result["parts"]), (
+                        "Refused: page 888 is never sent", "refused", "refused never sent", []))
+
+    def test_does_not_say_never_sent_if_a_pes_packet_can_not_be_read(self) -> None:
+        pes = packets(join_pes_packets(self.remove_rows()))
+        path = self.write("one.pes", b"".join([*pes[:3], damage_packet(pes[3], 37), *pes[4:]]))
+        judged = judge_files(self, self.stl, path, *self.words, "--origin", "0")
+        self.check("sentence", "never sent while" in judged.verdict.sentence, False)
 
     def test_refuses_headers_without_rows_in_a_stream(self) -> None:
         result = self.judge_stream(make_service_stream(self.remove_rows()))

@@ -140,13 +140,11 @@ class ProposedItems(Case):
     def test_proposes_an_item_that_ten_subtitles_show(self) -> None:
         for (item, text), count in itertools.product(HARMLESS_ITEMS, (1, 9, 10)):
             self.check_item(item, text, count, is_proposed=count == 10)
+        self.check_item("", COLOUR, count=0, is_proposed=True)
 
     def test_never_proposes_an_item_that_hides_something(self) -> None:
         for (item, text), count in itertools.product(HIDING_ITEMS, (1, 9, 10)):
             self.check_item(item, text, count, is_proposed=False)
-
-    def test_proposes_no_item_if_all_subtitles_are_sent_as_in_the_file(self) -> None:
-        self.check_item("", COLOUR, 0, is_proposed=True)
 
     def test_counts_subtitles_for_each_omitted_item(self) -> None:
         several = [COLOUR] * 5 + [SPACES] * 4 + make_unchanged_texts(91)

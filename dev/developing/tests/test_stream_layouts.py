@@ -38,13 +38,11 @@ TEXTS = [b"the cat", b"on a mat, and then it went to see", b"what was there", b"
 # For each inserter: whether the subtitle file has control codes, whether the file has an empty line
 # below text in double height, and the layout.
 BROADCASTER_LAYOUTS = [
-    (False, False, "before=0D0B0B,double"), (True, True, ""), (False, False, "text"),
-    (False, False, "last"), (False, False, "after=0A"), (False, False, "after="),
-    (False, False, "before=070B0B"), (False, False, "before=*0B0B"), (False, False, "free=2"),
-    (False, False, "fit"), (True, True, "strip=0A0B0D,before=0D070B0B,after=0A,double,pack"),
-    (False, False, "before=0D*0B0B,white,double,last,text"), (False, False, "up"),
-    (True, False, "row=-1,double,last"), (False, False, "left=2,right=3"),
-    (False, False, "after=0A0A0A0A"), (False, False, "pack,double,before=0D0B0B")]
+    (True, True, ""), (True, True, "strip=0A0B0D,before=0D070B0B,after=0A,double,pack"),
+    (True, False, "row=-1,double,last"), *((False, False, layout) for layout in (
+        "before=0D0B0B,double", "text", "last", "after=0A", "after=", "before=070B0B",
+        "before=*0B0B", "free=2", "fit", "before=0D*0B0B,white,double,last,text", "up",
+        "left=2,right=3", "after=0A0A0A0A", "pack,double,before=0D0B0B"))]
 
 
 def draw_programme(layout: Layout, has_codes: bool = False, leaves_room: bool = False,
@@ -107,13 +105,11 @@ class LayoutSearch(Case):
                       and compute_complexity(result.layout) <= compute_complexity(layout), result)
 
     def test_finds_layouts_that_only_some_texts_show(self) -> None:
-        rows: dict[str, tuple[Layout, int, list[bytes]]] = {  # the layout, JC and the texts
-            "a full row has no codes after its text": (
-                Layout(fit=True), 2, [b"%02d" % at + b"x" * size for at in range(12)
-                                      for size in (9, 36)]),
-            "a left margin of lines without justification": (
-                Layout(left=4), 0, [b"%02d" % at + b"x" * at for at in range(12)])}
-        for name, (layout, justify, texts) in rows.items():
+        for name, layout, justify, texts in (
+                ("a full row has no codes after its text", Layout(fit=True), 2,
+                 [b"%02d" % at + b"x" * size for at in range(12) for size in (9, 36)]),
+                ("a left margin of lines without justification", Layout(left=4), 0,
+                 [b"%02d" % at + b"x" * at for at in range(12)])):
             sent = draw_sent_subtitles([SentText(text, text, justify) for text in texts], layout)
             self.check(name, choose_layouts(sent, ENGLISH)[1][:3],
                        (layout, len(texts), len(texts)))

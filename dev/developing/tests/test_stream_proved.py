@@ -21,28 +21,21 @@ from .test_judging_pairs import damage_packet
 from .transmissions import join_pes_packets
 
 PID, SCRAMBLED_PID = 0x101, 0x102
-# A program that changes what `survey` prints in `out`, with one of SURVEY_CHANGES.
+# A program that changes what `survey` prints, by one of SURVEY_CHANGES.
 FAULTY_PROGRAM = """#!{python}
-import subprocess, sys
-words = sys.argv[1:]
-out = subprocess.run([{program!r}, *words], stdout=subprocess.PIPE).stdout.decode()
-if words[0] != "survey":
-    sys.stdout.write(out)
-    sys.exit(subprocess.run([{program!r}, *words], stdout=subprocess.DEVNULL).returncode)
-{change}
+import re, subprocess, sys
+run = subprocess.run([{program!r}, *sys.argv[1:]], stdout=subprocess.PIPE)
+out = run.stdout.decode()
+if sys.argv[1] == "survey":
+    out = re.sub({pattern!r}, {replacement}, out, flags=re.M)
 sys.stdout.write(out)
+sys.exit(run.returncode)
 """
-SURVEY_CHANGES = {
-    "omits PES packet 5": r'''
-lines = out.split("\n")
-at = next(n for n, line in enumerate(lines) if line.startswith("pes ") and " 5 1 " in line)
-out = "\n".join(lines[:at] + lines[at + 1:])''',
-    "omits the gap marker": r'''
-out = "\n".join(line for line in out.split("\n") if not line.startswith("gap "))''',
-    "delays PES packet 5 by 900 ticks": r'''
-import re
-out = re.sub(r"^(pes \d+ 5 1 )(\d+)", lambda m: m[1] + str(int(m[2]) + 900), out, flags=re.M)''',
-    "changes nothing": ""}
+SURVEY_CHANGES = {  # patterns, and expressions for the replacements
+    "omits PES packet 5": (r"^pes \d+ 5 1 .*\n", '""'),
+    "omits the gap marker": (r"^gap .*\n", '""'),
+    "delays PES packet 5 by 900 ticks": (r"^(pes \d+ 5 1 )(\d+)",
+                                         "lambda match: match[1] + str(int(match[2]) + 900)")}
 
 
 def remove_first_ts_packet(stream: bytes, pes: bytes) -> bytes:
@@ -151,14 +144,17 @@ class JudgedRecordings(ProgrammeCase):
     def test_judges_nothing_if_survey_and_packets_differ(self) -> None:
         path = self.write("one.ts", remove_first_ts_packet(
             make_stream_of_pids((PID, join_pes_packets(self.sent))), self.pes[7]))
-        for name, change in SURVEY_CHANGES.items():
+        verdict = judge_files(self, self.stl, path, *self.words, "--allow-lost").verdict
+        self.check("the correct program", (verdict.word, verdict.status), ("waived", 0))
+        for name, (pattern, replacement) in SURVEY_CHANGES.items():
             program = self.write_program("program", FAULTY_PROGRAM.format(
-                python=sys.executable, program=self.bench.program, change=change))
+                python=sys.executable, program=self.bench.program, pattern=pattern,
+                replacement=replacement))
             verdict = judge_files(self, self.stl, path, *self.words, "--allow-lost",
                                   by=program).verdict
             self.check(name, (verdict.word, verdict.status, verdict.not_judged_kind,
                               "SurveyMismatch" in (verdict.unjudged_reason or "")),
-                       ("not judged", 70, "bug", True) if change else ("waived", 0, None, False))
+                       ("not judged", 70, "bug", True))
 
     def test_the_comparison_does_not_change_verdicts_on_losses_and_damage(self) -> None:
         whole = make_stream_of_pids((PID, join_pes_packets(self.sent)))
