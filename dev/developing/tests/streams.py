@@ -205,9 +205,7 @@ def multiplex_frames(pes: list[bytes], begin: int, count: int, rounds: int = 66,
     """Yield the frames of a transport stream. Each frame has a PCR, PES packets, and 16 * `rounds`
     video packets. If `rounds` is 66, the bit rate is 40 Mbit/s."""
     maker = StreamMaker(make_components(AUDIO, make_teletext_descriptor(page=page)))
-    filler = b"".join(make_packet_header(VIDEO_PID, 0, PAYLOAD | counter) + b"\x55" * (PACKET - 4)
-                      for counter in range(16)) * rounds
-    at = 0
+    video, at = b"".join(item.data for item in FILLER_PACKETS[VIDEO_PID]) * rounds, 0
     for frame in range(count):
         now = begin + TICKS * frame
         if frame % 12 == 0:
@@ -216,7 +214,7 @@ def multiplex_frames(pes: list[bytes], begin: int, count: int, rounds: int = 66,
         while at < len(pes) and subtract_pts(decode_pts(pes[at]), wrap_pts(now)) >= 0:
             maker.put(TELETEXT_PID, pes[at])
             at += 1
-        yield b"".join([*maker.taken(), filler])
+        yield b"".join([*maker.taken(), video])
 
 
 def change_packet_size(data: bytes, size: int) -> bytes:
@@ -301,14 +299,18 @@ def find_teletext_places(result: Sequence[Packet], pts: int) -> list[int]:
     return [at for at in range(first, len(result)) if result[at].pid == TELETEXT_PID]
 
 
+# A TS packet of Teletext without payload that has a discontinuity_indicator
+DISCONTINUITY = make_packet_header(TELETEXT_PID, 0, ADAPTATION_ALONE) + bytes(
+    [PACKET - 5, 0x80]).ljust(PACKET - 4, b"\xff")
+
+
 def remove_packets_at(result: Sequence[Packet], pts: int, count: int, is_announced: bool = False
                       ) -> list[Packet]:
     """Delete `count` Teletext packets, beginning with the PES packet that has this PTS. If the loss
     is announced, insert a packet with a discontinuity_indicator."""
     missing = find_teletext_places(result, pts)[:count]
-    field = bytes([PACKET - 5, 0x80]).ljust(PACKET - 4, b"\xff")
-    says = Packet(TELETEXT_PID, make_packet_header(TELETEXT_PID, 0, ADAPTATION_ALONE) + field)
-    return [says if at in missing else item for at, item in enumerate(result)
+    announcement = Packet(TELETEXT_PID, DISCONTINUITY)
+    return [announcement if at in missing else item for at, item in enumerate(result)
             if at not in missing or is_announced and at == missing[-1]]
 
 

@@ -26,10 +26,9 @@ class Times(unittest.TestCase):
                             (90_000, "01:00:00:00"), (2_159_999, "23:59:59:24"),
                             (979_331, "10:52:53:06")):
             code = bytes(map(int, text.split(":")))
-            self.assertEqual((times.format_frame(frame), times.parse_frame(text),
-                              stl.encode_time_code(frame),
-                              times.decode_time(code), times.decode_frame(code)),
-                             (text, frame, code, text, frame), (frame, text))
+            self.assertEqual((times.format_frame(frame), times.parse_frame(text)), (text, frame))
+            self.assertEqual((stl.encode_time_code(frame), times.decode_time(code),
+                              times.decode_frame(code)), (code, text, frame), text)
         self.assertEqual(times.format_frame(DAY), "24:00:00:00")
         self.assertEqual(times.format_seconds(93_549), "25:59:09")
         self.assertEqual(times.decode_time(bytes([24, 99, 255, 25])), "24:99:255:25")
@@ -130,11 +129,10 @@ class Codes(unittest.TestCase):
                   12: 29, 13: 30, 14: 31}
         for bit, place in places.items():
             alone = [(place // 4 == at) << place % 4 for at in range(8)]
-            for header, is_set in ((bytes(alone), True), (bytes(15 - item
-                                    for item in alone), False)):
-                self.assertEqual([item for item in places
-                                  if teletext.has_bit(header, item) == is_set],
-                                 [bit], (header, is_set))
+            for header, is_set in ((bytes(alone), True),
+                                   (bytes(15 - item for item in alone), False)):
+                found = [item for item in places if teletext.has_bit(header, item) == is_set]
+                self.assertEqual(found, [bit], (header, is_set))
 
     def test_reads_names_of_pages(self) -> None:
         for text, page in (("888", (0, 0x88)), ("100", (1, 0)), ("7fE", (7, 0xFE)),

@@ -59,9 +59,8 @@ class NationalOptions(unittest.TestCase):
     def test_decodes_cells_that_no_subtitle_uses_as_libzvbi(self) -> None:
         for option in OPTIONS:
             self.assertEqual(make_character_table(option.number)[0x7F], "\u25a0", option)
-        self.assertEqual("".join(make_character_table(ENGLISH.bits)[code]
-                                 for code in b"[\\]^`{|}~"),
-                         "←½→↑—¼‖¾÷")
+        table = make_character_table(ENGLISH.bits)
+        self.assertEqual("".join(table[code] for code in b"[\\]^`{|}~"), "←½→↑—¼‖¾÷")
         self.assertEqual(make_character_table(GERMAN.bits)[0x5E:0x60], ["^", "_"])
 
     def test_national_characters_are_unknown_if_the_bits_select_no_option_of_the_region(
@@ -129,9 +128,8 @@ class Advice(unittest.TestCase):
                 ("C24F", "no national option has Ó: "), ("F9", "no national option has ø: "),
                 ("C2", "byte C2 is not a character"), ("FF", "byte FF is not a character")):
             self.assertTrue(advise_on_character(bytes.fromhex(text), []).startswith(words), text)
-        self.assertEqual(advise_on_character(b"\xc2e", [FRENCH, SPANISH]),
-                         "use --option french or spanish, which have all the characters in the "
-                         "file")
+        self.assertEqual(advise_on_character(b"\xc2e", [FRENCH, SPANISH]), "use --option french or "
+                         "spanish, which have all the characters in the file")
 
     def test_a_diacritical_mark_includes_the_next_letter(self) -> None:
         # A text, the place of a byte, and the bytes of the character there
@@ -266,12 +264,10 @@ class Transmissions(Case):
                 self.must(f"{name}: the same page", item.cells == before)
                 continue
             header, *rows, _ = result
-            self.check(f"{name}: C12 to C14", [
-                has_bit(decode_header(header) or b"", bit) for bit in NATIONAL],
-                       [bool(option.bits >> at & 1) for at in range(3)])
-            self.check(f"{name}: the row", [
-                (decode_address(row), bytes(byte & 0x7F for byte in row[2:])) for row in rows],
-                       [((0, item.row), item.cells)])
+            bits = [has_bit(decode_header(header) or b"", bit) for bit in NATIONAL]
+            self.check(f"{name}: C12 to C14", bits, [option.bits >> at & 1 == 1 for at in range(3)])
+            sent = [(decode_address(row), bytes(byte & 0x7F for byte in row[2:])) for row in rows]
+            self.check(f"{name}: the row", sent, [((0, item.row), item.cells)])
             before = item.cells
 
     def test_sends_each_character_as_in_the_table(self) -> None:
@@ -325,8 +321,7 @@ ROW = make_packet(0, 20, (), b"a row".ljust(40))
 
 def make_character_set_packet(character_set: int, designation: int = 0,
                               magazine: int = 0) -> bytes:
-    """Return a packet M/29 that designates a character set: eight times the region, plus an
-    option."""
+    """Return a packet M/29 that designates a set: eight times the region, plus an option."""
     address = magazine + 8 * 29
     head = bytes(CODE_WORDS[item] for item in (address & 15, address >> 4, designation))
     return (head + encode_triplet(character_set << 7)).ljust(42, encode_triplet(0)[:1])
@@ -394,10 +389,9 @@ class Warnings(Case):
         self.check("accepted", process.status, 0)
         self.check_warnings(process, ["character_set"])
         process = qc(self, STORY, "-", "--origin", "0", "--strict", data=data)
-        self.must("strict, a feed", process.status == 1
-                  and split_output_lines(process)[-1].startswith(
-            "not accepted, since --strict treats warnings as faults (character_set): accepted"),
-                  process)
+        self.check("strict, a feed", process.status, 1)
+        self.must("its last line", split_output_lines(process)[-1].startswith("not accepted, since "
+                  "--strict treats warnings as faults (character_set): accepted"), process)
 
 
 class Languages(unittest.TestCase):

@@ -5,7 +5,7 @@ import itertools
 import shutil
 import subprocess
 import unittest
-from typing import Callable
+from typing import Callable, Tuple
 from unittest import mock
 
 from developing.stl import make_gsi_block, make_tti_block
@@ -108,12 +108,13 @@ class Blocks(unittest.TestCase):
             reported: list[str] = []
             with mock.patch.object(stl, "print_stderr", reported.append):
                 stopped = refusal(lambda: result.extend(stl.read_until_damage("damaged.stl", data)))
-            self.assertEqual((-1 if stopped else len(result), any(
-                line.startswith("damaged.stl: ") for line in reported)), (count, is_told),
-                             (data, count, is_told))
-        self.assertEqual(stl.encode_page_characters(b"A b\x01\xc1!$\x23", "english"),
-                         b"Ab!\x24\x5f")
-        self.assertEqual(stl.encode_page_characters(b" \x20!", "german"), b"!")
+            has_message = any(line.startswith("damaged.stl: ") for line in reported)
+            self.assertEqual((-1 if stopped else len(result), has_message), (count, is_told), data)
+
+    def test_encodes_characters_without_spaces_and_codes(self) -> None:
+        for text, option, cells in ((b"A b\x01\xc1!$\x23", "english", b"Ab!\x24\x5f"),
+                                    (b" \x20!", "german", b"!")):
+            self.assertEqual(stl.encode_page_characters(text, option), cells, text)
 
 
 class Files(Case):
@@ -142,6 +143,7 @@ class Titles(Case):
             return (page + b"STL25.01" + b" " * 5 + first.ljust(32) + b"x" * 32
                     + second.ljust(32) + b"y" * 912)
 
+        # The code page, the programme and the episode title, and the titles without blanks
         of_titles: list[tuple[bytes, bytes, bytes, list[str]]] = [
                 (b"850", b"One", b"Two", ["One", "Two"]), (b"850", b"One", b"One", ["One"]),
                 (b"850", b"", b"Two", ["Two"]), (b"850", b" ", b"\0", []),
@@ -220,20 +222,18 @@ class Lines(unittest.TestCase):
 
 
 class Order(unittest.TestCase):
-    def test_agrees_with_a_linear_search_at_each_frame(self) -> None:
-        of_times: list[list[tuple[int, int]]] = [
-            [], [(3, 5)], [(0, 2), (2, 4), (7, 9)], [(1, 2), (4, 9), (9, 12), (15, 16)]]
-        for times in of_times:
+    def test_finds_subtitles_as_a_linear_search_does_at_each_frame(self) -> None:
+        for times in (list[Tuple[int, int]](), [(3, 5)], [(0, 2), (2, 4), (7, 9)],
+                      [(1, 2), (4, 9), (9, 12), (15, 16)]):  # TCI and TCO of a programme
             all_of = [Subtitle(at, at + (at > 2), begin, end, 20, 2, b"")
                       for at, (begin, end) in enumerate(times, 1)]
             programme = SubtitleList(all_of)
             for frame in range(18):
                 begun = [item for item in all_of if item.begin <= frame]
                 due = [item for item in all_of if item.begin <= frame < item.end]
-                self.assertEqual((programme.find_place(frame), programme.count_begun(frame),
-                                  programme.subtitle(frame)),
-                                 (len(begun) - 1, (len(begun), bool(due)), due[0] if due else None),
-                                 frame)
+                self.assertEqual((programme.find_place(frame), programme.count_begun(frame)),
+                                 (len(begun) - 1, (len(begun), bool(due))), frame)
+                self.assertEqual(programme.subtitle(frame), due[0] if due else None, frame)
                 for last in range(frame, 18):
                     self.assertEqual(programme.list_cues(frame, last), [
                         item for pair in times for item in pair if frame < item <= last], last)
@@ -247,13 +247,14 @@ class Order(unittest.TestCase):
             self.assertEqual([programme.after(at) for at in range(len(times))],
                              [*(begin for begin, _ in times[1:]), *[2_160_000] * bool(times)],
                              times)
-            for position, number in itertools.product(range(1, 5), range(7)):
-                more = f" (SN {number})" if number != position else ""
-                self.assertEqual(stl.format_subtitle_name(position, number),
-                                 f"subtitle {position}{more}", (position, number))
-            self.assertEqual([item.name for item in all_of],
-                             ["subtitle 1", "subtitle 2", "subtitle 3 (SN 4)",
-                              "subtitle 4 (SN 5)"][:len(times)], times)
+            names = ["subtitle 1", "subtitle 2", "subtitle 3 (SN 4)", "subtitle 4 (SN 5)"]
+            self.assertEqual([item.name for item in all_of], names[:len(times)], times)
+
+    def test_names_a_subtitle_by_its_position_and_another_sn(self) -> None:
+        for position, number in itertools.product(range(1, 5), range(7)):
+            more = f" (SN {number})" if number != position else ""
+            self.assertEqual(stl.format_subtitle_name(position, number),
+                             f"subtitle {position}{more}", (position, number))
 
 
 class CodeTable(unittest.TestCase):

@@ -222,8 +222,7 @@ class Decisions(Case):
         def refuse(*numbers: int, count: int = 1) -> Grounds:
             return allowed._replace(parts=[CheckSummary(1, False, count, count, {*numbers})])
 
-        # The grounds, whether the recording cuts its last subtitle, and how many frames are not
-        # trusted
+        # The grounds, whether the last subtitle is cut, and how many frames are not trusted
         for name, known, is_cut, untrusted, word in (
                 ("accepted", grounds, False, 0, AS_SHOWN),
                 ("a named fault", grounds._replace(named_faults=[SUB_PAGES]), False, 0,

@@ -36,8 +36,7 @@ def list_announcements(*lines: str) -> list[Announcement]:
 
 
 def make_pmt_lines(number: int, *pids: int, clock: int = 100, page: str = "888") -> list[str]:
-    """Return lines of `survey`: the PMT of a programme announces a page on PIDs. Its PCR PID is
-    `clock`."""
+    """Return lines of `survey`: a PMT with the PCR PID `clock` announces a page on PIDs."""
     return [f"programme {number} {clock}", *(line for pid in pids for line in (
         f"stream {pid} 6", f"announce {pid} {page} 656e67 2"))]
 
@@ -131,8 +130,7 @@ class Announcements(Case):
 
     def test_expects_the_page_if_a_subtitle_is_recorded(self) -> None:
         subtitles = [(100, 150), (500, 600)]
-        # The first and last frame of the recording, frame 0 (`None`: the clock is unknown, and the
-        # recording must be longer than the longest pause)
+        # The first and the last frame of the recording, and its origin (`None`: unknown)
         for first, last, origin, expected in (
                 (0, 1000, 0, True), (100, 150, 0, True), (101, 599, 0, False),
                 (100, 149, 0, False), (500, 600, 0, True), (160, 490, 0, False),
@@ -235,9 +233,8 @@ class JudgedStreams(ProgrammeCase):
         result, line = judged.result, "refused never sent"
         self.check(f"{name}: verdict", (judged.word, result["status"], result["line"],
                                         result["worst_fault"]), ("refused", 1, line, line))
-        self.check(f"{name}: faults", [(fault["number"], fault["name"], fault["meaning"])
-                                       for fault in result["faults"]],
-                   [(None, "never sent", reason)])
+        faults = [(fault["number"], fault["name"], fault["meaning"]) for fault in result["faults"]]
+        self.check(f"{name}: faults", faults, [(None, "never sent", reason)])
         self.check(f"{name}: sentence", judged.verdict.sentence, f"Refused: {reason}.")
         self.check(f"{name}: parts", (result["parts"], result["subtitle_counts"]), ([], None))
         self.must(f"{name}: a checksum", result["inputs"]["recording"]["sha256"])

@@ -46,8 +46,7 @@ def make_pes_line(pid: int, flags: str = "heob", pts: int = SECOND) -> str:
 class ChosenPids(Case):
     def test_chooses_the_only_pid_with_the_page(self) -> None:
         page_on_first, page_on_second = make_pes_line(FIRST_PID), make_pes_line(SECOND_PID)
-        rows_on_first, rows_on_second = make_pes_line(FIRST_PID, "-"), make_pes_line(
-            SECOND_PID, "-")
+        rows_on_first, rows_on_second = (make_pes_line(pid, "-") for pid in (FIRST_PID, SECOND_PID))
         announced_on_first, announced_on_second = (
             ["pcr 100 0", *make_pmt_lines(7, pid), f"pcr 100 {60 * SECOND}"]
             for pid in (FIRST_PID, SECOND_PID))
@@ -56,8 +55,7 @@ class ChosenPids(Case):
                  *announced_on_second, make_pes_line(SECOND_PID, pts=60 * SECOND)]
         others = [page_on_first, f"sub {SECOND_PID} 888", f"sub {THIRD_PID} 801"]
         never_sent = [rows_on_first, *announced_on_first]
-        # Lines of `survey`, the value of --pid (`None`: not given), and the PID, suggested options,
-        # or `NeverSent`
+        # Lines of `survey`, the value of --pid, and the PID, suggested options or `NeverSent`
         rows: list[tuple[list[str], int | None, object]] = [
             ([page_on_first], None, FIRST_PID),
             ([make_pes_line(FIRST_PID, "he")], None, FIRST_PID),

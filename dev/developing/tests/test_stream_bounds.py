@@ -186,7 +186,6 @@ class ReceivedFrames(unittest.TestCase):
             self.assertEqual([run.first for run in received.list_frame_runs(frame)],
                              [number for number, item in known.items() if item == frame], frame)
         self.assertEqual((received.first, received.last, received.count), (10, 30, 8))
-        self.assertEqual(ReceivedPackets().first, NO_FRAME)
 
     def test_a_span_was_received_before_a_step_back_and_away_from_gaps_and_losses(self) -> None:
         # The frames of four PES packets, and the one before which there is a gap marker (4: none)
@@ -273,10 +272,6 @@ class ReceivedFrames(unittest.TestCase):
             self.assertEqual(getattr(both, name), getattr(alone, name), name)
         self.assertEqual([*both.pauses], [*alone.pauses])
 
-    def test_begins_at_the_given_frame_of_the_first_pes_packet(self) -> None:
-        self.assertEqual([self.make_timeline("10:heo:a 11:c", first_packet_frame=frame).first
-                          for frame in (NO_FRAME, 0, 7)], [10, 0, 7])
-
     def test_stray_rows_stay_until_survey_prints_others(self) -> None:
         runs = [PacketRun(0, 3, 0, 5 * TICKS, "s", ""), PacketRun(3, 1, 20 * TICKS, 0, "s", ""),
                 PacketRun(4, 1, 30 * TICKS, 0, "s", "")]
@@ -332,9 +327,7 @@ class ClearOrigins(unittest.TestCase):
 
     @staticmethod
     def fit(matches: int, pages: int, texts: int = 0, total: int = 5, start: int = 0) -> OriginFit:
-        return OriginFit(9, matches, content_matches=pages, text_matches=texts,
-                         exact_matches=matches, total=total, first_text=None, first_unmatched=None,
-                         start=start)
+        return OriginFit(9, matches, pages, texts, matches, total, None, None, start)
 
     def part(self, best: OriginFit, *others: OriginFit, early: EarlyCues | None = None,
              offset: CueOffset | None = None) -> Any:

@@ -146,7 +146,7 @@ class ProposedItems(Case):
         for (item, text), count in itertools.product(HIDING_ITEMS, (1, 9, 10)):
             self.check_item(item, text, count, is_proposed=False)
 
-    def test_counts_subtitles_for_each_omitted_item(self) -> None:
+    def test_counts_subtitles_for_each_item_that_is_not_proposed_and_for_both(self) -> None:
         several = [COLOUR] * 5 + [SPACES] * 4 + make_unchanged_texts(91)
         choice = choose_layouts(draw_sent_subtitles(several), ENGLISH)[1]
         self.check("not proposed", format_rejected_items(choice),
@@ -191,15 +191,6 @@ class ProposedItems(Case):
             [WHITE] * 3 + [SPACES] * 5 + make_unchanged_texts(92)), ENGLISH)
         self.check("removed", evidence.remove_unsupported(read_intended_layout(
             "strip=07,trim"))[1], [{("strip", 7)}, {("trim", 0)}])
-
-    def test_counts_subtitles_for_each_removed_item_and_for_both(self) -> None:
-        evidence = Evidence(draw_sent_subtitles(
-            [COLOUR] * 5 + [SPACES] + make_unchanged_texts(20)), ENGLISH)
-        removed = [frozenset({("strip", 3)}), frozenset({("trim", 0)})]
-        rejected = evidence.find_rejected_items(PLAIN, removed,
-                                                whole=read_intended_layout("strip=03,trim"))
-        self.check("rejected", [(item.text, item.more) for item in rejected],
-                   [("strip=03", 5), ("trim", 1), ("strip=03,trim", 6)])
 
     def test_keeps_the_weaker_evidence_of_codes_before_and_after_a_colour(self) -> None:
         layout, coloured = read_intended_layout("before=0D*0B0B"), SentText(b"\3Hi", b"\3Hi")

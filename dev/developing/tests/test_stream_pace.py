@@ -59,12 +59,6 @@ def repeat_steps(steps: Sequence[int], times: int) -> list[int]:
     return result
 
 
-def draw_steps(seed: int, weights: Sequence[float], count: int = 400) -> list[int]:
-    """Return frames at random intervals. `weights` has the weight of each interval from one on."""
-    drawn = random.Random(seed).choices(range(1, len(weights) + 1), weights, k=count)
-    return [0, *itertools.accumulate(drawn)]
-
-
 # No PES packet is sent between the frames 999 and 1100, and between 2999 and 3100.
 ONE_SILENCE = remove_frames(LONG, (999, 100))
 TWO_SILENCES = remove_frames(LONG, (999, 100), (2999, 100))
@@ -212,12 +206,14 @@ class PaceDecisions(Case):
             "four": (([[0, 1, 3], [9, 13, 18]],), 1), "five": (([[0, 9, 17, 24, 30, 31]],), 6)})
 
     def test_finds_no_loss_in_random_intervals(self) -> None:
+        # The weights of intervals of one frame, two frames, and so on
         for name, weights in (("halving", [.5 ** at for at in range(20)]),
                               ("seldom a frame without", [.1 ** at for at in range(9)]),
                               ("seldom long", [.8 ** at for at in range(40)]),
                               ("of even frames", [.7 ** at * (at % 2) for at in range(40)])):
             for seed, is_stream in itertools.product(range(10), (True, False)):
-                frames = draw_steps(seed, weights)
+                frames = [0, *itertools.accumulate(random.Random(seed).choices(
+                    range(1, len(weights) + 1), weights, k=400))]
                 pace = compute_pace([frames], 1, 250, (), is_stream)
                 longest = max(count_distances([frames], 1))
                 self.must(f"{name} {seed} {is_stream}",

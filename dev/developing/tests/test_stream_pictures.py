@@ -149,9 +149,8 @@ class PictureDepartures(Case):
             leads = make_video_leads([6.0] * 10 + [6.0 - frames] * 70, {10: frames})
             unusual = [UnusualStep(SECOND * at - 5, TICKS * (frames if at == 10 else 1), TICKS)
                        for at in range(10, 11 + others)]
-            self.check(f"{frames} frames, {others} others", [
-                item.ticks for item in locate_departures(leads, unusual) or []],
-                       [expected and expected * TICKS])
+            sizes = [item.ticks for item in locate_departures(leads, unusual) or []]
+            self.check(f"{frames} frames, {others} others", sizes, [expected and expected * TICKS])
 
     def test_needs_three_leads_before_lost_pictures_and_no_part_of_a_picture(self) -> None:
         for leads_before, frames, expected in ((1, 12, [None]), (2, 12, [None]), (3, 12, []),
@@ -170,8 +169,6 @@ class PictureDepartures(Case):
                       for at, lead in enumerate(make_video_leads([6.0] * 40))]
             self.check(f"{each} a second", locate_departures(steady), [])
 
-
-# Tables of jumps that are reported as faults or as notes.
 
 def make_lead_survey_lines(steps: Sequence[tuple[float, int]], origin: int = 0,
                            video: int = VIDEO) -> list[str]:
@@ -196,8 +193,7 @@ def survey_extra_lines(lines: Sequence[str] = (), origin: int = 0) -> Survey:
 
 
 class DepartureFaults(Case):
-    """A part with the frames 1000 to 2000, from 00:00:40:00 to 00:01:20:00, of a survey with leads
-    of 6 frames. The pictures jump against the Teletext."""
+    """Pictures that jump, and a part of the frames 1000 (00:00:40:00) to 2000 (00:01:20:00)."""
 
     def list_faults_and_notes(
             self, steps: Sequence[tuple[float, int]], within: int = 0, source: str = GIVEN,
@@ -271,9 +267,8 @@ class DepartureFaults(Case):
             lines = [*make_lead_survey_lines([]), f"steps {VIDEO} 3600 501 3600 501",
                      f"steps {VIDEO} -3600 2480 3600 2476",
                      f"end {PID} 9 0 9 0 0 0 {TICKS * last}"]
-            desync = find_desync(survey_extra_lines(lines), PID,
-                                 TimedPart(1000, 2490, Clock(0, GIVEN)), 0, 1, (),
-                                 [TICKS * 2480])
+            part = TimedPart(1000, 2490, Clock(0, GIVEN))
+            desync = find_desync(survey_extra_lines(lines), PID, part, 0, 1, (), [TICKS * 2480])
             self.check(str(last), [fault.time for fault in desync.faults], expected)
 
     def test_notes_a_missing_usual_step(self) -> None:
@@ -334,9 +329,8 @@ class Pairs(Case):
             path = self.write("one.ts", multiplex_programmes([programme], tco + 3 - begin).data)
             judged_pair = judge_files(self, stl, path, "--origin", "0")
             self.check(f"{is_late}", judged_pair.word, word)
-            self.check(f"{is_late}, places", [fault.time for fault in
-                                              judged_pair.verdict.named_faults],
-                       [format_frame(tco - 5)] * is_late)
+            places = [fault.time for fault in judged_pair.verdict.named_faults]
+            self.check(f"{is_late}, places", places, [format_frame(tco - 5)] * is_late)
 
 
 class AnnouncedJumps(Case):

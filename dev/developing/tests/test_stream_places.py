@@ -118,9 +118,8 @@ class PaceOptions(Case):
             args = ["--pace", str(pace)] if pace else []
             self.check(value, (request.list_check_arguments(), request.pace, REQUEST.to_json(
                 request)["pace"]), (["--complete", *args], pace, str(pace or "none")))
-
-    def test_the_result_has_no_pace_if_none_was_requested(self) -> None:
-        self.check("pace", REQUEST.to_json(make_example_request("one.stl", "one.ts"))["pace"], None)
+        request = make_example_request("one.stl", "one.ts")
+        self.check("no --pace", REQUEST.to_json(request)["pace"], None)
 
     def test_rejects_a_pace_that_is_no_number_of_frames_of_a_day(self) -> None:
         for value in ("0", "", "-1", "x", "None", "2160001", "9" * 5000, "1.5", "\u0661"):
@@ -189,8 +188,7 @@ def format_names(definitions: Iterable[Definition]) -> str:
 
 
 class ReadingLists(Case):
-    """The definitions in `FILES` that somebody has to read to understand a definition, a function
-    or one of its clauses."""
+    """What somebody has to read in `FILES` to understand a definition or a clause."""
 
     def setUp(self) -> None:
         super().setUp()

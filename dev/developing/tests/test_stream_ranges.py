@@ -206,9 +206,8 @@ class AdjoiningSubtitles(ProgrammeCase):
         for frame in (250, 300):
             judged = self.judge(self.sent, "--to", format_frame(frame))
             self.check(f"{frame}", (judged.word, judged.result["parts"]), ("not judged", []))
-            self.check(f"{frame}: suggested ends", [
-                word.rpartition(" ")[2] for word in judged.verdict.suggestions],
-                       [format_frame(151), format_frame(351)])
+            ends = [word.rpartition(" ")[2] for word in judged.verdict.suggestions]
+            self.check(f"{frame}: suggested ends", ends, [format_frame(151), format_frame(351)])
             self.check(f"{frame}: reason", judged.verdict.unjudged_reason, "--to ends the range at "
                        f"{format_frame(frame)}, where the next subtitle follows directly: the page "
                        "is not erased there")

@@ -8,7 +8,6 @@ import operator
 import os
 from typing import Callable, Iterable, Sequence
 
-from developing.multiplex import ADAPTATION_ALONE, PACKET, make_packet_header
 from developing.pes import make_pes_packet
 from subtitles.common.command_line import ProgramInterrupted
 from subtitles.common.program import TOP, read
@@ -20,8 +19,8 @@ from subtitles.stream.survey import (
     Announced, ProgramMap, Survey, VERSION, Video, find_first_pages, survey, survey_runs)
 from .bench import Case
 from .streams import (
-    AUDIO_PID, TELETEXT_PID, VIDEO_PID, StreamMaker, filler, make_components, make_mpeg_2_picture,
-    make_video_packet)
+    AUDIO_PID, DISCONTINUITY, TELETEXT_PID, VIDEO_PID, StreamMaker, filler, make_components,
+    make_mpeg_2_picture, make_video_packet)
 from .parts import read_survey
 from .transmissions import CLOSING, PAGE
 
@@ -39,12 +38,6 @@ def make_stream(pes: Iterable[bytes], change: Callable[[list[bytes]], list[bytes
     for item in pes:
         maker.put(TELETEXT_PID, item)
     return b"".join([*before, *change(maker.taken())])
-
-
-def announce_jump_in_second(packets: list[bytes]) -> list[bytes]:
-    """Replace the second TS packet with a packet that has a discontinuity_indicator."""
-    field = bytes([PACKET - 5, 0x80]).ljust(PACKET - 4, b"\xff")
-    return [packets[0], make_packet_header(TELETEXT_PID, 0, ADAPTATION_ALONE) + field, *packets[2:]]
 
 
 class Lines(Case):
@@ -89,7 +82,7 @@ class Lines(Case):
         two_ts_packets_each = [make_pes_packet(FIRST_PTS + TICKS * at, [CLOSING] * 4)
                                for at in range(3)]
         data = make_stream(two_ts_packets_each,
-                           lambda packets: [*packets[:2], *announce_jump_in_second(packets[2:])])
+                           lambda packets: [*packets[:3], DISCONTINUITY, *packets[4:]])
         first, second = (line.split(" ")[0] for line in self.list_lines(data, "gap", "seam"))
         manual = " ".join((read(os.path.join(TOP, "docs", "manual", "survey.md")) or "").split())
         self.check("lines", {first, second}, {"gap", "seam"})
@@ -222,10 +215,6 @@ class SurveyAnswers(Case):
         self.check("lines", len(looks), 4)
         result = survey(self.fake_survey([]), "one.ts", PAGE)
         self.check("call without a PID", result.head, b"survey --page 888 -- one.ts")
-
-    def test_raises_an_error_if_the_program_fails(self) -> None:
-        with self.assertRaises(ProgramInterrupted):
-            survey(self.fake_survey([], status=3), "one.ts", PAGE)
 
     def test_reads_1000_lines_from_the_first_subtitle_page_on(self) -> None:
         rows: dict[str, tuple[list[str], list[Page]]] = {

@@ -31,14 +31,12 @@ def make_packets_with_pts(pts: Sequence[int | None], **more: Any) -> Packets:
 
 
 def make_packets_in_frames(frames: Iterable[int], flags: str) -> Packets:
-    """Return PES packets in these frames, all with the same flags."""
     return Packets(PID, [PacketRun(at, 1, TICKS * frame, 0, flags, "")
                          for at, frame in enumerate(frames)])
 
 
 def make_pcr_step(before: int, ticks: int, counters: str, packets: int = 100) -> PCRStep:
-    """Return a step of `ticks` and `packets` TS packets between two PCRs, after the PTS `before`.
-    Usual are a tenth of a second and 100 TS packets."""
+    """Return a step between two PCRs, which are usually 0.1 s and 100 TS packets apart."""
     return PCRStep(before, before + 1, ticks, packets, SECOND // 10, 100, counters)
 
 
@@ -145,8 +143,8 @@ class ClockTables(unittest.TestCase):
 
     def test_joins_spans_that_are_not_in_order(self) -> None:
         falling = Spans([(7, 9), (1, 3), (4, 8)])
-        self.assertEqual((list(falling), falling.is_rising()), ([(7, 9), (1, 8)], False))
-        self.assertEqual(list(join_spans([falling])), [(1, 9)])
+        self.assertEqual((list(falling), falling.is_rising(), list(join_spans([falling]))),
+                         ([(7, 9), (1, 8)], False, [(1, 9)]))
 
     def test_packets_agree_with_a_list_of_pes_packets(self) -> None:
         chance = random.Random(7)
@@ -223,7 +221,8 @@ class ClockTables(unittest.TestCase):
         # Usually PTS are 1000 ticks ahead of the PCR. Further samples, once a second, and the
         # anomalies: how many samples show them, and the worst distance (`changed`: from the usual)
         rows: list[tuple[list[int], list[tuple[str, int, int]]]] = [
-            ([], []), ([-5, -700, -20], [("behind", 3, -700)]), ([-1], [("behind", 1, -1)]),
+            ([], []), ([0], []), ([-1], [("behind", 1, -1)]),
+            ([-5, -700, -20], [("behind", 3, -700)]),
             ([SECOND, SECOND + 1], [("early", 1, SECOND + 1), ("changed", 2, SECOND - 999)]),
             ([1000 + SECOND // 2], []), ([1001 + SECOND // 2] * 20, [("changed", 20, 45_001)]),
             ([-45_000, 47_000], [("behind", 1, -45_000), ("changed", 2, -46_000)])]
@@ -236,12 +235,6 @@ class ClockTables(unittest.TestCase):
                              expected, more)
             self.assertTrue(all(item.total == len(samples) and item.pts in dict(samples[9:])
                                 for item in result), (begin, more))
-
-    def test_a_single_sample_is_compared_with_the_pcr(self) -> None:
-        for alone, kind in ((-5, "behind"), (0, ""), (SECOND, ""), (SECOND + 1, "early")):
-            result = list(find_pts_anomalies(make_packets_with_pts([], samples=[(7, alone)])))
-            self.assertEqual([(item.kind, item.pts) for item in result], [(kind, 7)] * bool(kind),
-                             (alone, kind))
 
     def test_lists_gap_markers_and_losses_once(self) -> None:
         late = make_pcr_step(500, ticks=99_000, counters="broken")
@@ -387,8 +380,6 @@ class ClockTables(unittest.TestCase):
 
     def test_describes_the_place_of_a_loss(self) -> None:
         for place, words in (
-                (LossPlace(3600, 7200, 1), "between PTS 3600 and 7200 (00:00:00:01 and 00:00:00:02 "
-                 "after the first PTS)"),
                 (LossPlace(None, 7200, 1), "before PTS 7200 (00:00:00:02 after the first PTS)"),
                 (LossPlace(3600, None, 1), "after PTS 3600 (00:00:00:01 after the first PTS)")):
             self.assertEqual(describe_loss_place(place, 0), f"{words}: 1 TS packet was lost", place)
@@ -396,8 +387,6 @@ class ClockTables(unittest.TestCase):
                          "before PTS 3600 (00:00:00:01 after the first PTS): a break in the stream")
         self.assertEqual(describe_loss_place(LossPlace(None, None, 1), None),
                          "1 TS packet was lost")
-
-    def test_describes_the_place_of_a_loss_over_the_wrap(self) -> None:
         words = f"between PTS {CLOCK - 3600} and 3600 (00:00:00:01 and 00:00:00:03 after the " \
             "first PTS): "
         for first, last in ((CLOCK - 7200, 3600), (CLOCK - 7201, 3599)):
