@@ -116,8 +116,7 @@ class StreamMaker:
 
     def put(self, pid: int, data: bytes, is_access: bool = False) -> None:
         first = 160 if is_access else PACKET - 4
-        self.put_packet(pid, PAYLOAD_START, data[:first], bytes([RANDOM_ACCESS]) if is_access
-                        else b"")
+        self.put_packet(pid, PAYLOAD_START, data[:first], bytes([RANDOM_ACCESS] * is_access))
         for at in range(first, len(data), PACKET - 4):
             self.put_packet(pid, 0, data[at:at + PACKET - 4])
 
@@ -151,9 +150,7 @@ def add_pictures(pes: bytes, first: int, kind: int = MPEG_2, picture: bytes = b"
     for number in range(2):
         group = first + TICKS * (leading + 12) * number
         maker.put(VIDEO_PID, make_video_packet(group + TICKS * leading, group_begin + result), True)
-        for place in range(leading):
-            maker.put(VIDEO_PID, make_video_packet(group + TICKS * place, result))
-        for place in range(leading + 1, leading + 12):
+        for place in (*range(leading), *range(leading + 1, leading + 12)):
             maker.put(VIDEO_PID, make_video_packet(group + TICKS * place, result))
     for packet in packets(pes):
         maker.put_pcr(decode_pts(packet) - PTS_AHEAD)
@@ -332,13 +329,12 @@ def make_planned_stream(pes: Sequence[bytes], plan: Sequence[tuple[int, int]],
     """Return a transport stream whose Teletext moves to other PIDs. `plan` contains indexes of PES
     packets, each with the PID that the PMT names from this packet on. `carried` may put PES packets
     on other PIDs. PCRs precede PES packets by `ahead` ticks."""
-    maker, pid = StreamMaker([]), 0
+    maker, pid, named_pids = StreamMaker([]), 0, dict(plan)
     for number, item in enumerate(pes):
-        for begin, named in plan:
-            if begin == number:
-                pid = named
-                maker.tables = StreamMaker(make_components(AUDIO, descriptor, pid)).tables
-                maker.put_tables()
+        if number in named_pids:
+            pid = named_pids[number]
+            maker.tables = StreamMaker(make_components(AUDIO, descriptor, pid)).tables
+            maker.put_tables()
         if ahead is not None:
             maker.put_pcr(decode_pts(item) - ahead)
         for each, data in carried(number) if carried else [(pid, item)]:

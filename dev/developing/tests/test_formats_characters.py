@@ -113,9 +113,6 @@ class NationalOptions(unittest.TestCase):
         for track, named in (("FRE", FRENCH), ("gre", None), ("lav", None)):
             self.assertEqual(choose_track_option(track), named, track)
 
-    def test_each_option_has_all_national_characters(self) -> None:
-        self.assertEqual({len(item.characters) for item in OPTIONS}, {len(NATIONAL_CODES)})
-
 
 class Advice(unittest.TestCase):
     def test_names_the_options_that_have_a_refused_character(self) -> None:

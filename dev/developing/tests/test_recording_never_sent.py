@@ -119,9 +119,8 @@ class Announcements(Case):
     def describe_unclear(self, lines: list[str], carriers: set[int], pes: tuple[int, int] | None) \
             -> list[str] | None:
         """Return the commands that qc suggests, or `None` if it knows which programme is meant."""
-        request = mock.Mock(page=PAGE, pes=pes)
-        recording = mock.Mock(survey=read_survey(*lines), request=request, said=str)
-        recording.suggest_call = lambda *words: " ".join(words)
+        recording = mock.Mock(survey=read_survey(*lines), request=mock.Mock(page=PAGE, pes=pes),
+                              said=str, suggest_call=lambda *words: " ".join(words))
         try:
             Recording.refuse_silent_programmes(recording, carriers)
         except Unclear as reason:

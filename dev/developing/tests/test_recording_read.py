@@ -25,8 +25,7 @@ from .test_recording_never_sent import FIRST_PID, SECOND_PID, THIRD_PID, make_pm
 
 def make_recording(survey: Survey, *args: str, name: str = "one.ts", kind: int = stat.S_IFREG,
                    folder: str = "") -> Any:
-    """Return a `Recording` of page 888 that was surveyed, judged with arguments of qc. `kind` is
-    the type of the file. A subtitle is expected in the frames 100 to 150."""
+    """Return a surveyed recording, with a subtitle in the frames 100 to 150."""
     lines = list[str]()
     listener: Any = SimpleNamespace(lines=lines, print_line=lines.append,
                                     add_selection=lambda item: lines.append(item.line))
@@ -110,10 +109,6 @@ class ChosenPids(Case):
                 item.is_piped, item.path, item.stream(), (item.display_name, item.kept_ending)), (
                     is_piped, "one.recording" if is_piped else name,
                     (FIRST_PID, packet_size) if packet_size else None, expected))
-
-    def test_lists_an_announced_jump_as_a_loss(self) -> None:
-        losses = make_recording(Survey()).list_losses([(5, 9)])
-        self.check("announced", [item.is_announced for item in losses], [True])
 
     def test_reports_files_that_are_no_recordings(self) -> None:
         # The first bytes, the TS packet size that `survey` found (0: PES packets), and the message

@@ -33,8 +33,6 @@ def move_pts(ticks: int | None, origin: int) -> int | None:
 
 
 class Silences(unittest.TestCase):
-    """Intervals without PES packets, and the places of losses."""
-
     def test_a_loss_is_at_most_as_long_as_the_interval_between_the_pts(self) -> None:
         # The PTS before and after a loss, if any, and the ticks that are missing
         for origin, (before, after, missing, expected) in itertools.product(ORIGINS, (

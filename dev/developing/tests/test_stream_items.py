@@ -130,12 +130,12 @@ class ProposedItems(Case):
         """Check whether an item is proposed if `count` of 100 subtitles are sent like `text`."""
         closest, choice = choose_layouts(draw_sent_subtitles(
             [text] * count + make_unchanged_texts(100 - count)), ENGLISH)
-        self.check(f"{item}, {count}: closest layout", closest.as_sent, 100)
         self.check(f"{item}, {count}: proposed, not proposed", (
             format_layout(choice.layout), format_rejected_items(choice)),
             (item, []) if is_proposed else ("", [(item, count)]))
-        self.check(f"{item}, {count}: drawn as sent", (choice.as_sent, choice.total),
-                   (100 if is_proposed else 100 - count, 100))
+        self.check(f"{item}, {count}: drawn as sent", (
+            closest.as_sent, choice.as_sent, choice.total),
+                   (100, 100 if is_proposed else 100 - count, 100))
 
     def test_proposes_an_item_that_ten_subtitles_show(self) -> None:
         for (item, text), count in itertools.product(HARMLESS_ITEMS, (1, 9, 10)):

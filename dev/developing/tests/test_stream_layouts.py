@@ -146,8 +146,8 @@ class LayoutSearch(Case):
                                       draw_programme(Layout(row=-1), count=60)) for item in pair]
         closest = choose_layouts(turns, ENGLISH)[0]
         self.check("clear, and subtitles", (closest.is_clear, closest.total), (False, 120))
-        by_plain = len(turns) - count_misdrawn(PLAIN, turns, ENGLISH, len(turns))
-        self.must("at least as good as the plain one", closest.as_sent >= by_plain, closest)
+        self.must("at least as good as the plain one", closest.total - closest.as_sent <=
+                  count_misdrawn(PLAIN, turns, ENGLISH, len(turns)), closest)
 
 
 class StoredRows(Case):

@@ -100,15 +100,13 @@ class PictureDepartures(Case):
             self.check(f"{lost} lost, {ahead}", self.list_jumps(
                 make_video_leads([6.0] * 80, {40: lost}), ahead), expected)
 
-    def test_finds_a_lead_that_grows_steadily(self) -> None:
+    def test_finds_a_lead_that_grows_steadily_but_not_a_jump_of_the_teletext_pts(self) -> None:
         leads = make_video_leads([6 + 0.02 * at for at in range(100)])
-        self.check("ticks", find_steady_change(leads), round(99 * 0.02 * TICKS))
-
-    def test_a_jump_of_the_teletext_pts_is_no_steady_change(self) -> None:
+        self.check("it grows", find_steady_change(leads), round(99 * 0.02 * TICKS))
         for by in (50, 25 * 3600, -25 * 3600):
             jumped = [lead._replace(pts=(lead.pts + TICKS * by) % CLOCK, ticks=lead.ticks + TICKS
                                     * by) for lead in make_video_leads([6.0] * 100)[50:]]
-            self.check(f"by {by} frames", find_steady_change(
+            self.check(f"the PTS jump by {by} frames", find_steady_change(
                 [*make_video_leads([6.0] * 50), *jumped]), 0)
 
     def test_the_lead_may_differ_from_the_jump_by_less_than_half_a_frame(self) -> None:

@@ -127,8 +127,7 @@ class PaceOptions(Case):
                 make_example_request("one.stl", "one.ts", "--pace", value)
 
 
-# A repository with two crates, for tests of tools/reading-list. `high` uses `pair` and `size` of
-# `low`, and has another `size` of its own.
+# A repository with two crates. `high` uses `pair` and `size` of `low`, and has its own `size`.
 FILES = {
     "crates.txt": "# name: what it stands on\nlow:\nhigh: low\n",
     "crates/low/specs/Words.antt": """-- Words.

@@ -41,8 +41,6 @@ def make_stream(pes: Iterable[bytes], change: Callable[[list[bytes]], list[bytes
 
 
 class Lines(Case):
-    """Lines that the program's command `survey` prints about transport streams."""
-
     def list_lines(self, data: bytes, *kinds: str) -> list[str]:
         """Return the lines of `survey` that begin with one of these words."""
         status, lines = self.program("survey", self.write("one.ts", data))
@@ -211,8 +209,8 @@ class SurveyAnswers(Case):
     def test_calls_the_program_and_a_function_after_each_line(self) -> None:
         looks = list[int]()
         result = survey(self.fake_survey([]), "-one.ts", PAGE, 5, lambda: looks.append(1))
-        self.check("call", result.head, b"survey --page 888 --pid 0x5 -- -one.ts")
-        self.check("lines", len(looks), 4)
+        self.check("call, and lines", (result.head, len(looks)),
+                   (b"survey --page 888 --pid 0x5 -- -one.ts", 4))
         result = survey(self.fake_survey([]), "one.ts", PAGE)
         self.check("call without a PID", result.head, b"survey --page 888 -- one.ts")
 
