@@ -1,13 +1,12 @@
 """Test recordings whose pages are not in the default layout, and files with open subtitles."""
 from __future__ import annotations
 
-import os
+from typing import Sequence, Tuple
 
-from developing.pes import make_pes_packet
 from developing.stl import make_gsi_block, make_subtitle_blocks
 from subtitles.common.times import TICKS
 from subtitles.formats.layout import (
-    PLAIN, TextFault, draw_text, find_layout_fault, make_page_rows, parse_layout)
+    TextFault, draw_text, find_layout_fault, make_page_rows, parse_layout)
 from subtitles.formats.stl import Subtitle
 from subtitles.formats.teletext import ENGLISH
 from subtitles.judging.pages import describe_row_difference
@@ -15,11 +14,13 @@ from subtitles.stream.layout import find_sent_subtitles
 from .bench import Case
 from .judged import JudgedPair, judge_files
 from .parts import decode_packets
-from .transmissions import CLOSING, HEADER, make_numbered_row
+from .transmissions import CLOSING, HEADER, join_pes_packets, make_numbered_row
 
-# first TCI, interval between TCIs, and duration, in frames
-FIRST_TCI, DISTANCE, DURATION = 3000, 60, 45
-DSC = slice(11, 12)
+FIRST_TCI, DISTANCE, DURATION = 3000, 60, 45  # first TCI, interval between TCIs, in frames
+CENTRED, VP = 2, 18  # justification code, and vertical position (row)
+DSC = slice(11, 12)  # bytes of the GSI block
+Texts = Sequence[Tuple[bytes, int]]  # text and justification code of each subtitle
+# Values of --layout, and the message about each, or `None` if the value is valid
 FAULTS = [
     ("left=40", "left=40 is not valid: left takes 0 to 39"), ("fit,fit", "fit is given twice"),
     ("fit=1", "fit=1 is not valid: fit takes no value"), ("pitch=1", "pitch=1 is an unknown item"),
@@ -27,9 +28,9 @@ FAULTS = [
     ("up,after=0E", "after=0E is not valid: after takes up to 4 codes 01 to 0D"), ("fit,up", None)]
 
 
-def write_texts(case: Case, texts: list[tuple[bytes, int]], name: str, dsc: bytes = b"1") -> str:
+def write_texts(case: Case, texts: Texts, name: str, dsc: bytes = b"1") -> str:
     blocks = b"".join(make_subtitle_blocks(
-        at, FIRST_TCI + DISTANCE * at, FIRST_TCI + DISTANCE * at + DURATION, 18, justify, text)
+        at, FIRST_TCI + DISTANCE * at, FIRST_TCI + DISTANCE * at + DURATION, VP, justify, text)
                       for at, (text, justify) in enumerate(texts))
     gsi = bytearray(make_gsi_block(b"As sent", len(blocks) // 128, len(texts), FIRST_TCI))
     gsi[DSC] = dsc
@@ -37,106 +38,129 @@ def write_texts(case: Case, texts: list[tuple[bytes, int]], name: str, dsc: byte
 
 
 class OtherLayouts(Case):
-    def judge(self, texts: list[tuple[bytes, int]], drawn: str, *args: str,
-              sent: list[tuple[bytes, int]] | None = None) -> JudgedPair:
-        """Judge a file of `texts` with a recording of `sent` or `texts` in the layout `drawn`."""
-        number = str(len(os.listdir(self.folder)))
-        stl = write_texts(self, texts, f"{number}.stl")
-        other = write_texts(self, sent or texts, f"{number}.sent.stl")
-        layout = ["--layout", drawn] if drawn else []
-        pes = self.schedule(other, f"{number}.pes", "--every", "20", *layout)
-        return judge_files(self, stl, pes, *args)
+    TEXTS = [(b"Line one is: %d\x8aline two" % at, CENTRED) for at in range(30)]
+
+    def judge_sent_texts(self, texts: Texts, sent: Texts, layout: Sequence[str],
+                         *args: str) -> JudgedPair:
+        """Judge a file of `texts` with a recording that has the texts `sent` in another layout."""
+        pes = self.schedule(write_texts(self, sent, "sent.stl"), "sent.pes", "--every", "20",
+                            *layout)
+        return judge_files(self, write_texts(self, texts, "one.stl"), pes, *args)
 
     def test_names_the_differing_cells_but_no_layout(self) -> None:
-        texts = [(b"Line one is: %d\x8aline two" % at, 2) for at in range(30)]
-        judged_pair = self.judge(texts, "after=0A", "-o", self.path("out"))
-        words = "subtitle 1 (SN 0) and 29 more subtitles have the right text in another layout: " \
+        judged = self.judge_sent_texts(self.TEXTS, self.TEXTS, ["--layout", "after=0A"],
+                                       "-o", self.path("out"))
+        hint = "subtitle 1 (SN 0) and 29 more subtitles have the right text in another layout: " \
             "row 18, 0A after the text instead of 0A 0A"
-        self.must("told", judged_pair.word == "refused"
-                  and judged_pair.result["hints"] == [f"72: {words}"]
-                  and f"72: {words}" in judged_pair.said
-                  and judged_pair.result["faults"][0]["remedy"] == words, judged_pair.said)
-        self.must("report", words.encode() in self.read("out/one.html"))
-        texts[7] = b"Hi there", 2
-        sent = [*texts[:7], (b"Hi thEre", 2), *texts[8:]]
-        plain = self.judge(texts, "", sent=sent)
-        self.must("a letter", plain.word == "refused" and plain.result["hints"] == [], plain.said)
+        self.check("verdict", judged.word, "refused")
+        self.check("hints", judged.result["hints"], [f"72: {hint}"])
+        self.must("printed", f"72: {hint}" in judged.said, judged.said)
+        self.check("remedy", judged.result["faults"][0]["remedy"], hint)
+        self.must("report", hint.encode() in self.read("out/one.html"))
+
+    def test_gives_no_hint_about_a_wrong_letter(self) -> None:
+        expected, sent = ([*self.TEXTS[:7], (text, CENTRED), *self.TEXTS[8:]]
+                          for text in (b"Hi there", b"Hi thEre"))
+        judged = self.judge_sent_texts(expected, sent, layout=[])
+        self.check("verdict and hints", (judged.word, judged.result["hints"]), ("refused", []))
 
 
 class DecodedPages(Case):
-    def test_chooses_the_page_that_lasts_longest(self) -> None:
-        for begin, end, pages, expected in (
-                (0, 50, ((0, 18), (10, 20)), [20]), (0, 30, ((0, 18), (20, 20)), [18]),
-                (50, 80, ((0, 18), (60, 20)), [20]), (0, 50, ((0, 18), (25, 20)), [18]),
-                (0, 50, ((0, 18), (5, 19), (20, 20), (30, 21)), [21]),
-                (0, 50, ((0, 18), (10, None)), [18]), (0, 50, ((50, 18),), [])):
-            pes = [make_pes_packet(TICKS * frame,
-                                   [HEADER,
-                                    *[make_numbered_row(number or 1, b"ab" if number else b"c"
-                                                            )], CLOSING])
-                   for frame, number in (*pages, (200, None))]
-            subtitle = Subtitle(1, 0, begin, end, 18, 2, b"ab")
-            sent_subtitles = find_sent_subtitles([subtitle], decode_packets(self, b"".join(pes)),
+    """A subtitle with the text "ab", whose pages with this text differ in the row that they use."""
+
+    def test_chooses_the_page_that_lasts_longest_while_the_subtitle_is_expected(self) -> None:
+        # The frames in which the subtitle is expected, the first frame of each page with the row
+        # of the text (`None`: another text), and the row of the chosen page. The last page ends
+        # with frame 199.
+        rows: dict[str, tuple[tuple[int, int], list[tuple[int, int | None]], list[int]]] = {
+            "10 frames, then 40": ((0, 50), [(0, 18), (10, 20)], [20]),
+            "20 frames, then 10": ((0, 30), [(0, 18), (20, 20)], [18]),
+            "10 frames and 50 before, then 20": ((50, 80), [(0, 18), (60, 20)], [20]),
+            "25 frames each": ((0, 50), [(0, 18), (25, 20)], [18]),
+            "5, 15, 10 and 20 frames": ((0, 50), [(0, 18), (5, 19), (20, 20), (30, 21)], [21]),
+            "10 frames, then 40 of another text": ((0, 50), [(0, 18), (10, None)], [18]),
+            "no page": ((0, 50), [(50, 18)], [])}
+        for name, (frames, pages, chosen) in rows.items():
+            sent = [(TICKS * frame, [
+                HEADER, make_numbered_row(row or 1, b"ab" if row else b"other"), CLOSING])
+                for frame, row in (*pages, (200, None))]
+            sent_subtitles = find_sent_subtitles([Subtitle(1, 0, *frames, VP, CENTRED, b"ab")],
+                                                 decode_packets(self, join_pes_packets(sent)),
                                                  ENGLISH)
-            rows = [number for sent in sent_subtitles for number, cells in enumerate(sent.rows, 1)
-                    if cells.strip()]
-            self.check(f"{begin} {end} {pages}", rows, expected)
+            self.check(name, [number for sent in sent_subtitles
+                              for number, cells in enumerate(sent.rows, 1) if cells.strip()],
+                       chosen)
 
 
 class LayoutMessages(Case):
-    def test_reports_faults_of_a_layout(self) -> None:
+    def test_reports_the_first_fault_of_a_layout(self) -> None:
         for text, fault in FAULTS:
-            self.must(text, find_layout_fault(text) == fault and (parse_layout(text) is None) ==
-                      bool(fault), find_layout_fault(text))
+            self.check(f"{text}: message", find_layout_fault(text), fault)
+            self.check(f"{text}: is refused", parse_layout(text) is None, bool(fault))
 
-    def test_reports_the_option_chosen_by_auto(self) -> None:
+    def test_refuses_the_layout_auto_and_names_the_option_that_finds_one(self) -> None:
         process = self.tool("qc", "one.stl", "one.ts", "--layout", "auto")
-        self.must("auto", process.status == 64 and len(process.told) == 1 and
-                  "find the layout of your inserter with `--measure" in process.told[0], process)
+        self.check("status and lines", (process.status, len(process.told)), (64, 1))
+        self.must("advice", "find the layout of your inserter with `--measure" in process.told[0],
+                  process)
 
-    def test_names_the_cells_in_which_pages_differ(self) -> None:
-        for text, expected in (
-                ("row=1", "row 19 instead of 18"), ("after=0A", "row 18, 0A after the text "
-                 "instead of 0A 0A"), ("after=", "row 18, column 18 instead of 17, nothing after "
-                 "the text instead of 0A 0A"),
-                ("before=060B0B", "row 18, column 16 instead of 17, 06 0B 0B before the text "
-                 "instead of 0B 0B")):
-            due, sent = (make_page_rows(lines) for layout in
-                         (PLAIN, parse_layout(text)) if layout and
-                         not isinstance(lines := draw_text(b"Hi", 18, 2, layout, ENGLISH),
-                                        TextFault))
-            self.check(text, describe_row_difference(due, sent), expected)
-        for first, second, expected in (
+    def make_rows(self, text: bytes, layout: str = "after=0A0A") -> tuple[bytes, ...]:
+        """Return the rows of a page that shows a text in a layout, by default the layout of qc."""
+        parsed = parse_layout(layout)
+        lines = draw_text(text, VP, CENTRED, parsed, ENGLISH) if parsed else None
+        assert lines and not isinstance(lines, TextFault)
+        return make_page_rows(lines)
+
+    def test_names_the_cells_in_which_layouts_differ(self) -> None:
+        # The layout in which a text was sent instead of the default layout, and the description
+        for layout, difference in {
+                "row=1": "row 19 instead of 18",
+                "after=0A": "row 18, 0A after the text instead of 0A 0A",
+                "after=": "row 18, column 18 instead of 17, nothing after the text instead of "
+                          "0A 0A",
+                "before=060B0B": "row 18, column 16 instead of 17, 06 0B 0B before the text "
+                                 "instead of 0B 0B"}.items():
+            self.check(layout, describe_row_difference(
+                self.make_rows(b"Hi"), self.make_rows(b"Hi", layout)), difference)
+
+    def test_names_the_rows_in_which_texts_are_divided_otherwise(self) -> None:
+        # The expected text, the text that was sent, and the description of the difference
+        for expected, sent, difference in (
                 (b"Hi Ho", b"Hi\x8aHo", "2 rows instead of 1"),
                 (b"H i", b"H\x02i", "row 18, other codes within the text"),
                 (b"Hi\x8aH o", b"Hi\x8aH\x02o", "row 19, other codes within the text")):
-            due, sent = (make_page_rows(lines) for text in (first, second) if not isinstance(
-                lines := draw_text(text, 18, 2, PLAIN, ENGLISH), TextFault))
-            self.check(f"{second!r}", describe_row_difference(due, sent), expected)
+            self.check(f"{sent!r}", describe_row_difference(
+                self.make_rows(expected), self.make_rows(sent)), difference)
 
 
 class OpenSubtitles(Case):
-    def test_judges_open_subtitles_with_the_advised_option(self) -> None:
-        texts = [(b"Number %d\x0a" % at, 2) for at in range(12)]  # 0A may hide text
+    """Files of twelve open subtitles, whose DSC is not 1 or 2."""
+
+    TEXTS = [(b"Number %d\x0a" % at, CENTRED) for at in range(12)]  # 0A may hide text
+
+    def test_a_hint_advises_the_option_open_if_the_dsc_allows_it(self) -> None:
         for dsc, kind in ((b"0", "0 (open subtitles)"), (b" ", "blank"), (b"3", None)):
-            stl = write_texts(self, texts, "open.stl", dsc)
-            alone = judge_files(self, stl)
+            judged = judge_files(self, write_texts(self, self.TEXTS, "open.stl", dsc))
             hint = f"its DSC is {kind}: --open accepts it"
-            self.must(f"{kind}: 13", alone.result["line"] == "refused 13 Display block 0"
-                      and alone.result["hints"] == [f"13: {hint}"] * bool(kind)
-                      and (alone.result["faults"][0]["remedy"] == hint) == bool(kind), alone.said)
-            if kind is None:
-                other = judge_files(self, stl, "--open")
-                self.must("with --open", other.result["line"] == "refused 13 Display block 0",
-                          other.said)
-                continue
-            self.check(f"{kind}: a file", judge_files(self, stl, "--open").word, "valid")
+            self.check(f"{dsc!r}: line", judged.result["line"], "refused 13 Display block 0")
+            self.check(f"{dsc!r}: hints", judged.result["hints"], [f"13: {hint}"] * bool(kind))
+            self.check(f"{dsc!r}: the hint is the remedy",
+                       judged.result["faults"][0]["remedy"] == hint, bool(kind))
+
+    def test_refuses_another_dsc_with_the_option_open(self) -> None:
+        judged = judge_files(self, write_texts(self, self.TEXTS, "open.stl", b"3"), "--open")
+        self.check("line", judged.result["line"], "refused 13 Display block 0")
+
+    def test_judges_open_subtitles_with_the_option_open(self) -> None:
+        for dsc in (b"0", b" "):
+            stl = write_texts(self, self.TEXTS, "open.stl", dsc)
+            self.check(f"{dsc!r}: a file", judge_files(self, stl, "--open").word, "valid")
             pes = self.schedule(stl, "open.pes", "--open", "--every", "20", "--layout", "after=0A")
-            judged_pair = judge_files(self, stl, pes, "--open", "--layout", "after=0A", "-o",
-                                      self.path("out"))
-            self.must(f"{kind}: a pair", judged_pair.word == "accepted" and
-                      judged_pair.result["request"]["open"]
-                      and b"12 subtitles" in self.read("out/one.html"), judged_pair.said)
-            late = judge_files(self, stl, pes, "--open")
-            self.must(f"{kind}: causes", late.word == "refused"
-                      and len(late.result["causes"]) == 12, late.said)
+            judged = judge_files(self, stl, pes, "--open", "--layout", "after=0A", "-o",
+                                 self.path("out"))
+            self.check(f"{dsc!r}: a pair", (judged.word, judged.result["request"]["open"]),
+                       ("accepted", True))
+            self.must(f"{dsc!r}: report", b"12 subtitles" in self.read("out/one.html"))
+            judged = judge_files(self, stl, pes, "--open")
+            self.check(f"{dsc!r}: in another layout", (judged.word, len(judged.result["causes"])),
+                       ("refused", 12))
