@@ -20,7 +20,7 @@ from .transmissions import ShownSubtitle, join_pes_packets, schedule_pages, writ
 
 LINE = '72 warning at 10:03:30:17 in news.stl until 2027-01-31 by "Ann": her decision #4'
 SUM = "ab" * 32
-# The second subtitle is followed by the third without a pause.
+# TCI and TCO in frames. The third subtitle follows the second without a pause.
 TIMES = [(100, 160), (200, 260), (260, 320), (400, 460), (500, 560)]
 PROGRAMME = [(begin, end, b"Number %d" % number) for number, (begin, end) in enumerate(TIMES, 1)]
 
@@ -47,20 +47,23 @@ NOT_ERASED = replace_subtitles({3: (260, 390, b"Number 3")})
 
 class ParsedWaivers(Case):
     def test_reads_a_waiver(self) -> None:
-        waiver = parse_waiver("file", 7, f"  {LINE}\r")
-        self.check("waiver", waiver, Waiver(72, "10:03:30:17", "news.stl", "2027-01-31", "Ann",
-                                            "her decision #4", 7))
-        for name, line, expected in (
+        self.check("waiver", parse_waiver("file", 7, f"  {LINE}\r"), Waiver(
+            number=72, time="10:03:30:17", file="news.stl", until="2027-01-31", author="Ann",
+            reason="her decision #4", line_number=7))
+
+    def test_reads_the_name_or_checksum_of_the_subtitle_file(self) -> None:
+        for name, line, file in (
                 ("spaces", LINE.replace(" ", "   ").replace("news", "the news"), "the news.stl"),
                 ("a checksum", LINE.replace("news.stl", f"sha256:{SUM}"), f"sha256:{SUM}")):
-            self.check(name, parse_waiver("file", 7, line).file, expected)
-        for line, expected_value in ((LINE, True), (f"# {LINE}", False), ("72 warning", False)):
-            self.check(line, is_waiver(line), expected_value)
+            self.check(name, parse_waiver("file", 7, line).file, file)
+
+    def test_distinguishes_a_waiver_from_other_lines(self) -> None:
+        for line, expected in ((LINE, True), (f"# {LINE}", False), ("72 warning", False)):
+            self.check(line, is_waiver(line), expected)
 
     def test_refuses_a_wrong_waiver(self) -> None:
-        form, number = "line 2: a waiver for one subtitle is a line such as", \
-            "can't be waived for one subtitle"
-        rows = {
+        form = "line 2: a waiver for one subtitle is a line such as"
+        rows = {  # a line, and the message about it
             "no file": (LINE.replace(" in news.stl", ""), form),
             "no day": (LINE.replace(" until 2027-01-31", ""), form),
             "no name": (LINE.replace('"Ann"', '" "'), form),
@@ -75,8 +78,9 @@ class ParsedWaivers(Case):
             "a short checksum": (LINE.replace("news.stl", "sha256:ab"), "ab is not a SHA-256"),
             "a long checksum": (LINE.replace("news.stl", f"sha256:{SUM}0"),
                                 f"{SUM}0 is not a SHA-256"),
-            **{f"fault {item}": (LINE.replace("72", f"{item}"), number) for item in (
-                *range(10, 26), *range(30, 46), *range(60, 64), 74, 76, 79)}}
+            **{f"fault {item}": (LINE.replace("72", f"{item}"),
+                                f"{item} can't be waived for one subtitle")
+               for item in (*range(10, 26), *range(30, 46), *range(60, 64), 74, 76, 79)}}
         for name, (line, message) in rows.items():
             with self.subTest(name), self.assertRaisesRegex(Stop, message):
                 make_severity("", line)
@@ -84,7 +88,9 @@ class ParsedWaivers(Case):
     def test_uses_waivers_for_the_file_up_to_their_day(self) -> None:
         waiver = parse_waiver("", 1, LINE)
         by_sum = waiver._replace(file=f"sha256:{SUM}")
-        key = {(72, ((10 * 60 + 3) * 60 + 30) * 25 + 17)}
+        key = {(72, ((10 * 60 + 3) * 60 + 30) * 25 + 17)}  # the fault number, and the frame
+        # The waiver, the judged file with the checksum `SUM`, the current day, the keys of the
+        # waivers that are used, and the number of those whose last day is over
         rows: dict[str, tuple[Waiver, str, str, set[tuple[int, int]], int]] = {
             "the last day": (waiver, "in/news.stl", "2027-01-31", key, 0),
             "the day after": (waiver, "in/news.stl", "2027-02-01", set(), 1),
@@ -98,24 +104,30 @@ class ParsedWaivers(Case):
 
     def test_a_result_is_judged_again_after_the_day_of_a_waiver(self) -> None:
         request = make_example_request("one.stl", "one.ts")
-        for until, has_ended, day, expected in (
+        # The last day of a waiver, whether it was over when the pair was judged, the current day,
+        # and whether the result is still up to date
+        for until, had_ended, day, expected in (
                 ("2027-01-31", False, "2027-01-31", True),
                 ("2027-01-31", False, "2027-02-01", False),
                 ("2027-01-31", True, "2027-02-01", True)):
             result = make_result(
                 "waived", request=REQUEST.to_json(request), program=PROGRAM._asdict(),
                 files_at_start=describe_inputs(request),
-                waivers=[{"until": until, "ended": has_ended}])
-            self.check(f"{until} {has_ended} {day}", is_current(result, request, PROGRAM, day),
+                waivers=[{"until": until, "ended": had_ended}])
+            self.check(f"{until} {had_ended} {day}", is_current(result, request, PROGRAM, day),
                        expected)
 
 
 class WaivedSubtitles(Case):
-    def test_a_number_of_waived_subtitles_decides_nothing(self) -> None:
-        for waived, expected in (({72}, WAIVED), (set[int](), REFUSED), ({67}, REFUSED)):
-            part = CheckSummary(1, False, 1, 1, {72}, waived_numbers=waived)
+    """A subtitle file `one.stl` with `PROGRAMME`, and recordings that differ from it."""
+
+    def test_a_pair_is_waived_only_if_all_subtitles_with_its_fault_are(self) -> None:
+        # The numbers of faults that only waived subtitles have; the pair has fault 72.
+        for waived, verdict in (({72}, WAIVED), (set[int](), REFUSED), ({67}, REFUSED)):
+            part = CheckSummary(1, fault_count=1, printed_total=1, fault_numbers={72},
+                                waived_numbers=waived)
             decision = decide(Grounds([part], make_severity(), has_clock=True))
-            self.check(f"{waived}", decision.word, expected)
+            self.check(f"{waived}", decision.word, verdict)
 
     def judge(self, sent: Sequence[ShownSubtitle], severity: Sequence[str],
               programme: Sequence[ShownSubtitle] = PROGRAMME) -> dict[str, Any]:
@@ -133,29 +145,34 @@ class WaivedSubtitles(Case):
         write_subtitle_file(self, PROGRAMME)
         checksum = "sha256:" + hashlib.sha256(self.read("one.stl")).hexdigest()
         two, three, four = (make_waiver(72, number) for number in (2, 3, 4))
+        # The transmission, the lines of the severity file, the verdict, and part of its sentence
         rows: dict[str, tuple[list[ShownSubtitle], list[str], str, str]] = {
             "no waiver": (WRONG_TEXTS, [], REFUSED, "2 of 5 subtitles have the wrong text"),
             "one of two": (WRONG_TEXTS, [two], REFUSED, "subtitle 4 at 00:00:16:00 has the"),
             "the other": (WRONG_TEXTS, [four], REFUSED, "subtitle 2 at 00:00:08:00 has the"),
             "both": (WRONG_TEXTS, [two, four], WAIVED, "2 of 5 subtitles have the wrong text"),
-            "by the checksum": (WRONG_TEXTS, [two, make_waiver(72, 4, checksum)], WAIVED, ""),
-            "another file": (WRONG_TEXTS, [two, make_waiver(72, 4, "two.stl")], REFUSED, "4 at"),
+            "by the checksum": (WRONG_TEXTS, [two, make_waiver(72, 4, checksum)], WAIVED, "2 of 5"),
+            "another file": (WRONG_TEXTS, [two, make_waiver(72, 4, "two.stl")], REFUSED,
+                             "subtitle 4 at"),
             "another number": (WRONG_TEXTS, [two, make_waiver(68, 4)], REFUSED, "subtitle 4 at"),
-            "ended": (WRONG_TEXTS, [two, make_waiver(72, 4, until="2026-01-01")], REFUSED, "4 at"),
+            "ended": (WRONG_TEXTS, [two, make_waiver(72, 4, until="2026-01-01")], REFUSED,
+                      "subtitle 4 at"),
             "72 in all": (WRONG_TEXTS, ["72 warning"], WAIVED, "2 of 5 subtitles"),
             "one of two in one fault": (NEITHER_SENT, [two], REFUSED,
                                         'subtitle 3 at 00:00:10:10, "Number 3", was never'),
-            "both of one fault": (NEITHER_SENT, [two, three], WAIVED, ""),
+            "both of one fault": (NEITHER_SENT, [two, three], WAIVED, "were never sent"),
             "early": (EARLY_CUE, [three], REFUSED, "appeared 10 frames early"),
-            "early, and the one before": (EARLY_CUE, [two, three], WAIVED, ""),
+            "early, and the one before": (EARLY_CUE, [two, three], WAIVED, "10 frames early"),
             "not erased": (NOT_ERASED, [three], WAIVED, "was not erased"),
             "a text in the pause after it": (TEXT_IN_PAUSE, [three], REFUSED, "in a pause")}
         for name, (sent, lines, verdict, words) in rows.items():
             result = self.judge(sent, lines)
-            self.check(name, (result["verdict"], words in result["sentence"]), (verdict, True))
+            self.check(f"{name}: verdict", result["verdict"], verdict)
+            self.must(f"{name}: sentence", words in result["sentence"], result["sentence"])
 
     def test_says_which_waiver_waives_nothing(self) -> None:
         two, three, five = (make_waiver(72, number) for number in (2, 3, 5))
+        # The transmission, the lines of the severity file, and the warnings about waivers
         rows: dict[str, tuple[list[ShownSubtitle], list[str], list[str]]] = {
             "all are used": (WRONG_TEXTS, [two], []),
             "a right subtitle": (WRONG_TEXTS, ["", two, five], [
@@ -183,15 +200,17 @@ class WaivedSubtitles(Case):
                    ["right", "waived", "right", "wrong", "right"])
 
     def test_says_how_to_waive_one_subtitle_if_72_is_waived_in_all(self) -> None:
+        # The lines of the severity file, and whether a note gives a waiver for subtitle 2
         rows: list[tuple[list[str], bool]] = [
             (["72 warning"], True), (["others warning"], True), ([], False),
             ([make_waiver(72, 2), make_waiver(72, 4)], False)]
-        for lines, is_told in rows:
+        for lines, is_noted in rows:
             notes = self.judge(WRONG_TEXTS, lines)["notes"]
             self.check(f"{lines}", any("to waive it in one: 72 warning at 00:00:08:00 in one.stl "
-                                       "until" in note for note in notes), is_told)
+                                       "until" in note for note in notes), is_noted)
 
     def test_names_the_subtitle_that_is_not_waived_in_a_file_alone(self) -> None:
+        # Byte 9F is a fault 51.
         stl = write_subtitle_file(self, replace_subtitles({
             2: (200, 260, b"Number \x9f 2"), 4: (400, 460, b"Number \x9f 4")}))
         two, four = make_waiver(51, 2), make_waiver(51, 4)
@@ -205,10 +224,11 @@ class WaivedSubtitles(Case):
             self.check(f"{lines}", words in process.out.decode(), True)
 
     def test_a_refused_subtitle_needs_a_waiver_for_the_unknown_page_too(self) -> None:
+        # Byte 9F is a fault 51, and makes the expected page unknown, which is fault 78.
         programme = replace_subtitles({4: (400, 460, b"Number \x9f 4")})
-        fifty, unknown = make_waiver(51, 4), make_waiver(78, 4)
+        refused, unknown = make_waiver(51, 4), make_waiver(78, 4)
         rows: list[tuple[list[str], str]] = [
-            ([], REFUSED), ([fifty], REFUSED), ([unknown], REFUSED), ([fifty, unknown], WAIVED)]
+            ([], REFUSED), ([refused], REFUSED), ([unknown], REFUSED), ([refused, unknown], WAIVED)]
         for lines, verdict in rows:
             result = self.judge(PROGRAMME, lines, programme)
             self.check(f"{lines}", result["verdict"], verdict)
