@@ -15,7 +15,7 @@ STORY, HELLO = get_example_path("story.stl"), get_example_path("hello.stl")
 ACCENT = get_example_path("accent.stl")
 UNREAD = "none of the recording was read, and --severity makes all faults warnings"
 EVERY_OPTION = ["--every", "40"]  # frames; allows the loss of two page transmissions
-BITS = {33: (6, 0xC0), 37: (DATA - 1, 0x30)}
+BITS = {33: (6, 0xC0), 37: (DATA - 1, 0x30)}  # byte and bits whose damage is this fault
 
 
 def damage_packet(packet: bytes, number: int) -> bytes:
@@ -25,43 +25,43 @@ def damage_packet(packet: bytes, number: int) -> bytes:
 
 
 class UnreadablePackets(ProgrammeCase):
+    """A programme of 20 adjoining subtitles. PES packets 22, 23 and 61 of its transmission are
+    missing: gap markers replace them, and become PES packets 22 and 60."""
+
     due, every, origin = [(60 * at, 60 * at + 60) for at in range(2, 22)], 12, ORIGIN
 
-    def setUp(self) -> None:
-        super().setUp()
-        self.frames = [(decode_pts(item) - ORIGIN) // TICKS for item in self.pes]
+    def judge_with_gaps(self, *args: str) -> JudgedPair:
+        received = [*self.pes[:22], GAP_MARKER, *self.pes[24:61], GAP_MARKER, *self.pes[62:]]
+        return judge_files(self, self.stl, self.write("one.pes", b"".join(received)),
+                           *EVERY_OPTION, "--origin", str(ORIGIN), *args)
 
-    def judge_with_gaps(self, some: list[bytes], *args: str) -> JudgedPair:
-        return judge_files(self, self.stl, self.write("one.pes", b"".join(some)), *EVERY_OPTION,
-                           "--origin", str(ORIGIN), *args)
+    def test_reports_gap_markers_and_trusts_the_frames_between_them(self) -> None:
+        def time(sent: int, frames_earlier: int = 0) -> str:
+            """Return the time of a PES packet of the transmission."""
+            return format_frame((decode_pts(self.pes[sent]) - ORIGIN) // TICKS - frames_earlier)
 
-    def test_all_frames_but_those_around_gap_markers_are_clean(self) -> None:
-        some = [*self.pes[:22], GAP_MARKER, *self.pes[24:61], GAP_MARKER, *self.pes[62:]]
-        judged = self.judge_with_gaps(some)
-        clean = [(0, 21, 1), (24, 60, 1), (62, len(self.pes) - 1, 0)]
-        self.check("clean frames", [(item["part"], item["from"], item["to"])
-                                    for item in judged.result["trusted_frames"]],
-                   [(1, format_frame(self.frames[first]), format_frame(self.frames[last] - less))
-                    for first, last, less in clean])
+        judged = self.judge_with_gaps()
+        self.check("trusted frames", [(item["part"], item["from"], item["to"])
+                                      for item in judged.result["trusted_frames"]],
+                   [(1, time(0), time(21, 1)), (1, time(24), time(60, 1)), (1, time(62), time(-1))])
         self.check("faults", [(item["number"], item["pes"]) for item in judged.result["faults"]],
                    [(45, 22), (45, 60)])
         self.check("losses", [(item["from"], item["to"]) for item in judged.result["losses"]],
-                   [(format_frame(self.frames[before]), format_frame(self.frames[after]))
-                    for before, after in ((21, 24), (60, 62))])
-        advice = [line for line in judged.told if "between" in line or "record" in line]
-        self.check("lines", (len(advice), advice[2]), (
+                   [(time(21), time(24)), (time(60), time(62))])
+        lines = [line for line in judged.told if "between" in line or "record" in line]
+        self.check("lines", (len(lines), lines[2]), (
             3, "record that part again: the missing frames were not checked"))
 
-    def test_waives_gap_markers_only_if_they_are_allowed(self) -> None:
-        self.write("severity", b"45 warning\n")
-        self.write("others", b"others warning\n")
-        some = [*self.pes[:22], GAP_MARKER, *self.pes[24:61], GAP_MARKER, *self.pes[62:]]
-        for option, word in (("--allow-lost", "waived"), ("--severity severity", "waived"),
-                             ("--severity others", "refused"), ("", "refused")):
-            words = [self.path(word) if word[0] != "-" else word for word in option.split()]
-            self.check(option, self.judge_with_gaps(some, *words).word, word)
+    def test_waives_gap_markers_only_if_an_option_names_them(self) -> None:
+        of_45 = self.write("severity", b"45 warning\n")
+        of_others = self.write("others", b"others warning\n")
+        rows: list[tuple[list[str], str]] = [
+            (["--allow-lost"], "waived"), (["--severity", of_45], "waived"),
+            (["--severity", of_others], "refused"), ([], "refused")]
+        for options, verdict in rows:
+            self.check(f"{options}", self.judge_with_gaps(*options).word, verdict)
 
-    def test_is_not_judged_if_nothing_could_be_read(self) -> None:
+    def test_waives_no_pair_of_whose_recording_nothing_was_read(self) -> None:
         unread = b"".join(damage_packet(item, 37)
                           for item in packets(read_example_file("hello.pes")))
         files = {"accent.stl": [ACCENT], "hello.stl unread.pes": [
@@ -76,11 +76,12 @@ class UnreadablePackets(ProgrammeCase):
             self.check(f"{name}: verdict", judged.word, row["verdict"])
             self.check(f"{name}: reason", judged.result["reason"], UNREAD if is_unread else None)
             self.check(f"{name}: printed", judged.told[-1:] == [UNREAD], is_unread)
-            self.check(f"{name}: has a line", judged.result["line"] is None, is_unread)
+            self.check(f"{name}: has no line", judged.result["line"] is None, is_unread)
             self.must(f"{name}: faults", judged.result["faults"])
 
 
-# Pairs and subtitle files, the faults that --severity makes warnings, and the verdict.
+# Files, the faults that --severity makes warnings (`others warning` or `52 warning`), and the
+# verdict. A character of accent.stl is refused with fault 50, and all of unread.pes with fault 37.
 UNREAD_FILES = """
 files                   | severity | verdict
 accent.stl recording.ts | others   | not judged
@@ -90,7 +91,7 @@ accent.stl              | others   | waived
 accent.stl              | one      | refused
 accent.stl recording.ts | one      | refused
 """
-# What was sent, with options of qc, and the sentence about it.
+# What was sent, with options of qc, and the sentence about it. `mild` is a file with `73 warning`.
 SENTENCES = {
     "2-20 late by 7": "Refused: 19 of 20 subtitles appeared 7 frames late (the first at "
     "00:00:08:00, the last at 00:01:20:00).",
@@ -119,16 +120,16 @@ class ProgrammeSentences(StoryCase):
     def test_says_what_is_wrong_with_the_programme(self) -> None:
         mild = self.write("mild", b"73 warning\n")
         for story, sentence in SENTENCES.items():
-            sent, *options = story.split(" --")
-            words = [word for option in options for word in f"--{option}".split()]
+            sent, _, options = story.partition(" --")
             judged = self.tell(sent, "--origin", f"{ORIGIN}", *(
-                mild if word == "mild" else word for word in words))
+                f"--{options}".replace("mild", mild).split() if options else ()))
             self.check(f"{story}: result", judged.sentence, sentence)
-            self.check(f"{story}: output", judged.said[-2][:len(sentence)], sentence)
+            self.check(f"{story}: last line but one", judged.said[-2][:len(sentence)], sentence)
 
 
-# The options for a programme that is sent twice, the verdict, and the frames from the clock of the
-# first airing to that of the judged airing.
+# Options for a programme that is sent twice, the verdict, and by how many frames the clock of the
+# judged airing differs from the first. `first`, `second` and `none` are the PES packets of the
+# first airing, of the second, and none that was sent; 0 is the origin of the first airing.
 AIRINGS = """
 options      | verdict    | frames
              | not judged |
@@ -140,6 +141,8 @@ options      | verdict    | frames
 
 
 class Sentences(StoryCase):
+    """A programme of 20 subtitles with the subtitle numbers 50 to 69."""
+
     due, first = subtitle_times(20), 50
     words = ("--origin", f"{ORIGIN}")
 
@@ -157,18 +160,21 @@ class Sentences(StoryCase):
         self.check("cause of the fault", fault["cause"],
                    {name: value for name, value in cause.items() if name != "part"})
 
-    def test_judges_no_pages_before_the_beginning_of_the_clock(self) -> None:
+    def test_judges_no_pes_packets_before_frame_0(self) -> None:
         pages = [(ORIGIN - at * TICKS, self.sent[-1][1]) for at in (200, 150, 100, 50)]
         judged = self.judge([*pages, *self.change("3 late by 4")])
         self.check_answers("four pages", judged, {
             "causes": "3 late by 4 frames", "pes": f"4-{len(self.sent) + 3}"})
 
     def test_a_given_clock_replaces_an_unclear_estimate(self) -> None:
-        self.schedule(self.write("two.stl", make_random_stl(7)[0]), "two.pes")
-        three = write_programme(self, subtitle_times(3), name="three.stl")
-        for clock, word in (("", "not judged"), (f"--origin {679_065 * TICKS}", "refused")):
-            judged = judge_files(self, three, self.path("two.pes"), *clock.split())
-            self.check(clock, judged.word, word)
+        random_stl, cues = make_random_stl(seed=7)
+        self.schedule(self.write("two.stl", random_stl), "two.pes")
+        times = subtitle_times(3)
+        three = write_programme(self, times, name="three.stl")
+        origin = (cues[0] - times[0][0]) * TICKS  # the first subtitles of both files coincide
+        for clock, word in (((), "not judged"), (("--origin", f"{origin}"), "refused")):
+            judged = judge_files(self, three, self.path("two.pes"), *clock)
+            self.check(f"{clock}", judged.word, word)
 
     def test_judges_a_programme_that_is_sent_twice_only_if_one_airing_is_named(self) -> None:
         count = len(self.sent)
@@ -190,7 +196,8 @@ class Sentences(StoryCase):
                 self.check(f"{name}: options of the call", {*words} <= {*advice[0]}, True)
 
 
-# The options --page, --option and --complete, and the verdict of the pair.
+# The options --page, --option and --complete, and the verdict of the pair. The page of the pair
+# `german` is 1A9; in the pair `without an end`, no header follows that ends the last page.
 OPTIONS = """
 pair             | options                     | verdict
 german           | --page 1a9 --option german  | accepted
