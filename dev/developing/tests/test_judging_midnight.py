@@ -13,7 +13,7 @@ from subtitles.common.times import (
     CLOCK, FRAMES_OF_A_DAY, TICKS, begin_day_at, compute_origin, decode_time, format_frame,
     format_origin, format_program_time, parse_frame, restore_times)
 from subtitles.formats.midnight import find_day_begin, move_times
-from subtitles.formats.stl import TCP_PLACE, get_subtitle_times, read_stored_subtitles
+from subtitles.formats.stl import GSI, TCP_PLACE, get_subtitle_times, read_stored_subtitles
 from .air import AirCase, DAY, LENGTH
 from .bench import Case
 from .judged import JudgedPair, judge_files
@@ -22,13 +22,12 @@ from .transmissions import (
     CLOSING, HEADER, Change, SentPes, join_pes_packets, make_numbered_row, packets, schedule_pages,
     write_subtitle_file)
 
-NOON = FRAMES_OF_A_DAY // 2
-MIDNIGHT = FRAMES_OF_A_DAY
+NOON, MIDNIGHT = FRAMES_OF_A_DAY // 2, FRAMES_OF_A_DAY  # in frames
 
 
 def make_stl(*times: str, first: bytes = b"00000000") -> bytes:
-    """Return a file with subtitles from each TCI to its TCO, such as `22:00:00:00 22:00:02:00`.
-    `first` is the TCP."""
+    """Return a file with a subtitle for each TCI and TCO, such as `22:00:00:00 22:00:02:00`, and
+    the TCP `first`."""
     codes = [text.split() for text in times]
     blocks = [make_subtitle_blocks(number, 0, 0, 22, 2, b"Number %d" % number)
               for number in range(1, len(codes) + 1)]
@@ -40,7 +39,8 @@ def make_stl(*times: str, first: bytes = b"00000000") -> bytes:
 
 
 EVENING, NIGHT = "22:00:00:00 22:00:02:00", "01:00:00:00 01:00:02:00"
-# Subtitles, and the time at which their day begins
+# Subtitles, and the time at which their day begins: if they run over midnight, noon or another time
+# at which no subtitle is shown
 DAYS: Mapping[str, tuple[Sequence[str], str]] = {
     "no subtitle": ([], "00:00:00:00"),
     "a pause at midnight": ([EVENING, NIGHT], "12:00:00:00"),
@@ -73,19 +73,21 @@ class Times(Case):
         for name, (times, expected) in DAYS.items():
             self.check(name, format_frame(find_day_begin(make_stl(*times))), expected)
 
-    def test_moves_all_valid_times(self) -> None:
+    def test_moves_all_valid_times_and_the_tcp(self) -> None:
         data = make_stl(EVENING, "23:59:58:00 00:00:02:10", "24:00:00:00 01:00:60:00",
                         first=b"12000005")
         moved = move_times(data, NOON)
-        self.check("times", moved[1024:], make_stl(
-            "10:00:00:00 10:00:02:00", "11:59:58:00 12:00:02:10", "24:00:00:00 01:00:60:00")[1024:])
-        self.check("TCP", (data[TCP_PLACE], moved[TCP_PLACE]), (b"12000005", b"00000005"))
-        self.check("back", move_times(moved, NOON), data)
-        title = "00:00:00:00 00:00:01:00"
-        self.check("a title stays", move_times(make_stl(title, EVENING, title), NOON, True)[1024:],
-                   make_stl(title, "10:00:00:00 10:00:02:00", "12:00:00:00 12:00:01:00")[1024:])
+        self.check("moved by 12 hours", moved, make_stl(
+            "10:00:00:00 10:00:02:00", "11:59:58:00 12:00:02:10", "24:00:00:00 01:00:60:00",
+            first=b"00000005"))
+        self.check("moved back", move_times(moved, NOON), data)
 
-    def test_prints_the_times_of_the_subtitle_file(self) -> None:
+    def test_a_title_at_the_beginning_keeps_its_time(self) -> None:
+        title = "00:00:00:00 00:00:01:00"
+        self.check("times", move_times(make_stl(title, EVENING, title), NOON, True)[GSI:],
+                   make_stl(title, "10:00:00:00 10:00:02:00", "12:00:00:00 12:00:01:00")[GSI:])
+
+    def test_prints_the_times_of_a_subtitle_file_whose_day_begins_at_noon(self) -> None:
         with begin_day_at(NOON):
             for frame, time in ((0, "12:00:00:00"), (NOON - 1, "23:59:59:24"),
                                 (NOON, "00:00:00:00"), (MIDNIGHT - 1, "11:59:59:24")):
@@ -102,7 +104,8 @@ class Times(Case):
 
 
 class Programme(NamedTuple):
-    """Times of subtitles in frames from midnight, so that those of the evening are negative."""
+    """Times of subtitles in frames from midnight, so that those of the evening are negative, a
+    change of the transmission, and options of qc."""
 
     times: Sequence[tuple[int, int]]
     change: Callable[[SentPes], SentPes] = list
@@ -110,19 +113,19 @@ class Programme(NamedTuple):
 
 
 TITLE = 0, 25  # a subtitle that is not sent
-OVER = [(-200, -150), (-50, 30), (60, 100), (160, 200)]
-PAUSE = [(-200, -150), (-120, -60), (60, 100), (160, 200)]
+OVER = [(-200, -150), (-50, 30), (60, 100), (160, 200)]  # the second is shown at midnight
+PAUSE = [(-200, -150), (-120, -60), (60, 100), (160, 200)]  # none is shown at midnight
 WRONG = [HEADER, make_numbered_row(22, b"Wrong"), CLOSING]
 
 
 def send_at(frame: int, packets: list[bytes]) -> Change:
-    """Return a function that replaces the packets sent in a frame."""
+    """Return a function that replaces the packets sent in a frame, counted from midnight."""
     return lambda sent: sorted([item for item in sent if item[0] != TICKS * (MIDNIGHT + frame)]
                                + [(TICKS * (MIDNIGHT + frame), packets)])
 
 
 def delete_between(first: int, last: int) -> Change:
-    """Return a function that deletes the packets sent between two frames."""
+    """Return a function that deletes the packets sent between two frames, without these frames."""
     return lambda sent: [(pts, packets) for pts, packets in sent
                          if not first < pts // TICKS - MIDNIGHT < last]
 
@@ -187,6 +190,7 @@ class Programmes(MidnightCase):
     def test_a_waiver_names_the_time_and_the_checksum_of_the_file(self) -> None:
         late = PROGRAMMES["late"][0]
         checksum = self.judge(late).result["inputs"]["stl"]["sha256"]
+        # `check` reads a copy of the file in which the TCI is 12:00:02:10.
         for name, time, word in ((f"sha256:{checksum}", "00:00:02:10", "waived"),
                                  ("film.stl", "00:00:02:10", "waived"),
                                  ("film.stl", "12:00:02:10", "refused")):
@@ -195,7 +199,7 @@ class Programmes(MidnightCase):
             judged = self.judge(late._replace(arguments=("--severity", path)))
             self.check(f"{name} {time}", judged.result["verdict"], word)
 
-    def test_judges_into_the_folder_of_the_files_again(self) -> None:
+    def test_judges_into_the_folder_of_the_files_twice(self) -> None:
         stl, _ = self.write_programme(Programme(OVER))
         os.rename(stl, self.path("late film.v2.stl"))
         os.rename(self.path("film.pes"), self.path("late film.v2.pes"))
@@ -206,8 +210,8 @@ class Programmes(MidnightCase):
                              "--relative")
             self.check(name, (call.status, call.out.decode().splitlines()[-1]),
                        (0, "1 pair: 1 relative"))
-            self.must(f"{name}: the copy with other times, which is no input of the next call",
-                      os.path.exists(self.path("late film.v2.midnight.copy")))
+            # The copy with other times is no input of the next call.
+            self.must(f"{name}: copy", os.path.exists(self.path("late film.v2.midnight.copy")))
 
     def test_prints_a_check_command_that_a_user_can_run(self) -> None:
         judged = self.judge(Programme(OVER))
@@ -236,18 +240,20 @@ class Programmes(MidnightCase):
 
 
 class OnAir(AirCase, MidnightCase):
+    """A feed of five segments of ten seconds, in which midnight is 28 seconds after the start."""
+
     def test_judges_a_programme_when_it_has_ended(self) -> None:
         self.write_schedule(f"2026-12-01T08:00:20Z film.stl --no-complete --origin {ORIGIN}")
         for name in ("a subtitle over midnight", "late"):
             programme, sentence = PROGRAMMES[name]
             self.write_programme(programme)
             later = make_pes_packet(TICKS * 225, [HEADER, CLOSING])  # after the last subtitle
-            stream = multiplex_frames([*packets(self.read("film.pes")), later],
-                                      CLOCK - TICKS * 700, 1250, rounds=1)
+            stream = multiplex_frames([*packets(self.read("film.pes")), later], begin=CLOCK -
+                                      TICKS * 700, count=5 * LENGTH * 25, rounds=1)
             self.delete_all("segments", "out")
             judge = Judge(self.args("-p", self.bench.program), "tools/qc")
-            for now in range(0, 50, LENGTH):
-                self.put_segment(now, now + LENGTH, b"".join(itertools.islice(stream, 250)))
+            for now in range(0, 5 * LENGTH, LENGTH):
+                self.put_segment(now, now + LENGTH, b"".join(itertools.islice(stream, LENGTH * 25)))
                 judge.look(DAY + now + LENGTH)
             self.check(name, self.result("20261201T080020Z-film")["sentence"][:len(sentence)],
                        sentence)
