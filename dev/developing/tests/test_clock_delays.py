@@ -1,16 +1,19 @@
 """Test delays, breaks and repeated programmes, and the clock derived from the first picture."""
 from __future__ import annotations
 
+import itertools
+import re
 import shutil
 import subprocess
 
 from developing.stl import make_box_line
 from subtitles.common.times import CLOCK, TICKS, format_frame
+from subtitles.formats.stl import TCP_PLACE
 from .bench import Case, get_example_path, read_example_file
 from .judged import JudgedPair, ProgrammeCase, judge_files
 from .streams import H_264, HEVC, MPEG_2, add_pictures
 from .transmissions import (
-    write_pipe, make_two_parts, join_pes_packets, make_delay, replace_pts, write_programme,
+    write_pipe, make_two_parts, join_pes_packets, make_delay, packets, replace_pts, write_programme,
     schedule_pages)
 from .test_cli_pairs import TS, qc, split_output_lines
 
@@ -23,86 +26,86 @@ FIRST_PTS, START_TIME = (BEGIN - START_OFFSET) * TICKS, format_frame(BEGIN - STA
 
 
 class Delays(ProgrammeCase):
+    """A programme of 20 subtitles with a pause after each. The PTS of frame 0 is 0."""
+
     due = [(FIRST_TCI + DISTANCE * at, FIRST_TCI + DISTANCE * at + DURATION) for at in range(20)]
     words = WORDS
 
     def test_does_not_report_a_delay_if_all_received_cues_agree(self) -> None:
-        every = self.write("all.pes", b"")
-        process = self.call([self.bench.program, "schedule", STORY, every, "--every", "25"])
-        self.must("made", process.status == 0, process)
-        judged_pair = judge_files(self, STORY,
-                                  self.write("cut.pes", self.read("all.pes")[1288:2024]),
-                                  "--origin", "0")
-        self.must("not late", "clock: the subtitles match --origin 0" in judged_pair.said
-                  and not any(
-            "late" in line for line in judged_pair.said if not line.startswith("refused 74 Late"))
-                  and
-            judged_pair.result["parts"][0]["clock"]["delay_frames"] in (0, None), judged_pair.said)
+        pes = packets(self.read(self.schedule(STORY, "all.pes", "--every", "25")))
+        cut = self.write("cut.pes", b"".join(pes[7:11]))
+        judged = judge_files(self, STORY, cut, "--origin", "0")
+        self.must("clock", "clock: the subtitles match --origin 0" in judged.said, judged.said)
+        self.check("lines about a delay", [
+            line for line in judged.said if "late" in line
+            and not line.startswith("refused 74 Late")], [])
+        self.must("delay", judged.result["parts"][0]["clock"]["delay_frames"] in (0, None))
 
-    def test_judges_short_breaks_by_two_calls(self) -> None:
+    def test_judges_both_sides_of_a_short_break_by_two_calls(self) -> None:
         middle = format_frame(self.due[10][0])
-        for by in (124, 25):
-            sent = make_delay(by, self.due[10][0] * TICKS)(self.sent)
+        for length in (124, 25):  # in frames
+            sent = make_delay(length, self.due[10][0] * TICKS)(self.sent)
             for words in (["--to", middle], ["--from", middle], ["--to", middle, "--origin", "0"]):
-                result = self.judge(sent, *words)
-                self.must(f"{by} {words}", result.word == "accepted" and
-                          result.verdict.subtitle_count == 10, result.said)
-            wrong = make_delay(1, self.due[15][0] * TICKS)(sent)
-            words = [self.judge(wrong, *way, middle).word for way in (["--to"], ["--from"])]
-            self.check(f"{by}: late", words, ["accepted", "refused"])
+                judged = self.judge(sent, *words)
+                self.check(f"{length} {words}", (judged.word, judged.verdict.subtitle_count),
+                           ("accepted", 10))
+            late = make_delay(1, self.due[15][0] * TICKS)(sent)  # a frame from subtitle 16 on
+            self.check(f"{length}: a delay after the break", [
+                self.judge(late, option, middle).word for option in ("--to", "--from")],
+                ["accepted", "refused"])
 
     def test_judges_adjoining_parts(self) -> None:
-        frames = [*self.due[:9], (self.due[9][0], self.due[10][0]), *self.due[10:]]
-        stl = write_programme(self, frames)
-        for first, second in ((0, 4500 * TICKS), (3_000_000_000, 77_000)):
-            sent = [(pts + origin, packets) for some_frames, number, origin in (
-                        (frames[:10], 1, first), (frames[10:], 11, second))
-                    for pts, packets in schedule_pages(self, write_programme(
-                        self, some_frames, first=number, name="sent.stl"))]
+        # Subtitle 10 lasts until subtitle 11 begins, and there the PTS go on from another origin.
+        times = [*self.due[:9], (self.due[9][0], self.due[10][0]), *self.due[10:]]
+        stl = write_programme(self, times)
+        for origins in ((0, 4500 * TICKS), (3_000_000_000, 77_000)):
+            sent = [(pts + origin, some) for half, number, origin in zip(
+                (times[:10], times[10:]), (1, 11), origins) for pts, some in schedule_pages(
+                    self, write_programme(self, half, first=number, name="sent.stl"))]
             path = self.write("one.pes", join_pes_packets(sent))
-            for given in (False, True):
-                words = ["--origin", str(first)] * given
-                sources = ["given" if given else "recording", "recording"]
-                judged_pair = judge_files(self, stl, path, *WORDS, "--breaks", "1", *words)
-                self.must(f"{second} {words}",
-                          judged_pair.parts("from", "to", "origin", "verdict") == [
-                    (format_frame(frames[0][0]), format_frame(frames[9][1]), first, "accepted"),
-                    (format_frame(frames[10][0]), format_frame(frames[19][1]), second, "accepted")],
-                          judged_pair.said)
-                self.must(f"{second} {words}: clocks", [part["clock"]["source"] for part in
-                                                        judged_pair.result["parts"]] == sources)
-            judged_pair = judge_files(self, stl, path, *WORDS)
-            self.must(f"{second}: none is said", judged_pair.word == "refused" and
-                      ("where the PTS go back" in judged_pair.told[0]) == (second < first),
-                      judged_pair.told)
+            for source in ("recording", "given"):
+                options = ["--origin", f"{origins[0]}"] * (source == "given")
+                judged = judge_files(self, stl, path, *WORDS, "--breaks", "1", *options)
+                self.check(f"{origins} {source}", judged.parts("from", "to", "origin", "verdict"), [
+                    (format_frame(half[0][0]), format_frame(half[-1][1]), origin, "accepted")
+                    for half, origin in zip((times[:10], times[10:]), origins)])
+                self.check(f"{origins} {source}: sources of the clocks", [
+                    clock["source"] for clock, in judged.parts("clock")], [source, "recording"])
+            judged = judge_files(self, stl, path, *WORDS)
+            self.check(f"{origins}: without --breaks", judged.word, "refused")
+            self.check(f"{origins}: says that the PTS go back",
+                       "where the PTS go back" in judged.told[0], origins[1] < origins[0])
 
 
 class FirstPictures(Case):
+    """A recording that begins 25 frames before the first TCI. The PTS of frame 0 is 0."""
+
     def judge(self, data: bytes, *args: str, stl: str = STORY) -> JudgedPair:
         return judge_files(self, stl, self.write("one.ts", data), *args)
 
     def test_uses_the_clock_of_the_first_picture(self) -> None:
-        for kind in (MPEG_2, H_264, HEVC):
-            for shift in (0, CLOCK - (BEGIN - 40) * TICKS):
-                pes = replace_pts(read_example_file("story.pes"), lambda _, pts: pts + shift)
-                first = (FIRST_PTS + shift) % CLOCK
-                data = add_pictures(pes, first, kind, leading=0 if kind == H_264 else 2).data
-                judged_pair = self.judge(data, "--start", START_TIME)
-                self.must(f"{kind} {shift}", judged_pair.word == "accepted" and any(
-                    line.startswith("the first picture (") and f"has PTS {first}; 3 earlier PES "
-                    "packets of video were skipped" in line for line in judged_pair.said),
-                          judged_pair.said)
-                judged_pair = self.judge(data, "--start", format_frame(BEGIN - START_OFFSET - 2))
-                clock = judged_pair.result["parts"][0]["clock"]
-                self.must(f"{kind} {shift}: late", judged_pair.word == "refused" and clock == {
-                    "origin": (shift + 2 * TICKS) % CLOCK, "source": "start", "delay_frames": -2},
-                          clock)
+        # The second shift makes the PTS wrap 40 frames before the first TCI.
+        for kind, shift in itertools.product((MPEG_2, H_264, HEVC),
+                                             (0, CLOCK - (BEGIN - 40) * TICKS)):
+            pes = replace_pts(read_example_file("story.pes"), lambda _, pts: pts + shift)
+            first = (FIRST_PTS + shift) % CLOCK
+            data = add_pictures(pes, first, kind, leading=0 if kind == H_264 else 2).data
+            judged = self.judge(data, "--start", START_TIME)
+            self.check(f"{kind} {shift}", judged.word, "accepted")
+            self.must(f"{kind} {shift}: line", any(
+                line.startswith("the first picture (") and f"has PTS {first}; 3 earlier PES "
+                "packets of video were skipped" in line for line in judged.said), judged.said)
+            judged = self.judge(data, "--start", format_frame(BEGIN - START_OFFSET - 2))
+            self.check(f"{kind} {shift}, --start is 2 frames early",
+                       (judged.word, judged.result["parts"][0]["clock"]), (
+                           "refused", {"origin": (shift + 2 * TICKS) % CLOCK, "source": "start",
+                                       "delay_frames": -2}))
 
     def test_reports_a_start_that_is_off_by_hours(self) -> None:
         data = add_pictures(read_example_file("story.pes"), FIRST_PTS).data
         ends = f"the beginning of the recording by its subtitles, {START_TIME}. TIME is on the " \
             "subtitle file's own clock, not the time of day"
-        for words, reported in (
+        for options, line in (
                 (("--start", "10:00:00:00"), "--start 10:00:00:00 is 10 h 14 min 59 s earlier than "
                  f"{ends}"),
                 (("--start", "00:00:00:01"), "--start 00:00:00:01 is 20 h 14 min 58 s 24 frames "
@@ -111,38 +114,41 @@ class FirstPictures(Case):
                  f"{ends}"),
                 (("--origin", f"{90_000 * 3600}"), "with --origin 324000000, all subtitles would "
                  "be 1 h early, so the recording contains no subtitle at its expected time")):
-            result = self.judge(data, *words)
-            self.must(f"{words}", result.word == "not judged" and result.told == [reported],
-                      result.told)
+            judged = self.judge(data, *options)
+            self.check(f"{options}", (judged.word, judged.told), ("not judged", [line]))
 
     def test_uses_the_first_picture_of_a_pipe(self) -> None:
         data = add_pictures(read_example_file("story.pes"), FIRST_PTS).data
-        judged_pair = judge_files(self, STORY, write_pipe(self, data), "--start", START_TIME)
-        self.must("a feed", judged_pair.word == "accepted", judged_pair.said)
+        judged = judge_files(self, STORY, write_pipe(self, data), "--start", START_TIME)
+        self.check("verdict", judged.word, "accepted")
+
+    def test_only_the_first_part_uses_the_clock_of_the_first_picture(self) -> None:
         stl, pes = make_two_parts(self)
-        data = add_pictures(pes, 1000 + (900_000 - START_OFFSET) * TICKS).data
-        judged_pair = self.judge(data, "--start", format_frame(900_000 - START_OFFSET), "--breaks",
-                                 "1", stl=stl)
-        self.must("a break", judged_pair.word == "accepted" and [
-            (part["clock"]["source"], part["clock"]["origin"])
-            for part in judged_pair.result["parts"]] ==
-                  [("start", 1000), ("recording", 1000 + 4500 * TICKS)], judged_pair.said)
+        start = FIRST_TCI - START_OFFSET
+        judged = self.judge(add_pictures(pes, 1000 + start * TICKS).data, "--start",
+                            format_frame(start), "--breaks", "1", stl=stl)
+        self.check("verdict", judged.word, "accepted")
+        self.check("clocks", [(clock["source"], clock["origin"])
+                              for clock, in judged.parts("clock")],
+                   [("start", 1000), ("recording", 1000 + 4500 * TICKS)])
 
     def test_reads_the_tcp_of_the_gsi_block(self) -> None:
         data = add_pictures(read_example_file("story.pes"), FIRST_PTS).data
         stl = bytearray(read_example_file("story.stl"))
-        for code, words in (
+        # The TCP, and part of the reason why the pair is not judged, if it is not accepted
+        for tcp, reason in (
                 (START_TIME.replace(":", ""), ""),
                 ("20150100", "begins at 20:15:00:00, before its TCP 20:15:01:00"),
                 ("20000000", "ends at 20:15:09:00, but by the TCP the recording ends at"),
-                *((code, "is not a time: ") for code in ("        ", "2015000a", "25000000",
-                                                         "20150025"))):
-            stl[256:264] = code.encode()
-            judged_pair = self.judge(data, "--start", "tcp", stl=self.write("two.stl", stl))
-            self.must(code, judged_pair.word == ("not judged" if words else "accepted") and
-                      words in "".join(judged_pair.told[:1]), judged_pair.said)
-            self.must(f"{code}: clock", words or
-                      judged_pair.result["parts"][0]["clock"]["source"] == "tcp")
+                *((tcp, "is not a time: ") for tcp in ("        ", "2015000a", "25000000",
+                                                       "20150025"))):
+            stl[TCP_PLACE] = tcp.encode()
+            judged = self.judge(data, "--start", "tcp", stl=self.write("two.stl", stl))
+            self.check(f"{tcp}: verdict", judged.word, "not judged" if reason else "accepted")
+            if reason:
+                self.must(f"{tcp}: reason", reason in judged.told[0], judged.told)
+            else:
+                self.check("clock", judged.result["parts"][0]["clock"]["source"], "tcp")
 
 
 SECONDS = 8  # duration of the streams made by ffmpeg
@@ -158,7 +164,7 @@ ENCODERS = {"mpeg2video": ["-bf", "2", "-g", "15"],
 
 
 def compare_with_ffprobe(case: Case, name: str, stl: str, data: bytes, is_closed: bool) -> None:
-    """Compare the PTS of the first picture of a stream with the output of ffprobe.
+    """Check that qc names the first picture of a stream, and its PTS, as ffprobe does.
 
     In an open group, this is the PTS of the first key frame. Otherwise it is the smallest PTS in
     the group of this frame.
@@ -177,8 +183,8 @@ def compare_with_ffprobe(case: Case, name: str, stl: str, data: bytes, is_closed
                  if line.startswith("the first picture")), "")
     case.must(f"{name}: its PTS", f" has PTS {first}" in line,
               (line, group, process.told))
-    skipped = f"; {keys[0]} earlier PES packet" if keys[0] else ""
-    case.must(f"{name}: skipped", skipped in line, (line, keys))
+    case.check(f"{name}: skipped", re.findall(r"; (\d+) earlier PES packet", line),
+               [f"{keys[0]}"] * (keys[0] > 0))
     if is_closed:
         shown = [int(row[1]) for row in read_ffprobe_rows(case, path, "frame=key_frame,pts")
                  if row[0] == "1"]
