@@ -34,23 +34,22 @@ def make_even_times(count: int, step: int, lasts: int, text: bytes = b"Number %d
 
 class Origins(Case):
     def stl(self, times: Sequence[ShownSubtitle], name: str = "one.stl") -> str:
-        return write_subtitle_file(self, [(begin, end, make_box_line(text)) for begin, end,
-                                          text in times],
-                                   name, 0, 20)
+        return write_subtitle_file(self, [(begin, end, make_box_line(text))
+                                          for begin, end, text in times], name, first=0, row=20)
 
     def find(self, stl: str, pes: Sequence[bytes], *args: str) -> OriginEstimate:
+        """Estimate the origin from a subtitle file and PES packets, with options of qc."""
         request = make_example_request(stl, "one.pes", *args)
-        return estimate_origin(OriginSearch(stl, "one.pes", request.page, request.option,
-                                            request.origin,
-                                            request.within,
-                                            request.breaks, request.pes),
-                               survey_packets(self, b"".join(pes), request.page))
+        search = OriginSearch(stl, "one.pes", request.page, request.option, request.origin,
+                              request.within, request.breaks, request.pes)
+        return estimate_origin(search, survey_packets(self, b"".join(pes), request.page))
 
     def test_selects_subtitles_by_time_and_number(self) -> None:
         stl = self.stl([(0, 50, b"a"), (60, 60, b"b"), (100, 150, b"c"), (200, 300, b"d")])
+        # The frames in which subtitles begin, the positions of skipped subtitles, and their TCIs
         self.check_rows(lambda between, skipped: [
             item.begin for item in read_subtitles_between(stl, "english", between, skipped)], {
-            "all that last": ((ALL_DAY, ()), [0, 100, 200]),
+            "all that last a frame or more": ((ALL_DAY, ()), [0, 100, 200]),
             "up to a TCI": ((FrameRange(0, 100), ()), [0]),
             "without the first": ((ALL_DAY, (1,)), [100, 200]),
             "up to after a TCI": ((FrameRange(100, 201), ()), [100, 200]),
@@ -58,40 +57,45 @@ class Origins(Case):
             "without the last two": ((ALL_DAY, (3, 4)), [0])})
 
     def test_distinguishes_subtitles_by_text_row_and_justification(self) -> None:
-        looks = [item[2:] for row, justify, text in (
-            (20, 2, b"a"), (22, 2, b"a"), (20, 1, b"a"), (20, 2, b"b"), (20, 2, b"a"))
-            for item in read_subtitles_between(write_subtitle_file(
-                self, [(0, 9, make_box_line(text))], "look.stl", 0, row, justify),
-                "english", ALL_DAY, ())]
-        self.check("different looks", len({*looks}), 4)
-        self.check("equal looks", looks[0], looks[4])
-        self.check("letters", [letters for _, letters in looks], [b"a", b"a", b"a", b"b", b"a"])
+        def look(text: bytes, row: int = 20, justify: int = 2) -> Sequence[object]:
+            stl = write_subtitle_file(self, [(0, 9, make_box_line(text))], "look.stl", 0, row,
+                                      justify)
+            return read_subtitles_between(stl, "english", ALL_DAY, ())[0].look, text
+
+        self.check("different looks", len({look(b"a"), look(b"a", row=22), look(b"a", justify=1),
+                                           look(b"b")}), 4)
+        self.check("equal looks", look(b"a"), look(b"a"))
 
     def test_reads_characters_by_the_national_option(self) -> None:
-        stl = self.stl([(0, 9, b"\xc8a")])
-        letters = {option: read_subtitles_between(stl, option, ALL_DAY, ())[0].letters
-                   for option in ("german", "swedish", "english")}
-        self.check("with an a umlaut", (letters["german"], letters["swedish"]), (b"{", b"{"))
-        self.must("without one", letters["english"] != b"{", letters)
+        stl = self.stl([(0, 9, b"\xc8a")])  # an a umlaut, which English lacks
+        for option, has_umlaut in (("german", True), ("swedish", True), ("english", False)):
+            letters = read_subtitles_between(stl, option, ALL_DAY, ())[0].letters
+            self.check(option, letters == b"{", has_umlaut)
 
     def test_reports_that_no_cue_agrees(self) -> None:
         pes = [*self.transmission(5000), make_pes_packet(CLOCK // 2, [])]
         last = len(pes) - 1
-        rows: list[tuple[list[bytes], list[str], str]] = [
-            (pes, ["--pes", f"{last}-{last}"], "no cue matches at any origin"),
-            ([b"\0\0\1\xbd\0\5abcde"], [], "none of 1 PES packet in one.pes has a PTS: they "
-             "are refused with fault 34"),
-            ([], [], "none of 0 PES packets in one.pes has a PTS: they are refused with fault 34")]
-        for some, words, line in rows:
-            result = self.find(self.write_own_stl(), some, *words)
-            self.must(line, (result.status, result.lines) == (1, [line]), result)
-        for data in (pes[0][:-1], b"\0\0\1\xbd"):
+        rows: dict[str, tuple[list[bytes], list[str], str]] = {
+            "only the last PES packet": (pes, ["--pes", f"{last}-{last}"],
+                                         "no cue matches at any origin"),
+            "no PTS": ([b"\0\0\1\xbd\0\5abcde"], [], "none of 1 PES packet in one.pes has a PTS: "
+                       "they are refused with fault 34"),
+            "no PES packet": ([], [], "none of 0 PES packets in one.pes has a PTS: they are "
+                              "refused with fault 34")}
+        for name, (sent, options, line) in rows.items():
+            result = self.find(self.write_own_stl(), sent, *options)
+            self.check(name, (result.status, result.lines), (1, [line]))
+
+    def test_refuses_an_incomplete_pes_packet(self) -> None:
+        for data in (self.transmission(5000)[0][:-1], b"\0\0\1\xbd"):
             with self.assertRaisesRegex(Stop, "^one.pes: PES packet 0 is incomplete$"):
                 self.find(self.write_own_stl(), [data])
+
+    def test_refuses_a_file_all_of_whose_subtitles_are_skipped(self) -> None:
         with self.assertRaisesRegex(Stop, "has no subtitle that begins and ends within a day$"):
             read_subtitles_between(self.write_own_stl(), "english", ALL_DAY, range(COUNT + 1))
 
-    def test_uses_the_origin_of_late_rows(self) -> None:
+    def test_uses_the_origin_of_rows_that_are_a_frame_late(self) -> None:
         for count in (1, 2, 3, 20):
             stl = self.stl(make_even_times(count, 100, 60))
             pes_packets = []
@@ -99,38 +103,49 @@ class Origins(Case):
                 header, *rest = get_teletext_packets(get_data_field(item))
                 pes_packets.append(make_pes_packet(decode_pts(item), [header]))
                 pes_packets += [make_pes_packet(decode_pts(item) + TICKS, rest)] * (len(rest) > 1)
-            for some, which in ((pes_packets, "all"),
-                                (pes_packets[:7] + pes_packets[8:], "19 of 20"))[:count // 10 + 1]:
+            sent = {"all": pes_packets}
+            if count == 20:
+                sent["19 of 20"] = pes_packets[:7] + pes_packets[8:]  # without an erased page
+            for share, some in sent.items():
                 result = self.find(stl, some)
-                self.must(f"{count} {which}", result.printed == [f"--origin {TICKS}"] and
-                          f"{which} out-cues are 1 frame early compared with the in-cues"
-                          in result.lines, result)
+                self.check(f"{count} {share}", result.printed, [f"--origin {TICKS}"])
+                self.must(f"{count} {share}: line", f"{share} out-cues are 1 frame early compared "
+                          "with the in-cues" in result.lines, result.lines)
 
-    def test_reports_an_ambiguous_origin_of_few_cues(self) -> None:
-        item = self.stl([(100, 150, b"Own")])
+    def test_reports_an_ambiguous_origin_of_a_single_subtitle(self) -> None:
+        stl = self.stl([(100, 150, b"Own")])
+        # The texts that are sent, 200 frames apart, and the origin in frames if it is clear
         rows: dict[str, tuple[list[bytes], list[int]]] = {
             "another text": ([b"Other"], [0]), "two other texts": ([b"Other", b"Another"], []),
             "the text, then another": ([b"Own", b"Other"], [0]),
-            "another, then the text": ([b"Other", b"Own"], [200 * TICKS]),
+            "another, then the text": ([b"Other", b"Own"], [200]),
             "the text twice": ([b"Own", b"Own"], [])}
         for name, (texts, origins) in rows.items():
-            pes = schedule_pes(self, self.stl([(200 * at + 100, 200 * at + 150, text)
-                                               for at, text in enumerate(texts)], "sent.stl"))
-            result = self.find(item, pes)
-            self.check(f"{name}: origin", [part.origin for part in result.parts], origins)
+            result = self.find(stl, schedule_pes(self, self.stl(
+                [(200 * at + 100, 200 * at + 150, text) for at, text in enumerate(texts)],
+                "sent.stl")))
+            self.check(f"{name}: origin", [part.origin for part in result.parts],
+                       [TICKS * frame for frame in origins])
             self.check(f"{name}: ambiguous", any("ambiguous" in line for line in result.lines),
                        not origins)
+
+    def test_a_text_that_is_sent_once_is_enough_but_no_erased_page(self) -> None:
+        stl = self.stl([(100, 150, b"Own")])
         pes = schedule_pes(self, self.stl([(100, 150, b"Other"), (300, 350, b"Own")], "sent.stl"))
-        for some, printed in ((pes[2:3], [f"--origin {200 * TICKS}"]), (pes[1:2], [])):
-            result = self.find(item, some)
-            self.must("one sending", result.printed == printed, result)
-        line = "one.pes has no header of page 100; other subtitle pages: 888"
-        result = self.find(item, pes, "--page", "100")
-        self.must(line, (result.status, result.lines, result.parts) == (1, [line], []), result)
-        alike = self.stl(make_even_times(30, 100, 50, b"Again"))
-        pes = schedule_pes(self, alike)
-        for some, printed in ((pes, ["--origin 0"]), (pes[10:20], [])):
-            self.check("alike", self.find(alike, some).printed, printed)
+        self.check("the text", self.find(stl, pes[2:3]).printed, [f"--origin {200 * TICKS}"])
+        self.check("an erased page", self.find(stl, pes[1:2]).printed, [])
+
+    def test_reports_that_the_page_is_not_sent(self) -> None:
+        stl = self.stl([(100, 150, b"Own")])
+        result = self.find(stl, schedule_pes(self, stl), "--page", "100")
+        self.check("result", (result.status, result.lines, result.parts), (
+            1, ["one.pes has no header of page 100; other subtitle pages: 888"], []))
+
+    def test_needs_all_cues_if_all_texts_are_equal(self) -> None:
+        stl = self.stl(make_even_times(30, 100, 50, b"Again"))
+        pes = schedule_pes(self, stl)
+        self.check("all cues", self.find(stl, pes).printed, ["--origin 0"])
+        self.check("ten cues", self.find(stl, pes[10:20]).printed, [])
 
     def transmission(self, begin: int, late: Sequence[int] = (0,) * COUNT) -> list[bytes]:
         """Return the PES packets of a programme whose out-cues have these delays in frames."""
@@ -141,37 +156,45 @@ class Origins(Case):
     def write_own_stl(self) -> str:
         return self.stl(make_even_times(COUNT, 70, 40, begin=FIRST_TCI))
 
-    def test_accepts_ends_with_the_same_delay(self) -> None:
+    def test_accepts_out_cues_with_the_same_delay(self) -> None:
+        # The delay of each out-cue in frames, and whether all cues agree
         for late, has_all_cues in (([3] * COUNT, True), ([3] * 6 + [9] * 6, False),
                                    ([3] * (COUNT - 1) + [9], False)):
             result = self.find(self.write_own_stl(), self.transmission(0, late))
-            self.must(f"{late}", result.has_all_cues == has_all_cues, result)
+            self.check(f"{late}", result.has_all_cues, has_all_cues)
             self.must(f"{late}: times", f"subtitles are expected from 11:06:40:00 to 11:07:12:10; "
                       f"the page was received from 11:06:40:00 to 11:07:12:{10 + late[-1]}"
                       in result.lines, result.lines)
 
 
 class Tracks(Case):
+    """Twelve cues: subtitles begin in frames 100, 200 .. 600, and end 50 frames later. A track is a
+    possible origin, given by the frame of the first PTS."""
+
     cues = find_expected_cues([ExpectedSubtitle(100 * at, 100 * at + 50, at, b"%d" % at)
                                for at in range(1, 7)])
 
     def base(self, changes: dict[int, bytes], within: int = 0) -> TimeBase:
-        return TimeBase(self.cues, [PageChange(TICKS * frame, letters, frame, ((20, letters),))
-                                    for frame, letters in sorted(changes.items())],
-                        0, 1000 * TICKS, (0, 999), within)
+        """Return a time base of 1000 frames with page changes to these texts, by frame."""
+        return TimeBase(self.cues, self.list_changes(changes), 0, 1000 * TICKS, (0, 999), within)
+
+    def list_changes(self, changes: dict[int, bytes]) -> list[PageChange]:
+        return [PageChange(TICKS * frame, letters, frame, ((20, letters),))
+                for frame, letters in sorted(changes.items())]
 
     def test_gives_a_text_more_points_than_an_erased_page(self) -> None:
+        # In frame 200 another text is sent, in 250 the page is not erased, and the text of frame
+        # 300 is a frame late: within a tolerance of a frame, it is the expected text.
         due = {cue.frame: cue.letters for cue in self.cues}
         sent = {**due, 200: b"x", 301: due[300]}
         del sent[250], sent[300]
-        for within, points, late, places in ((0, [3, 2, 1, 0, 0, 2], 0, [150, 200, 350]),
-                                             (1, [3, 2, 0, 0, 3, 2], 1, [150, 301, 350])):
+        for within, points, delay, places in ((0, [3, 2, 1, 0, 0, 2], 0, [150, 200, 350]),
+                                              (1, [3, 2, 0, 0, 3, 2], 1, [150, 301, 350])):
             track = Track(0, 0, self.base(sent, within))
-            self.assertEqual(track.points, points + [3, 2] * 3, (within, points, late))
-            self.assertEqual(track.rank(), (-sum(track.points), late, 0), (within, points, late))
-            self.assertEqual(Stretch(track, 1, 6).list_matching_places(), places,
-                             (within, points, late))
-            self.assertEqual(max(track.row_lengths), 7 if not within else 8, (within, points, late))
+            self.assertEqual(track.points, points + [3, 2] * 3, within)
+            self.assertEqual(track.rank(), (-sum(track.points), delay, 0), within)
+            self.assertEqual(Stretch(track, 1, 6).list_matching_places(), places, within)
+            self.assertEqual(max(track.row_lengths), 8 if within else 7, within)
 
     def test_two_equal_texts_outweigh_many_equal_times(self) -> None:
         cues = [ExpectedCue(1000 * at, b"%d" % at, True) for at in range(4)]
@@ -179,104 +202,114 @@ class Tracks(Case):
                   for cue in cues}
         for within in (0, 1):
             sent = {**others, 51: b"0", 1051 + within: b"1"}
-            base = TimeBase(cues, [PageChange(TICKS * frame, letters, frame, ((20, letters),))
-                                   for frame, letters in sorted(sent.items())],
-                            0, 9000 * TICKS, (0, 9000), within)
+            base = TimeBase(cues, self.list_changes(sent), 0, 9000 * TICKS, (0, 9000), within)
             self.assertEqual((base.fits[0].start, base.fits[0].matches), (-51, 2), within)
 
     def test_needs_five_cues_in_a_row_for_a_track(self) -> None:
         due = {cue.frame: cue.letters for cue in self.cues}
-        few = [self.base(dict([*due.items()][:count])) for count in (4, 5, 12)]
-        for bases, number in (([few[0]], None), ([few[1]], 0), ([few[0], few[2]], 1), (few, 2)):
-            row = find_stretches(bases)
-            self.assertEqual([stretch.track.base for stretch in row],
-                             [] if number is None else [number], (bases, number))
+        # The number of cues that are sent in each time base, and the time base of the track
+        for counts, chosen in (([4], []), ([5], [0]), ([4, 12], [1]), ([4, 5, 12], [2])):
+            row = find_stretches([self.base(dict([*due.items()][:count])) for count in counts])
+            self.assertEqual([stretch.track.base for stretch in row], chosen, counts)
+
+    def test_finds_a_second_track_by_texts_or_by_times(self) -> None:
+        due = {cue.frame: cue.letters for cue in self.cues}
         later = {frame + 40 * (frame > 350): letters for frame, letters in due.items()}
         for some in (later, {frame: text and b"other " + text for frame, text in later.items()}):
             row = find_stretches([self.base(some)])
             self.assertEqual([(stretch.track.start, stretch.first, stretch.end)
                               for stretch in row], [(0, 0, 6), (-40, 6, 12)], some)
 
-    def test_chooses_the_earliest_of_equal_starts(self) -> None:
+    def test_chooses_the_later_of_two_airings_without_the_last_cue(self) -> None:
         # The result must not depend on the order in which a set of start frames is iterated.
         most = {cue.frame: cue.letters for cue in self.cues[:-1]}
         for later in (300, 301, 400, 500):
             twice = {**most, **{frame + later: text for frame, text in most.items()}}
             self.assertEqual([stretch.track.start for stretch
-                              in find_stretches([self.base(twice)])],
-                             [-later], later)
+                              in find_stretches([self.base(twice)])], [-later], later)
 
     def test_splits_only_where_another_track_agrees_better(self) -> None:
         due = {cue.frame: cue.letters for cue in self.cues}
         half, rest = ({frame: due[frame] for frame in due if (frame < 400) == is_first}
                       for is_first in (True, False))
-        few = self.base(due).copy_between(self.cues[:4], -1, 1000)
+        rest_later = {frame + 300: letters for frame, letters in rest.items()}
+        late_ends = {frame + 3 * (not letters): letters for frame, letters in due.items()}
+        late_rest = {frame + 2 - (frame == 400): letters for frame, letters in rest.items()}
+        # The time bases; the time base, start, first cue and end of each stretch
+        rows: dict[str, tuple[list[TimeBase], list[tuple[int, int, int, int]]]] = {
+            "all cues": ([self.base(due)], [(0, 0, 0, 12)]),
+            "only four cues": ([self.base(due).copy_between(self.cues[:4], -1, 1000)], []),
+            "all out-cues are three frames late": ([self.base(late_ends)], [(0, 0, 0, 12)]),
+            "the second half is 300 frames late": (
+                [self.base({**half, **dict.fromkeys(rest, b"x"), **rest_later})],
+                [(0, 0, 0, 6), (0, -300, 6, 12)]),
+            "the second half is a frame late, then two, within one": (
+                [self.base({**half, **late_rest}, 1)], [(0, 0, 0, 7), (0, -2, 7, 12)]),
+            "each half in its time base": (
+                [self.base(half, 1), self.base(rest, 1)], [(0, 0, 0, 6), (1, 0, 6, 12)])}
+        for name, (bases, stretches) in rows.items():
+            self.check(name, [(stretch.track.base, stretch.track.start, stretch.first, stretch.end)
+                              for stretch in find_stretches(bases)], stretches)
 
-        def moved(by: int) -> dict[int, bytes]:
-            return {frame + by: letters for frame, letters in rest.items()}
+    def divide(self, *tracks: tuple[int, int, list[int]]) -> list[tuple[int, int]]:
+        """Divide the cues into stretches. Return the start of each track and the end of its cues.
 
-        ends = {frame + 3 * (not letters): letters for frame, letters in due.items()}
-        later = {frame + 2 - (frame == 400): letters for frame, letters in rest.items()}
-        rows: list[tuple[list[TimeBase], list[tuple[int, int, int, int]]]] = [
-            ([self.base(due)], [(0, 0, 0, 12)]), ([few], []),
-            ([self.base(ends)], [(0, 0, 0, 12)]),
-            ([self.base({**half, **dict.fromkeys(rest, b"x"), **moved(300)})],
-             [(0, 0, 0, 6), (0, -300, 6, 12)]),
-            ([self.base({**half, **later}, 1)], [(0, 0, 0, 7), (0, -2, 7, 12)]),
-            ([self.base(half, 1), self.base(rest, 1)],
-             [(0, 0, 0, 6), (1, 0, 6, 12)])]
-        for number, (bases, wanted) in enumerate(rows):
-            self.assertEqual([(stretch.track.base, stretch.track.start, stretch.first, stretch.end)
-                              for stretch in find_stretches(bases)], wanted, number)
+        Each track has the number of its time base, its start and the points of the twelve cues.
+        """
+        candidates = list[Track]()
+        for number, start, points in tracks:
+            candidates.append(Track(number, start, self.base({})))
+            candidates[-1].points = points
+        stretches = find_best_stretches(self.cues, candidates)
+        self.assertEqual([item.first for item in stretches],
+                         [0, *(item.end for item in stretches[:-1])])
+        return [(item.track.start, item.end) for item in stretches]
 
     def test_prefers_the_track_nearest_in_time(self) -> None:
-        def row(*several: tuple[int, int, list[int]]) -> list[tuple[int, int]]:
-            tracks = list[Track]()
-            for number, start, points in several:
-                tracks.append(Track(number, start, self.base({})))
-                tracks[-1].points = points
-            best_stretches = find_best_stretches(self.cues, tracks)
-            self.assertEqual([item.first for item in best_stretches],
-                             [0, *(item.end for item in best_stretches[:-1])])
-            return [(item.track.start, item.end) for item in best_stretches]
-
         first, second = (0, 0, [3] * 6 + [0] * 6), [0] * 6 + [3] * 6
+        # The time base and the start of two tracks with the same points
         for near, far in (((0, -40), (0, -500)), ((0, 40), (0, -41)), ((0, -4000), (1, 0))):
-            for some in itertools.permutations([first, (*near, second), (*far, second)]):
-                self.assertEqual(row(*some), [(0, 6), (near[1], 12)], some)
-        for before, own, end in (
-                ([3] * 6 + [1, 1, 0, 0, 0, 0], second, 6), (first[2], [0] * 5 + [3] * 7, 5),
-                (first[2], [0] * 7 + [3] * 5, 7), ([3] * 7 + [0] * 5, second, 6),
+            for tracks in itertools.permutations([first, (*near, second), (*far, second)]):
+                self.assertEqual(self.divide(*tracks), [(0, 6), (near[1], 12)], tracks)
+
+    def test_begins_a_track_with_its_first_better_cue(self) -> None:
+        half, rest = [3] * 6 + [0] * 6, [0] * 6 + [3] * 6
+        # The points of two tracks, and the first cue of the second
+        for first, second, cue in (
+                ([3] * 6 + [1, 1, 0, 0, 0, 0], rest, 6), (half, [0] * 5 + [3] * 7, 5),
+                (half, [0] * 7 + [3] * 5, 7), ([3] * 7 + [0] * 5, rest, 6),
                 ([3] * 5 + [0, 1] + [0] * 5, [0] * 5 + [3, 0] + [3] * 5, 5)):
-            self.assertEqual(row((0, 0, before), (0, -40, own)), [(0, end), (-40, 12)], own)
-        # A change to another track must gain more than four points, and must not go back in time.
-        half, rest = [3] * 7 + [0] * 5, [0] * 7 + [3] * 5
-        for before, place, expected in (
-                ([3] * 8 + [2] * 4, (0, -40), [(0, 12)]), ([3] * 7 + [2] * 5, (0, -40), [
-                    (0, 7), (-40, 12)]), (half, (0, 50), [(0, 12)]),
-                (half, (0, 49), [(0, 7), (49, 12)]), (half, (0, 100), [(0, 12)])):
-            self.assertEqual(row((0, 0, before), (*place, rest)), expected, (before, place))
-        # No track of an earlier time base follows one of a later time base.
-        self.assertFalse(Track(0, 0, self.base({})).may_follow(Track(1, 9, self.base({})), 99))
-        # Matching cues before the first five consecutive matches also count.
-        self.assertEqual(row((0, 0, [3] * 4 + [0] + [3] * 5 + [0, 0]), (0, 5000, [0] * 6 + [
-            3] * 6)), [(0, 12)])
+            self.assertEqual(self.divide((0, 0, first), (0, -40, second)), [(0, cue), (-40, 12)],
+                             second)
+
+    def test_another_track_must_gain_more_than_four_points_and_not_go_back_in_time(self) -> None:
+        rest = [0] * 7 + [3] * 5
+        for first, start, stretches in (
+                ([3] * 8 + [2] * 4, -40, [(0, 12)]), ([3] * 7 + [2] * 5, -40, [(0, 7), (-40, 12)]),
+                ([3] * 7 + [0] * 5, 50, [(0, 12)]), ([3] * 7 + [0] * 5, 49, [(0, 7), (49, 12)]),
+                ([3] * 7 + [0] * 5, 100, [(0, 12)])):
+            self.assertEqual(self.divide((0, 0, first), (0, start, rest)), stretches,
+                             (first, start))
+
+    def test_no_track_follows_one_of_a_later_time_base(self) -> None:
+        earlier, later = Track(0, 0, self.base({})), Track(1, 9, self.base({}))
+        self.assertEqual((earlier.may_follow(later, 99), later.may_follow(earlier, 99)),
+                         (False, True))
+
+    def test_matching_cues_before_the_first_five_consecutive_matches_count(self) -> None:
+        self.assertEqual(self.divide((0, 0, [3] * 4 + [0] + [3] * 5 + [0, 0]),
+                                     (0, 5000, [0] * 6 + [3] * 6)), [(0, 12)])
 
 
 class Delays(unittest.TestCase):
-    # Delays of in-cues and out-cues in frames; `None` if the page was not sent.
-    LATE = [(0, 0), (1, 0), (2, 1), (2, 0), (None, None), (2, 2)]
-    CUE_TIMES = [ExpectedCue(100 * at + 40 * is_end + at * at, b"" if is_end else b"%d" % at,
-                             not is_end)
-                 for at in range(len(LATE)) for is_end in (False, True)]
-
-    def make_delayed_base(self) -> TimeBase:
-        changes = [(TICKS * (cue.frame + by), cue.letters) for cue, by in zip(
-            self.CUE_TIMES, (by for pair in self.LATE for by in pair)) if by is not None]
-        return find_time_bases([], make_sent_packets(changes), 3)[0].copy_between(self.CUE_TIMES,
-                                                                                  -1, 1 << 40)
-
-    def test_counts_delays_of_begins_and_ends(self) -> None:
-        base = self.make_delayed_base()
+    def test_counts_delays_of_in_cues_and_out_cues(self) -> None:
+        # The delay of the in-cue and out-cue of each subtitle in frames; `None` if it was not sent
+        late = [(0, 0), (1, 0), (2, 1), (2, 0), (None, None), (2, 2)]
+        cues = [ExpectedCue(100 * at + 40 * is_end + at * at, b"" if is_end else b"%d" % at,
+                            not is_end) for at in range(len(late)) for is_end in (False, True)]
+        sent = [(TICKS * (cue.frame + by), cue.letters)
+                for cue, by in zip(cues, itertools.chain(*late)) if by is not None]
+        base = find_time_bases([], make_sent_packets(sent), within=3)[0]
+        base = base.copy_between(cues, -1, 1 << 40)
         self.assertEqual(count_delays(base, base.compare(0)), (
             Counter({2: 3, 0: 1, 1: 1}), Counter({0: 3, 1: 1, 2: 1})))
