@@ -24,51 +24,57 @@ from .bench import Case
 from .parts import make_part
 from .test_clock_tables import make_sent_packets
 
-TEXT, OTHER_TEXT = ((20, b"text"),), ((20, b"other"),)
+ROWS = {b"": (), b"text": ((20, b"text"),), b"other": ((20, b"other"),)}  # of a page with this text
 
 
 class Edges(Case):
     def test_finds_a_cue_where_the_page_changes(self) -> None:
-        expected_subtitle = ExpectedSubtitle(10, 20, (20, 2, b"one"), b"one")
-        for name, other, frames in (
-                ("a pause", expected_subtitle._replace(begin=25, end=30), [10, 20, 25, 30]),
-                ("the same once more", expected_subtitle._replace(begin=20, end=30), [10, 30]),
+        first = ExpectedSubtitle(10, 20, (20, 2, b"one"), b"one")
+        for name, second, frames in (
+                ("a pause", first._replace(begin=25, end=30), [10, 20, 25, 30]),
+                ("the same once more", first._replace(begin=20, end=30), [10, 30]),
                 ("on another row", ExpectedSubtitle(20, 30, (22, 2, b"one"), b"one"), [10, 20, 30]),
                 ("other letters", ExpectedSubtitle(20, 30, (20, 2, b"two"), b"two"), [10, 20, 30])):
-            self.check(name, [cue.frame for cue in find_expected_cues([expected_subtitle, other])],
-                       frames)
+            self.check(name, [cue.frame for cue in find_expected_cues([first, second])], frames)
 
 
 class RepeatedPages(Case):
-    def test_ignores_a_page_that_is_erased_and_sent_again(self) -> None:
-        for origin in (0, CLOCK - TICKS, CLOCK - 2 * TICKS, CLOCK - 5 * TICKS, CLOCK - 100 * TICKS):
-            def change(frame: int, letters: bytes, number: int) -> PageChange:
-                pts = (origin + frame * TICKS) % CLOCK
-                return PageChange(pts, letters, number, () if not letters else
-                                  TEXT if letters == b"text" else OTHER_TEXT)
+    """Pages with the text "text" that are erased, and sent again some frames later."""
 
-            for frame, most, expected in ((3, 1, 2), (3, 2, 2), (4, 1, None), (4, 2, 2),
-                                          (52, 50, 2), (53, 50, None)):
-                changes = [change(0, b"text", 0), change(2, b"", 1), change(frame, b"text", 2)]
-                self.check(f"{origin} {frame} {most}", find_repeat(changes, 0, most), expected)
-            changes = [change(0, b"text", 0), change(2, b"", 1), change(3, b"other", 2),
-                       change(4, b"text", 3)]
-            self.check(f"{origin}, behind another", find_repeat(changes, 0, 5), 3)
-            self.must(f"{origin}, not blank", find_repeat(changes, 2, 5) is None)
+    def test_finds_the_repeat_of_an_erased_page(self) -> None:
+        def find(changes: Sequence[tuple[int, bytes]], first: int, max_erased: int) -> int | None:
+            """Return the index of the change that repeats the page of the change `first`.
 
-    def test_counts_a_repeated_page_only_if_it_is_expected(self) -> None:
-        for due, away in itertools.product(range(1, 9), repeat=2):
+            Changes are given by frame and text; the page is erased for up to `max_erased` frames.
+            """
+            return find_repeat([PageChange((origin + frame * TICKS) % CLOCK, text, at, ROWS[text])
+                                for at, (frame, text) in enumerate(changes)], first, max_erased)
+
+        text, erased, other = b"text", b"", b"other"
+        for origin in (0, *(CLOCK - frames * TICKS for frames in (1, 2, 5, 100))):
+            for repeat, max_erased, expected in ((3, 1, 2), (3, 2, 2), (4, 1, None), (4, 2, 2),
+                                                 (52, 50, 2), (53, 50, None)):
+                changes = [(0, text), (2, erased), (repeat, text)]
+                self.check(f"{origin}, {repeat} within {max_erased}",
+                           find(changes, 0, max_erased), expected)
+            changes = [(0, text), (2, erased), (3, other), (4, text)]
+            self.check(f"{origin}: after another text", find(changes, 0, 5), 3)
+            self.check(f"{origin}: not erased", find(changes, 2, 5), None)
+
+    def test_ignores_an_erasure_that_is_shorter_than_the_expected_pause(self) -> None:
+        # The expected pause between the subtitles, and for how long the page is erased in frame 110
+        for pause, erased in itertools.product(range(1, 9), repeat=2):
             cues = find_expected_cues([ExpectedSubtitle(100, 130, 1, b"text"),
-                                       ExpectedSubtitle(130 + due, 160, 1, b"text")])
-            frames = [100, 110, 110 + away, 130, 130 + due, 160]
-            base = TimeBase(cues, [PageChange(TICKS * frame, b"" if at % 2 else b"text", at,
-                                              () if at % 2
-                                              else TEXT) for at, frame in enumerate(frames)],
-                            0, 1000 * TICKS, (0, 5), 0)
-            if away <= min(MAX_ERASED_FRAMES, due - 1):
+                                       ExpectedSubtitle(130 + pause, 160, 1, b"text")])
+            frames = [100, 110, 110 + erased, 130, 130 + pause, 160]
+            changes = [PageChange(TICKS * frame, text, at, ROWS[text])
+                       for at, (frame, text) in enumerate(zip(frames, (b"text", b"") * 3))]
+            base = TimeBase(cues, changes, 0, 1000 * TICKS, (0, 5), 0)
+            if erased <= min(MAX_ERASED_FRAMES, pause - 1):
                 del frames[1:3]
-            self.must(f"{due} {away}", [*base.changes] == frames, base.changes)
-            self.check("some", [*base.copy_between(cues, 100, 160).changes], frames[1:-1])
+            self.check(f"{pause} {erased}", [*base.changes], frames)
+            self.check(f"{pause} {erased}: copy without the first and last", [
+                *base.copy_between(cues, 100, 160).changes], frames[1:-1])
 
 
 Inserter = Callable[[random.Random, bool], int]  # returns the delay of an in-cue or out-cue
@@ -93,7 +99,8 @@ def measure_inserter_delays(inserter: Inserter) -> Lateness:
 
 
 def does_first_part_agree(origin: OriginEstimate) -> bool:
-    return any(part.matches == part.total for part in origin.parts[:1])
+    """Return whether the origin is clear, and all cues of the first part match."""
+    return origin.status == 0 and any(part.matches == part.total for part in origin.parts[:1])
 
 
 def make_random_cues(chance: random.Random, count: int) -> list[ExpectedSubtitle]:
@@ -138,15 +145,16 @@ class EstimatedClocks(Case):
             "one in-cue is earlier than all others": (({0: 1, 1: 19}, {1: 20}), 1)})
 
     def estimate_clock_delay(self, delays: Sequence[int], within: int,
-                             shares: Lateness | None = None
-              ) -> tuple[int, EarlyCues | None]:
-        """Choose a clock. Return its delay after the first cue in frames, and the early cues."""
+                             shares: Lateness | None = None) -> tuple[int, EarlyCues | None]:
+        """Choose a clock for in-cues with these delays.
+
+        Return by how many frames it is later than the clock of the earliest cue, and the early
+        cues: their number, the number of all cues, and by how many frames they are early.
+        """
         frames = [100 * at + at * at for at in range(1, len(delays) + 1)]
         cues = [ExpectedCue(frame, b"%d" % at, True) for at, frame in enumerate(frames)]
-        base = find_time_bases([],
-                               make_sent_packets([(TICKS * (frame + by), cue.letters) for frame, by,
-                                                  cue in
-                                                  zip(frames, delays, cues)]), within)[0]
+        sent = [(TICKS * (cue.frame + by), cue.letters) for cue, by in zip(cues, delays)]
+        base = find_time_bases([], make_sent_packets(sent), within)[0]
         base = base.copy_between(cues, -1, 1 << 40)
         fit = base.fit(base.fits[0].start)
         best, early = choose_clock(base, fit, shares)
@@ -170,7 +178,8 @@ class EstimatedClocks(Case):
             "two of 41": ((2, 2 * RARE_SHARE + 1), False)})
 
     def test_finds_the_likeliest_clock_for_known_delays(self) -> None:
-        # The arguments are the delay of each in-cue in frames, and the value of --late.
+        # The arguments are the delay of each in-cue in frames, and the value of --late: how often
+        # in-cues, and after the slash out-cues, have each delay.
         self.check_rows(lambda delays, late: self.estimate_clock_delay(
             delays, 2, parse_lateness(late)), {
             "all on time": (([0] * 9, "0:1/0:1"), (0, None)),
@@ -185,26 +194,26 @@ class EstimatedClocks(Case):
             "most are late, which is rare": (([0, *[1] * 19], "0:95,1:5/0:1"), (1, None)),
             "most are late, which is usual": (([0, *[1] * 19], "0:5,1:95/0:1"), (0, None)),
             "few cues": (([0, 0, 1, 2], "0:1,1:2,2:1/0:1"), (0, None))})
+
+    def test_a_delay_that_was_never_measured_is_rarer_than_one_in_400_cues(self) -> None:
         self.assertLess(UNSEEN_SHARE, 1 / 400)
 
     def test_accepts_correct_inserters_or_reports_rare_cues_as_early(self) -> None:
-        for name, (within, inserter) in INSERTERS.items():
-            shares = measure_inserter_delays(inserter)
-            for seed in range(6):
-                chance = random.Random(seed)
-                shown = [item._replace(letters=b"text %d" % at, begin=item.begin + 30 * at,
+        for (name, (within, inserter)), seed in itertools.product(INSERTERS.items(), range(6)):
+            chance = random.Random(seed)
+            subtitles = [item._replace(letters=b"text %d" % at, begin=item.begin + 30 * at,
                                        end=item.end + 30 * at)
                          for at, item in enumerate(make_random_cues(chance, (12, 40)[seed % 2]))]
-                cues = find_expected_cues(shown)
-                times = [(TICKS * (cue.frame + inserter(chance, cue.is_begin)), cue.letters)
-                         for cue in cues]
-                with self.subTest(name, seed=seed):
-                    item = find_origin(shown, make_sent_packets(times), within, late=shares)
-                    self.assertTrue(item.status == 0 and does_first_part_agree(item), item.lines)
-                    item = find_origin(shown, make_sent_packets(times), within)
-                    before = [line for line in item.lines if " early compared with" in line]
-                    self.assertTrue(item.status == 0 and does_first_part_agree(item) or before,
-                                    item.lines)
+            packets = make_sent_packets([
+                (TICKS * (cue.frame + inserter(chance, cue.is_begin)), cue.letters)
+                for cue in find_expected_cues(subtitles)])
+            with self.subTest(name, seed=seed):
+                shares = measure_inserter_delays(inserter)
+                origin = find_origin(subtitles, packets, within, late=shares)
+                self.assertTrue(does_first_part_agree(origin), origin.lines)
+                origin = find_origin(subtitles, packets, within)
+                self.assertTrue(does_first_part_agree(origin) or any(
+                    " early compared with" in line for line in origin.lines), origin.lines)
 
 
 class Drifts(Case):
@@ -239,22 +248,24 @@ class Drifts(Case):
             "two jumps of five seconds": (([0] * 4 + [130] * 4 + [260] * 4,), None)})
 
     def test_measures_a_drift_by_texts_that_are_sent_once(self) -> None:
+        # The expected texts. Texts 0 to 11 are sent, each second one a frame later.
+        sent = [b"%d" % at for at in range(12)]
+        others = [b"x%d" % at for at in range(7)]
         steady = [at // 2 for at in range(12)]
-        own = [b"%d" % at for at in range(12)]
-        self.assertEqual(self.drift(steady, [*own[:6], *[b"other"] * 6]), Drift(0, 500, 2))
-        self.assertIsNone(self.drift(steady, [*own[:6], *[b"x%d" % at for at in range(7)]]))
-        self.assertEqual(self.drift(steady, [*own[:7], *[b"x%d" % at for at in range(5)]]),
-                         Drift(0, 600, 3))
-        self.assertEqual(self.drift(steady, [*own[:10], *own[:2]]), Drift(200, 900, 3))
+        for name, texts, drift in (
+                ("6 texts, and one that repeats", [*sent[:6], *[b"other"] * 6], Drift(0, 500, 2)),
+                ("6 of 13 texts", [*sent[:6], *others], None),
+                ("7 of 12 texts", [*sent[:7], *others[:5]], Drift(0, 600, 3)),
+                ("10 texts, of which two repeat", [*sent[:10], *sent[:2]], Drift(200, 900, 3))):
+            self.check(name, self.drift(steady, texts), drift)
 
-    def test_finds_almost_no_drift_of_correct_inserters(self) -> None:
+    def test_finds_a_drift_in_at_most_3_of_1800_programmes_of_correct_inserters(self) -> None:
         count = 0
-        for _, inserter in INSERTERS.values():
-            for seed in range(200):
-                chance = random.Random(seed)
-                delays = [inserter(chance, True) for _ in range(chance.choice((6, 8, 12, 40)))]
-                count += self.drift(delays) is not None
-        self.assertLess(count, 4)  # a drift is reported in at most 3 of 1800 programmes
+        for (_, inserter), seed in itertools.product(INSERTERS.values(), range(200)):
+            chance = random.Random(seed)
+            delays = [inserter(chance, True) for _ in range(chance.choice((6, 8, 12, 40)))]
+            count += self.drift(delays) is not None
+        self.assertLessEqual(count, 3)
 
 
 class RepeatedProgrammes(Case):
@@ -298,8 +309,8 @@ def shift_pts(pts: int, shift: int) -> int:
 
 
 class LossesInParts(unittest.TestCase):
-    # Frames before and after a loss, ticks that are added to their PTS, and whether the loss
-    # affects a part that lasts from frame 100 to frame 200.
+    # Frames before and after a loss (`None`: unknown), ticks that are added to their PTS, and
+    # whether the loss affects a part that lasts from frame 100 to frame 200
     PLACES: dict[str, tuple[int | None, int | None, int, bool]] = {
         "before it": (90, 99, 0, False), "up to its first frame": (90, 100, 0, False),
         "up to its second frame": (90, 101, 0, True), "at its beginning": (99, 150, 0, True),
@@ -333,53 +344,60 @@ class LossesInParts(unittest.TestCase):
                 before, after = (shift_pts(TICKS * (at + more), shift) for more in (-1, 1))
                 for place in (LossPlace(before, after), LossPlace(before, after, missing=90_000)):
                     self.assertEqual(belongs_to_part(place, part), expected, (hours, at))
-            result, ends = part.alignment, (-hour // 2, hours * hour + hour // 2)
-            assert result
-            seen = find_recorded_span((shift_pts(TICKS * ends[0], shift),
-                                       shift_pts(TICKS * ends[1], shift)),
-                                      result)
-            self.assertEqual(seen, Span(*ends), hours)
+
+    def test_a_recording_may_begin_and_end_half_an_hour_from_a_part_of_many_hours(self) -> None:
+        hour = 90_000
+        for hours, shift in itertools.product((1, 12, 14, 20, 23, 24), SHIFTS):
+            first, last = -hour // 2, hours * hour + hour // 2
+            pcr = shift_pts(TICKS * first, shift), shift_pts(TICKS * last, shift)
+            part = TimedPart(0, hours * hour, Clock(shift, RECORDING))
+            self.assertEqual(find_recorded_span(pcr, part), Span(first, last), hours)
 
     def test_assigns_a_gap_marker_by_its_pes_packet(self) -> None:
         part = make_part(100, 200, 0, pes=(7, 19))
-        for mark, expected in ((0, False), (6, False), (7, True), (12, True), (19, True),
-                               (20, False)):
-            for place in (LossPlace(None, None, gap_marker=mark),
-                          LossPlace(TICKS * 150, TICKS * 151, gap_marker=mark),
-                          LossPlace(TICKS * 300, None, gap_marker=mark)):
-                self.assertEqual(belongs_to_part(place, part), expected, mark)
-        self.assertFalse(belongs_to_part(LossPlace(1, 2), make_part(None, None, None)), "no clock")
+        for pes, expected in ((0, False), (6, False), (7, True), (12, True), (19, True),
+                              (20, False)):
+            for pts in ((None, None), (TICKS * 150, TICKS * 151), (TICKS * 300, None)):
+                self.assertEqual(belongs_to_part(LossPlace(*pts, gap_marker=pes), part), expected,
+                                 (pes, pts))
+
+    def test_no_loss_affects_a_part_without_a_clock(self) -> None:
+        self.assertFalse(belongs_to_part(LossPlace(1, 2), make_part(None, None, None)))
 
     def test_returns_the_frames_that_a_loss_hides(self) -> None:
         day = FRAMES_OF_A_DAY
+        # The frames before and after each loss (`None`: unknown), and the hidden frames
+        rows: list[tuple[int | None, int | None, Span]] = [
+            (None, 5, Span(0, 5)), (7, 9, Span(7, 9)), (20, None, Span(20, day)),
+            (-1, 1, Span(0, 1)), (None, None, Span(0, day)), (day - 1, day, Span(day - 1, day)),
+            (day, 9, Span(0, 9))]
         for shift in SHIFTS:
-            places = [LossPlace(None, shift_pts(5 * TICKS, shift)),
-                      LossPlace(shift_pts(7 * TICKS, shift), shift_pts(9 * TICKS, shift)),
-                      LossPlace(shift_pts(20 * TICKS, shift), None),
-                      LossPlace(shift_pts(-TICKS, shift), shift_pts(TICKS, shift)),
-                      LossPlace(None, None),
-                      LossPlace(shift_pts(TICKS * (day - 1), shift), shift_pts(TICKS * day, shift)),
-                      LossPlace(shift_pts(TICKS * day, shift), shift_pts(9 * TICKS, shift))]
-            with self.subTest(shift=shift):
-                self.assertEqual(list(find_lost_spans(places, shift, 0)), [
-                    Span(0, 5), Span(7, 9), Span(20, day), Span(0, 1), Span(0, day),
-                    Span(day - 1, day), Span(0, 9)])
+            def pts_at(frame: int | None) -> int | None:
+                return None if frame is None else shift_pts(TICKS * frame, shift)
 
-    def test_computes_frames_of_a_recording_by_its_pcr(self) -> None:
-        for shift, (ticks, wanted) in itertools.product(SHIFTS, (
+            places = [LossPlace(pts_at(before), pts_at(after)) for before, after, _ in rows]
+            with self.subTest(shift=shift):
+                self.assertEqual([*find_lost_spans(places, shift, 0)], [span for *_, span in rows])
+
+    def test_computes_the_frames_of_a_recording_from_its_first_and_last_pcr(self) -> None:
+        timed_part = TimedPart(20, 40, Clock(0, RECORDING))
+        for shift, (ticks, span) in itertools.product(SHIFTS, (
                 ((0, 50 * TICKS), Span(0, 50)), ((1, 50 * TICKS - 1), Span(1, 49)),
                 ((-TICKS, 60 * TICKS), Span(-1, 60)), ((-1, 9 * TICKS), Span(0, 9)))):
-            first, last = (shift_pts(tick, shift) for tick in ticks)
-            timed_part = TimedPart(20, 40, Clock(shift, RECORDING))
+            pcr = shift_pts(ticks[0], shift), shift_pts(ticks[1], shift)
+            part = timed_part._replace(clock=Clock(shift, RECORDING))
             with self.subTest(shift=shift, ticks=ticks):
-                self.assertEqual(find_recorded_span((first, last), timed_part), wanted)
-                self.assertIsNone(find_recorded_span(None, timed_part))
-                self.assertIsNone(find_recorded_span((first, last),
-                                                     timed_part._replace(packets=(0, 1))))
+                self.assertEqual(find_recorded_span(pcr, part), span)
+
+    def test_does_not_know_the_frames_without_pcr_or_if_pts_go_back(self) -> None:
+        part = TimedPart(20, 40, Clock(0, RECORDING))
+        self.assertIsNone(find_recorded_span(None, part))
+        self.assertIsNone(find_recorded_span((0, 50 * TICKS), part._replace(packets=(0, 1))))
 
 
 class PrintedClocks(unittest.TestCase):
-    def test_writes_a_pcr_every_tenth_of_a_second(self) -> None:
+    def test_writes_a_pcr_every_tenth_of_a_second_except_in_a_long_pause(self) -> None:
+        # Each PES packet has a PCR a tenth of a second before its PTS.
         for shift in SHIFTS:
             multiplex, pcr = Multiplex(0x101, b"eng", (0, 0x88)), list[int]()
             for pts in (0, 5 * TENTH_TICKS, 5 * TENTH_TICKS + 7,
