@@ -3,11 +3,11 @@ from __future__ import annotations
 
 import itertools
 import unittest
-from typing import Any, Sequence
+from typing import Sequence
 from unittest import mock
 
 from subtitles.clock.alignment import (
-    CueOffset, EarlyCues, ExpectedCue, ExpectedSubtitle, MAX_BASES, MAX_CUE_OFFSET,
+    CueOffset, EarlyCues, ExpectedCue, ExpectedSubtitle, MAX_BASES, MAX_CUE_OFFSET, OriginFit,
     MAX_REPEATED_TEXTS, TimeBase, find_expected_cues, find_single_texts, find_time_bases,
     select_time_bases)
 from subtitles.clock.origin import find_airing_packets
@@ -35,9 +35,9 @@ def make_time_base(cues: Sequence[ExpectedCue], several: Sequence[tuple[int, byt
 
 
 def make_sent_packets(sendings: Sequence[tuple[int, bytes]], every: int = 0) -> Packets:
-    """Return the PES packets of page transmissions, repeated after `every` frames if not 0.
+    """Return the PES packets of page transmissions, given by unwrapped PTS and text.
 
-    `sendings` has the unwrapped PTS and the text of each.
+    They are repeated after `every` frames if this is not 0.
     """
     packets = Packets(0)
     shown: bytes | None = None
@@ -56,6 +56,9 @@ def make_sent_packets(sendings: Sequence[tuple[int, bytes]], every: int = 0) -> 
 class TimeBases(unittest.TestCase):
     def test_assigns_each_change_to_a_frame(self) -> None:
         half = TICKS // 2
+        early = EARLY_TICKS  # PTS that are less early belong to the following frame
+        # --within in frames; the PTS and text of each change; the PTS of frame 0; by frame, the
+        # text, and by how many ticks its PTS is later than the frame
         rows: list[tuple[int, list[tuple[int, bytes]], int, dict[int, tuple[bytes, int]]]] = [
             (0, [(-5, b"a"), (half - 1, b""), (half, b"c")], 0,
              {0: (b"", half - 1), 1: (b"c", half - TICKS)}),
@@ -70,39 +73,47 @@ class TimeBases(unittest.TestCase):
             (1, [(9, b"a"), (TICKS + half, b"b"), (2 * TICKS + half, b"c"), (3 * TICKS + 7, b"d"),
                  (4 * TICKS + 8, b"e")], 8, {0: (b"a", 1), 1: (b"b", half - 8), 2: (b"c", half - 8),
                                              3: (b"d", -1), 4: (b"e", 0)}),
-            (1, [(-EARLY_TICKS + 1, b"a"), (2 * TICKS - EARLY_TICKS + 1, b"b")], -EARLY_TICKS + 1,
+            (1, [(1 - early, b"a"), (2 * TICKS + 1 - early, b"b")], 1 - early,
              {0: (b"a", 0), 2: (b"b", 0)}),
-            (1, [(-EARLY_TICKS, b"a"), (2 * TICKS - EARLY_TICKS - 1, b"b"), (3 * TICKS, b"c")], 0,
-             {0: (b"a", -EARLY_TICKS), 1: (b"b", TICKS - EARLY_TICKS - 1), 3: (b"c", 0)})]
-        for shift, (within, several, first, wanted) in itertools.product(SHIFTS, rows):
-            base = make_time_base([], several, 7, within, shift)
-            self.assertEqual((base.first - shift) % CLOCK, first % CLOCK, several)
-            self.assertEqual({frame: item[1:] for frame, item in base.changes.items()}, wanted,
-                             several)
-            self.assertEqual(base.length, 7, several)
+            (1, [(-early, b"a"), (2 * TICKS - early - 1, b"b"), (3 * TICKS, b"c")], 0,
+             {0: (b"a", -early), 1: (b"b", TICKS - early - 1), 3: (b"c", 0)})]
+        for shift, (within, sent, first, expected) in itertools.product(SHIFTS, rows):
+            base = make_time_base([], sent, 7, within, shift)
+            self.assertEqual((base.first - shift) % CLOCK, first % CLOCK, sent)
+            self.assertEqual({frame: (change.letters, change.ticks)
+                              for frame, change in base.changes.items()}, expected, sent)
+            self.assertEqual(base.length, 7, sent)
 
-    def test_selects_the_time_bases_with_the_most_changes(self) -> None:
-        def bases(counts: Sequence[int], inside: tuple[int, int]) -> list[tuple[int, int, int]]:
-            """Return the start, end and number of page changes of each selected time base."""
-            packets = Packets(0, [PacketRun(4 * at, 4, 10 ** 9 - at * 10 ** 6, TICKS, "h", "")
-                                  for at in range(len(counts))])
-            packets.changes = [PageChange(0, b"", 4 * at + more) for at, count in enumerate(counts)
-                               for more in range(count)]
-            return [(base.start, base.stop, len(some)) for base, some in select_time_bases(
-                packets, inside)]
+    def select(self, counts: Sequence[int], inside: tuple[int, int]) -> list[tuple[int, int, int]]:
+        """Return the first and end PES packet and the number of page changes of each time base.
 
+        Each of `counts` is the number of page changes in four PES packets, after which the PTS go
+        back. Only the PES packets `inside` are used.
+        """
+        packets = Packets(0, [PacketRun(4 * at, 4, 10 ** 9 - at * 10 ** 6, TICKS, "h", "")
+                              for at in range(len(counts))])
+        packets.changes = [PageChange(0, b"", 4 * at + more) for at, count in enumerate(counts)
+                           for more in range(count)]
+        return [(base.start, base.stop, len(changes))
+                for base, changes in select_time_bases(packets, inside)]
+
+    def test_selects_the_time_bases_with_changes_in_the_given_pes_packets(self) -> None:
         whole = [(0, 4, 2), (4, 8, 4), (12, 16, 1), (16, 20, 3)]
         for inside, expected in (
                 ((0, 19), whole), ((0, 99), whole), ((1, 19), [(1, 4, 1), *whole[1:]]),
                 ((2, 7), [(4, 8, 4)]), ((0, 6), [(0, 4, 2), (4, 7, 3)]), ((7, 7), [(7, 8, 1)]),
                 ((8, 11), []), ((8, 12), [(12, 13, 1)]), ((5, 17), [(5, 8, 3), (12, 16, 1),
                                                                     (16, 18, 2)])):
-            self.assertEqual(bases([2, 4, 0, 1, 3], inside), expected, inside)
-        result = bases([1, *[2] * (MAX_BASES - 1), 3, 1], (0, 999))
+            self.assertEqual(self.select([2, 4, 0, 1, 3], inside), expected, inside)
+
+    def test_selects_the_time_bases_with_the_most_changes(self) -> None:
+        result = self.select([1, *[2] * (MAX_BASES - 1), 3, 1], (0, 999))
         self.assertEqual([begin for begin, _, _ in result],
                          [4 * at for at in range(1, MAX_BASES + 1)])
 
     def test_a_time_base_spans_the_first_to_last_header(self) -> None:
+        # PES packets of a frame each: h with a header, o without one, m a gap marker; and the first
+        # and last frame of the time base
         for kinds, expected in (("hhh", (0, 2)), ("ohh", (1, 2)), ("hho", (0, 1)), ("oho", (1, 1)),
                                 ("ooo", None), ("mhh", (1, 2)), ("hhm", (0, 1))):
             packets = Packets(0, [PacketRun(at, 1, None if kind == "m" else TICKS * at, 0, kind, "")
@@ -110,80 +121,107 @@ class TimeBases(unittest.TestCase):
             packets.changes = [PageChange(0, b"", 1)]
             self.assertEqual([base.pts_range for base in find_time_bases([], packets, 0)], [
                 (TICKS * expected[0], TICKS * expected[1])] if expected else [], kinds)
-        long = Packets(0, [PacketRun(0, 9, 5, TICKS, "h", "")])
-        long.changes = [PageChange(5, b"", 0)]
-        self.assertEqual([(time_base.pts_range, time_base.packets, time_base.length)
-                          for time_base in find_time_bases([], long, 0)],
+
+    def test_a_time_base_may_have_a_single_change(self) -> None:
+        packets = Packets(0, [PacketRun(0, 9, 5, TICKS, "h", "")])
+        packets.changes = [PageChange(5, b"", 0)]
+        self.assertEqual([(base.pts_range, base.packets, base.length)
+                          for base in find_time_bases([], packets, 0)],
                          [((5, 5 + 8 * TICKS), (0, 8), 8)])
 
 
 class Fits(Case):
+    """Three subtitles from frame 10 on, with six cues; frame 10 is sent in frame 0 of `SENT`."""
+
     cues = find_expected_cues([ExpectedSubtitle(10, 20, 1, b"a"), ExpectedSubtitle(30, 45, 2, b"b"),
                                ExpectedSubtitle(50, 60, 3, b"c")])
     SENT = [(0, b"a"), (10, b""), (20, b"b"), (35, b""), (40, b"c"), (50, b"")]
 
-    def fit(self, sent: Sequence[tuple[int, bytes]], offs: Sequence[int] = (0,) * 9,
-            length: int = 50, within: int = 0, shift: int = 0, start: int = 10) -> Any:
-        """Match the cues with the page changes of a programme that starts at frame `start`."""
-        return make_time_base(self.cues,
-                              [(TICKS * frame + off, letters) for (frame, letters), off in
-                               zip(sent, offs)], length, within, shift).compare(start)
+    def make_base(self, sent: Sequence[tuple[int, bytes]], length: int = 60, within: int = 0
+                  ) -> TimeBase:
+        """Return a time base of `length` frames with page changes, given by frame and text."""
+        return make_time_base(self.cues, [(TICKS * frame, text) for frame, text in sent], length,
+                              within)
+
+    def fit(self, sent: Sequence[tuple[int, bytes]], ticks: Sequence[int] = (0,) * 9,
+            length: int = 50, within: int = 0, shift: int = 0) -> OriginFit:
+        """Match the cues with page changes if the first PTS, `shift`, is at frame 10.
+
+        Each change is `ticks` later than its frame.
+        """
+        changes = [(TICKS * frame + off, text) for (frame, text), off in zip(sent, ticks)]
+        return make_time_base(self.cues, changes, length, within, shift).compare(10)
 
     def test_counts_cues_with_their_characters_and_texts(self) -> None:
         sent = self.SENT
         wrong = [*sent[:2], (20, b"x"), *sent[3:]]
-        rows: list[tuple[list[tuple[int, bytes]], int, tuple[object, ...]]] = [
+        # What is sent, and the length of the time base in frames. Expected are the matching cues,
+        # those with the expected page, with the expected text, those at the start of a frame, and
+        # all during the time base; and the frames of the first text and of the first unmatched cue.
+        rows: list[tuple[list[tuple[int, bytes]], int, tuple[
+            int, int, int, int, int, int | None, int | None]]] = [
             (sent, 50, (6, 6, 3, 6, 6, 10, None)), (sent, 49, (5, 5, 3, 5, 5, 10, None)),
             (wrong, 50, (6, 5, 2, 6, 6, 10, None)), (sent[:-1], 50, (5, 5, 3, 5, 6, 10, 60)),
             (sent[1:], 50, (5, 5, 2, 5, 6, 30, 10)), (sent[:1], 0, (1, 1, 1, 1, 1, 10, None)),
             ([(0, b"x"), *sent[1:2]], 10, (2, 1, 0, 2, 2, None, None)),
-            ([*sent[:3], *sent[4:]], 50, (5, 5, 3, 5, 6, 10, 45)), ([], 50, (0, 0, 0, 0, 6, None,
-                                                                             10))]
-        for shift, (some, length, wanted) in itertools.product(SHIFTS, rows):
-            fit = self.fit(some, length=length, shift=shift)
-            self.assertEqual(fit[1:8], wanted, (some, length))
-            self.assertEqual((fit.origin, fit.start, fit.delays), (
-                (shift - 10 * TICKS) % CLOCK, 10, []), some)
-            self.assertEqual((fit.score(), fit.score(False)), (
-                fit.matches + fit.content_matches, fit.matches + fit.text_matches),
-                             (shift, some, length))
+            ([*sent[:3], *sent[4:]], 50, (5, 5, 3, 5, 6, 10, 45)),
+            ([], 50, (0, 0, 0, 0, 6, None, 10))]
+        for shift, (changes, length, counts) in itertools.product(SHIFTS, rows):
+            fit = self.fit(changes, length=length, shift=shift)
+            self.assertEqual(fit, OriginFit((shift - 10 * TICKS) % CLOCK, *counts, start=10,
+                                            delays=[]), changes)
+            self.assertEqual((fit.score(), fit.score(counts_erasures=False)), (
+                fit.matches + fit.content_matches, fit.matches + fit.text_matches), changes)
 
-    def test_computes_origin_and_delays_of_pts_off_their_frames(self) -> None:
-        for offs, rest, exact in (((0, 0, 0, 0, 0, 0), 0, 6), ((0, 0, 5, 5, 5, 5), 5, 4),
-                                  ((-9, -9, 0, 0, 0, 7), 0, 3), ((-9, -9, -9, -9, 0, 7), -9, 4),
-                                  ((1, 2, 3, 4, 5, 6), 4, 1)):
-            fit = self.fit(self.SENT, offs)
+    def test_the_origin_is_that_of_most_cues(self) -> None:
+        # The ticks by which each PTS is later than its frame, those of the origin, and how many
+        # cues are at the start of a frame
+        for ticks, rest, exact in (((0, 0, 0, 0, 0, 0), 0, 6), ((0, 0, 5, 5, 5, 5), 5, 4),
+                                   ((-9, -9, 0, 0, 0, 7), 0, 3), ((-9, -9, -9, -9, 0, 7), -9, 4),
+                                   ((1, 2, 3, 4, 5, 6), 4, 1)):
+            fit = self.fit(self.SENT, ticks)
             self.assertEqual((fit.origin, fit.exact_matches), ((rest - 10 * TICKS) % CLOCK, exact),
-                             offs)
+                             ticks)
+
+    def test_measures_the_delay_of_each_matching_cue_in_whole_frames(self) -> None:
         late = [(1, b"a"), (10, b""), (22, b"b"), (36, b""), (42, b"x"), (50, b"")]
-        fit = self.fit(late, within=2)
-        self.assertEqual((fit.origin, *fit[1:8], fit.delays), (
-            -10 * TICKS % CLOCK, 5, 5, 2, 5, 6, 10, 50, [1, 0, 2, 1, 0]))
-        fields = self.fit(late, [0, 1800, 9, -9, 0, 5], within=2)
-        self.assertEqual(fields, fit)
-        for frame, text, is_there in ((20, b"b", True), (20, b"x", False), (21, b"b", False)):
-            item = make_time_base(self.cues, [(TICKS * frame, text)])
-            self.assertEqual(item.has_text_at(self.cues[2], 10), is_there, (frame, text, is_there))
-        item = make_time_base(self.cues,
-                              [(TICKS * 20, b"b"), (TICKS * 21, b"x"), (TICKS * 22, b"b"),
-                               (TICKS * 36, b"")], 60, 2)
-        for at, start, by in ((2, 10, 0), (2, 9, 1), (2, 8, 0), (2, 7, None), (2, 11, 1),
-                              (3, 10, 1), (3, 9, 0), (3, 8, None), (3, 11, 2)):
-            match = item.find_match(self.cues[at], start)
-            self.assertEqual(match and match.delay, by, (at, start))
-        fit = make_time_base(self.cues, [(TICKS * 22, b"b")], 60, 2).fit(10)
+        for ticks in ([0] * 6, [0, 1800, 9, -9, 0, 5]):
+            fit = self.fit(late, ticks, within=2)
+            self.assertEqual((fit.origin, fit.delays, fit.first_unmatched),
+                             (-10 * TICKS % CLOCK, [1, 0, 2, 1, 0], 50), ticks)
+            self.assertEqual((fit.matches, fit.text_matches, fit.total), (5, 2, 6), ticks)
+
+    def test_says_whether_the_text_of_a_cue_is_sent_in_its_frame(self) -> None:
+        for frame, text, expected in ((20, b"b", True), (20, b"x", False), (21, b"b", False)):
+            base = self.make_base([(frame, text)])
+            self.assertEqual(base.has_text_at(self.cues[2], 10), expected, (frame, text))
+
+    def test_matches_the_first_change_to_the_expected_page_within_the_tolerance(self) -> None:
+        base = self.make_base([(20, b"b"), (21, b"x"), (22, b"b"), (36, b"")], within=2)
+        # The cue, the frame of the first PTS, and the delay of the match
+        for at, start, delay in ((2, 10, 0), (2, 9, 1), (2, 8, 0), (2, 7, None), (2, 11, 1),
+                                 (3, 10, 1), (3, 9, 0), (3, 8, None), (3, 11, 2)):
+            match = base.find_match(self.cues[at], start)
+            self.assertEqual(match and match.delay, delay, (at, start))
+
+    def test_a_delay_of_all_cues_is_part_of_the_origin(self) -> None:
+        fit = self.make_base([(22, b"b")], within=2).fit(10)
         self.assertEqual((fit.start, fit.delays), (8, [0]))
-        base = make_time_base(self.cues, [(TICKS * (frame + 2), text) for frame, text in self.SENT],
-                              60, 2)
-        for start in (8, 9, 10):  # all cues have the same delay
+        base = self.make_base([(frame + 2, text) for frame, text in self.SENT], within=2)
+        for start in (8, 9, 10):
             self.assertEqual((base.fit(start).start, base.fit(start).delays), (8, [0] * 6), start)
-        self.assertEqual([min(item.delays) for item in base.fits], [0] * len(base.fits))
-        self.assertEqual((make_time_base(self.cues, []).fits, make_time_base([], self.SENT).fits),
-                         ([], []))
+        self.assertEqual([min(fit.delays) for fit in base.fits], [0] * len(base.fits))
+
+    def test_finds_no_origin_without_cues_or_changes(self) -> None:
+        self.assertEqual(make_time_base(self.cues, []).fits, [])
+        self.assertEqual(make_time_base([], self.SENT).fits, [])
 
     def find_offset(self, sent: Sequence[tuple[int, bytes]], within: int = 0,
                     cues: Sequence[ExpectedCue] = cues, start: int = 10) -> CueOffset | None:
-        """Return the difference between the delays of in-cues and out-cues, if it is constant."""
+        """Return the constant delay of in-cues after out-cues, or of out-cues after in-cues.
+
+        It has whether it is of in-cues, the frames, and how many of these cues have this delay.
+        """
         base = make_time_base(cues, [(TICKS * frame, text) for frame, text in sent], 1000, within)
         return base.find_cue_offset(base.compare(start))
 
@@ -213,39 +251,43 @@ class Fits(Case):
                        None if on_time == 2 else CueOffset(is_begin, 7, 10 - on_time, 10))
 
     def test_counts_cues_with_a_delay(self) -> None:
-        base = make_time_base(self.cues, [(TICKS * frame, text) for frame, text in self.SENT], 49)
-        for is_begin, late, matches, of in (
+        base = self.make_base(self.SENT, length=49)
+        # Whether in-cues are counted, their delay in frames, how many have it, and how many would
+        # be sent during the time base
+        for is_begin, late, matches, total in (
                 (True, 0, 3, 3), (False, 0, 2, 2), (True, 10, 0, 2), (True, -1, 0, 2),
                 (False, -1, 0, 3), (True, 9, 0, 3), (False, -36, 0, 1), (True, 20, 0, 2)):
             self.check(f"in-cues {is_begin}, {late} late", base.count_delayed(
-                base.compare(10), is_begin, late), CueOffset(is_begin, late, matches, of))
+                base.compare(10), is_begin, late), CueOffset(is_begin, late, matches, total))
 
     def test_in_cues_determine_the_origin_if_only_out_cues_are_on_time(self) -> None:
-        for by in (-3, 3):
+        for by in (-3, 3):  # in-cues are three frames earlier or later than out-cues
             sent = [(frame + 9 + by * bool(text), text) for frame, text in self.SENT]
-            base = make_time_base(self.cues, [(TICKS * frame, text) for frame, text in sent], 70)
+            base = self.make_base(sent, length=70)
             self.check(f"{by}", self.find_offset(sent, start=1), CueOffset(True, by, 3, 3))
             for start in (1, 1 - by):
                 self.check(f"{by}: start from {start}",
                            base.align_to_in_cues(base.compare(start)).start, 1 - by)
 
-    def test_samples_the_votes_of_many_changes(self) -> None:
-        sent = [(TICKS * at, b"x") for at in range(0, 80, 2)] + [
-            (TICKS * (cue.frame + 500), b"y") for cue in self.cues] + [(TICKS * 900, b"x")]
+    def test_samples_many_changes_to_find_origins(self) -> None:
+        # The pairs of a cue and a change that are compared at most; there are 6 cues, 44 changes.
+        sent = [(at, b"x") for at in range(0, 80, 2)] + [
+            (cue.frame + 500, b"y") for cue in self.cues] + [(900, b"x")]
         for votes in (1 << 20, 100):
             with mock.patch("subtitles.clock.alignment.VOTES", votes):
-                starts = [fit.start for fit in make_time_base(self.cues, sent).fits]
+                starts = [fit.start for fit in self.make_base(sent, length=9999).fits]
             self.assertIn(-500, starts, votes)
         with mock.patch("subtitles.clock.alignment.VOTES", 60):
-            self.assertEqual(len(find_changes_by_time([make_time_base(self.cues * 2, sent)], 12)),
-                             12)
-        for count, votes in ((MAX_REPEATED_TEXTS, True), (MAX_REPEATED_TEXTS + 1, False)):
+            base = make_time_base(self.cues * 2, [(TICKS * frame, text) for frame, text in sent])
+            self.assertEqual(len(find_changes_by_time([base], 12)), 12)
+
+    def test_ignores_texts_of_more_cues_than_the_maximum(self) -> None:
+        for count, is_counted in ((MAX_REPEATED_TEXTS, True), (MAX_REPEATED_TEXTS + 1, False)):
             cues = [ExpectedCue(1000 * at * at, b"x", True) for at in range(count)] + [
                 ExpectedCue(5, b"", False), ExpectedCue(7, b"y", True)]
-            result = make_time_base(cues, [(TICKS, b"x"), (2 * TICKS, b""),
-                                           (3 * TICKS, b"y")]).count_equal_texts()
-            self.assertEqual(result, {4: 1, **{1000 * at * at - 1: 1 for at in range(
-                count * votes)}}, (count, votes))
+            base = make_time_base(cues, [(TICKS, b"x"), (2 * TICKS, b""), (3 * TICKS, b"y")])
+            self.assertEqual(base.count_equal_texts(), {7 - 3: 1, **{
+                1000 * at * at - 1: 1 for at in range(count if is_counted else 0)}}, count)
 
     def test_returns_texts_that_are_sent_once(self) -> None:
         self.assertEqual(find_single_texts([(1, b"a"), (2, b""), (3, b"b"), (4, b"a"), (5, b""),
@@ -254,21 +296,23 @@ class Fits(Case):
 
 
 class Parts(unittest.TestCase):
+    """Six subtitles from frame 100 to frame 650. The second half begins with frame 400."""
+
     shown = [ExpectedSubtitle(100 * at, 100 * at + 50, at, b"%d" % at) for at in range(1, 7)]
 
-    def parts(self, shown: Sequence[ExpectedSubtitle], later: int, is_anew: bool,
+    def parts(self, shown: Sequence[ExpectedSubtitle], later: int, has_two_bases: bool,
               extra: Sequence[tuple[int, bytes]] = ()) -> list[EstimatedPart]:
         """Return the parts of a programme whose second half is `later` frames late.
 
-        If `is_anew` is true, the second half has its own time base. `extra` contains further page
-        changes of the first half.
+        Both halves share a time base, or each has its own. `extra` contains further page changes of
+        the first half.
         """
         cues = find_expected_cues(shown)
         half = sum(cue.frame < 400 for cue in cues)
         first = [(TICKS * cue.frame, cue.letters) for cue in cues[:half]]
         second = [(TICKS * (cue.frame + later), cue.letters) for cue in cues[half:]]
         first += [(TICKS * frame, letters) for frame, letters in extra]
-        several = [first, second] if is_anew else [sorted(first + second)]
+        several = [first, second] if has_two_bases else [sorted(first + second)]
         bases = [make_time_base(cues, some, 6000) for some in several]
         row = [Stretch(Track(0, 0, bases[0]), 0, half),
                Stretch(Track(len(bases) - 1, -later, bases[-1]), half, len(cues))]
@@ -287,17 +331,17 @@ class Parts(unittest.TestCase):
             (up_to, [(400, b"")], [(100, 400, 6, 6, 0), (400, 650, 6, 6, 0)]),
             (into, [], [(100, 250, 4, 4, 1), (400, 650, 5, 6, 0)]),
             (two, [], [(100, 230, 4, 4, 1), (400, 650, 5, 6, 0)])]
-        for (some, extra, wanted), is_anew in itertools.product(rows, (False, True)):
-            result = self.parts(some, 4000, is_anew, extra)
+        for (some, extra, wanted), has_two_bases in itertools.product(rows, (False, True)):
+            result = self.parts(some, 4000, has_two_bases, extra)
             self.assertEqual([(*item[:2], item.best.matches, item.best.total, len(item.overlapping))
                               for item in result], wanted, some)
             self.assertEqual([(item.best.start, item.base, item.early) for item in result],
-                             [(0, 0, None), (-4000, int(is_anew), None)], some)
+                             [(0, 0, None), (-4000, int(has_two_bases), None)], some)
             first, second = ([*item.time_base.changes] for item in result)
             beside = sorted(frame for frame, _ in extra)
             last = some[2].begin if wanted[0][4] else min(some[2].end, 399)
             self.assertEqual((first[-1], second[0]), (
-                beside[-1] if beside else last, 4400 if is_anew else min(
+                beside[-1] if beside else last, 4400 if has_two_bases else min(
                     [item for item in beside if item > last] + [4400])), some)
 
     def test_each_part_has_its_own_delays(self) -> None:
