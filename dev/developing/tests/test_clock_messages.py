@@ -6,20 +6,20 @@ import unittest
 from types import SimpleNamespace
 from typing import Any, Sequence
 
-from subtitles.clock.alignment import EarlyCues
+from subtitles.clock.alignment import CueOffset, EarlyCues
 from subtitles.clock.origin import (
     OriginEstimate, OriginSearch, format_breaks, compare_with_known_origin, format_part,
     report_sent_pages, shift_lines, store_parts)
 from subtitles.clock.start import (
     Clock, ESTIMATED_NOTE, FirstPicture, GIVEN, NoFirstPicture, RECORDING, START, TCP,
-    compute_start_clock, count_skipped, describe_largest_offset, find_first_picture)
+    StartClock, compute_start_clock, count_skipped, describe_largest_offset, find_first_picture)
 from subtitles.clock.stretches import Stretch
 from subtitles.common.times import CLOCK, TICKS
 from subtitles.request.request import ORIGIN_CHOICE, Selection, Unclear
 from subtitles.stream.packets import GapMarker, PacketRun, Packets, PageChange
 from subtitles.stream.survey import Survey
 from .streams import HEVC, H_264, MPEG_2
-from .parts import make_example_request
+from .parts import make_example_request, read_survey
 
 ORIGIN = CLOCK - 5 * TICKS
 
@@ -30,43 +30,43 @@ def make_part_at(frames: int, begin: int = 0, base: int = 0) -> Any:
 
 
 class OriginLines(unittest.TestCase):
-    def part(self, matches: int, total: int, letters: int, cues: int = 20, **more: Any) -> Any:
-        """Return a part in which `matches` of `total` cues match at the best origin."""
-        best: dict[str, Any] = {"matches": matches, "total": total,
-                                "content_matches": letters, "exact_matches": matches,
-                                "first_unmatched": None, "delays": [0], "origin": 9, "start": 0}
+    def part(self, matches: int, total: int, content_matches: int, cues: int = 20, **more: Any
+             ) -> Any:
+        """Return a part whose best origin is 9, with `matches` of `total` cues.
+
+        `content_matches` of them match the expected page. `more` has other members of the best
+        origin, and `others` (other origins), `within`, `early` and `cue_offset`.
+        """
+        best: dict[str, Any] = {"matches": matches, "total": total, "origin": 9, "start": 0,
+                                "content_matches": content_matches, "exact_matches": matches,
+                                "first_unmatched": None, "delays": [0]}
         best.update({name: more.pop(name) for name in list(more) if name in best})
         fit = SimpleNamespace(**best, score=lambda is_one=True: best["matches"])
-        sent = SimpleNamespace(cues=[None] * cues, within=more.get("within", 0),
-                               find_cue_offset=lambda _: more.get("apart"))
-        return SimpleNamespace(best=fit, others=more.get("others", []), time_base=sent,
+        base = SimpleNamespace(cues=[None] * cues, within=more.get("within", 0),
+                               find_cue_offset=lambda _: more.get("cue_offset"))
+        return SimpleNamespace(best=fit, others=more.get("others", []), time_base=base,
                                early=more.get("early"), origin=9, begin=0, end=50, base=0,
                                overlapping=[])
 
-    def store(self, parts: Sequence[Any], bases: Sequence[Any] = (), **asked: Any
+    def store(self, parts: Sequence[Any], bases: Sequence[Any] = (), **options: Any
               ) -> OriginEstimate:
-        """Return the estimate with these parts; `asked` contains the options of the search."""
+        """Return the estimate with these parts if the search has these options."""
         estimate = OriginEstimate()
-        store_parts(estimate, OriginSearch("a", "b", **asked), bases, parts)
+        store_parts(estimate, OriginSearch("a", "b", **options), bases, parts)
         return estimate
 
-    def other(self, origin: int, matches: int) -> Any:
-        return SimpleNamespace(origin=origin, matches=matches, start=900, text_matches=1,
-                               score=lambda is_one=True: matches)
-
     def test_describes_a_part_by_its_best_origin(self) -> None:
-        def cues(found: str, others: str = "no other origin matches a cue",
-                 total: str = "the file has 20 cues") -> str:
-            matches, _, letters = found.partition(" match, ")
-            return f"{matches} cues in the recording match, {letters} with the expected text; " \
-                f"{total}; {others}"
+        def cues(found: str, others: str = "no other origin matches a cue") -> str:
+            matches, _, expected = found.partition(" match, ")
+            return f"{matches} cues in the recording match, {expected} with the expected text; " \
+                f"the file has 20 cues; {others}"
 
         next_best = "the next best is --origin 0 with 9 cues"
         ambiguous = "ambiguous: --origin 9 fits no better than --origin 0, --origin 1, " \
             "--origin 2, --origin 3, --origin 4"
-        other = [self.other(at, 9) for at in range(7)]
-        begins, ends = (SimpleNamespace(is_begin=is_begin, matches=matches, total=5, delay=late)
-                        for is_begin, matches, late in ((True, 5, 2), (False, 4, -1)))
+        other = [SimpleNamespace(origin=at, matches=9, start=900, text_matches=1,
+                                 score=lambda is_one=True: 9) for at in range(7)]
+        begins, ends = CueOffset(True, 2, 5, 5), CueOffset(False, -1, 4, 5)
         late: dict[str, Any] = {"within": 3, "delays": [0]}
         rows: dict[str, tuple[Any, list[str]]] = {
             "seven other origins": (self.part(9, 9, 9, others=other), [
@@ -94,37 +94,46 @@ class OriginLines(unittest.TestCase):
                 cues("3 of 3 match, 3"), "cues are 1 to 3 frames late (median 2)"]),
             "cues on time and late": (self.part(2, 2, 2, within=3, delays=[1, 0]), [
                 cues("2 of 2 match, 2"), "cues are 0 to 1 frame late (median 1)"]),
-            "late in-cues": (self.part(4, 9, 4, apart=begins), [
+            "late in-cues": (self.part(4, 9, 4, cue_offset=begins), [
                 cues("4 of 9 match, 4"),
                 "all in-cues are 2 frames late compared with the out-cues"]),
-            "early out-cues": (self.part(4, 9, 4, apart=ends), [
+            "early out-cues": (self.part(4, 9, 4, cue_offset=ends), [
                 cues("4 of 9 match, 4"),
                 "4 of 5 out-cues are 1 frame early compared with the in-cues"])}
         for name, (part, lines) in rows.items():
             with self.subTest(name):
-                self.assertEqual([*format_part(part, 20, True)], lines)
-                self.assertEqual([*format_part(part, 20)], [
+                self.assertEqual([*format_part(part, count=20, has_picture=True)], lines)
+                self.assertEqual([*format_part(part, count=20)], [
                     line.replace("--origin or --start", "--origin") for line in lines])
-        for off in (1, 9):
-            self.assertEqual([*format_part(self.part(9, 9, 9, exact_matches=9 - off), 9)], [
-                cues("9 of 9 match, 9", total="this part has 20 cues"),
-                f"{off} of the matching cues match only to the nearest frame: PTS that are not "
-                "whole frames apart are refused with fault 61"], off)
+
+    def test_reports_how_many_cues_match_only_to_the_nearest_frame(self) -> None:
+        for count in (1, 9):
+            part = self.part(9, 9, 9, exact_matches=9 - count)
+            self.assertEqual([*format_part(part, count=20)][1:], [
+                f"{count} of the matching cues match only to the nearest frame: PTS that are not "
+                "whole frames apart are refused with fault 61"], count)
+
+    def test_says_how_many_cues_a_part_has_if_the_file_has_others(self) -> None:
+        for count, words in ((20, "the file has 20 cues"), (9, "this part has 20 cues")):
+            line, = format_part(self.part(9, 9, 9), count)
+            self.assertIn(f"; {words};", line)
 
     def test_needs_one_part_more_than_breaks(self) -> None:
         for count, breaks in itertools.product(range(5), (1, 2, 3)):
             parts = [self.part(20, 20, 20) for _ in range(count)]
             estimate, found = self.store(parts, breaks=breaks), max(count - 1, 0)
-            is_right = count == breaks + 1
             words = {0: "no break", 1: "1 break"}.get(found, f"{found} breaks")
             with self.subTest(parts=count, breaks=breaks):
-                self.assertEqual((estimate.status, len(estimate.parts), estimate.breaks),
-                                 (0, count, None) if is_right else (1, 0, found))
-                self.assertTrue(is_right or estimate.lines == [
-                    f"{words} found, but --breaks is {breaks}", *format_breaks(parts)], estimate)
+                result = estimate.status, len(estimate.parts), estimate.breaks
+                if count == breaks + 1:
+                    self.assertEqual(result, (0, count, None))
+                else:
+                    self.assertEqual(result, (1, 0, found))
+                    self.assertEqual(estimate.lines, [
+                        f"{words} found, but --breaks is {breaks}", *format_breaks(parts)])
 
     def test_describes_each_part(self) -> None:
-        in_two_parts = [f"the subtitle from 00:00:0{at}:00 to 00:00:0{at + 2}:00 reaches into the "
+        in_no_part = [f"the subtitle from 00:00:0{at}:00 to 00:00:0{at + 2}:00 reaches into the "
                         "next part, so it is in no part" for at in range(3)]
         for origin, bases in itertools.product((None, 9), (1, 2)):
             parts = [self.part(cues - 1, cues, cues - 1, cues) for cues in (20, 12, 6)]
@@ -147,8 +156,8 @@ class OriginLines(unittest.TestCase):
             self.assertEqual((estimate.status, estimate.ticks_late), (0, origin and 0))
             self.assertEqual(estimate.lines, [
                 "3 parts: 35 of 38 cues match", *format_breaks(parts), *format_part(parts[0], 38),
-                *["the subtitles match --origin 9"] * (origin == 9), *in_two_parts[:2],
-                *format_part(parts[1], 38), in_two_parts[2], *format_part(parts[2], 38)])
+                *["the subtitles match --origin 9"] * (origin == 9), *in_no_part[:2],
+                *format_part(parts[1], 38), in_no_part[2], *format_part(parts[2], 38)])
 
     def test_is_unclear_if_many_cues_of_a_part_are_early(self) -> None:
         many, few = EarlyCues(9, 20, 1), EarlyCues(1, 30, 1)
@@ -158,10 +167,11 @@ class OriginLines(unittest.TestCase):
                                       ((None, many), 9, 1), ((many, few), 9, 0)):
             parts = [self.part(20, 20, 20, early=item) for item in early]
             estimate = self.store(parts, [parts[0].time_base], origin=origin, breaks=1)
-            self.assertEqual((estimate.status, len(estimate.parts)), (status, 2 - 2 * status),
+            self.assertEqual((estimate.status, len(estimate.parts)), (status, 0 if status else 2),
                              early)
 
     def test_compares_an_origin_with_a_given_one(self) -> None:
+        # The given origin, the estimated origin, and the line about them
         rows: list[tuple[int | None, int, str]] = [
             (None, 0, ""), (None, TICKS - 1, ""), (None, 251 * TICKS, ""),
             (None, 250 * TICKS, "compared with --origin 0, the subtitles are 250 frames late"),
@@ -178,34 +188,30 @@ class OriginLines(unittest.TestCase):
             self.assertEqual(origin_estimate.ticks_late, None if known is None else
                              (origin - known) % CLOCK, (known, origin))
 
-    def test_lists_the_contents_of_a_recording(self) -> None:
+    def test_reports_skipped_pes_packets_and_other_pages(self) -> None:
+        pages = {"888": 9, "150": 2, "777": 3, "101": 1, "102": 1, "103": 1, "104": 1}
+        cut = "one: is cut; only the PES packets before it are used"
+        marked = "1 gap marker was ignored here, but check refuses gap markers (fault 45)"
+        # Two PES packets with a PTS, a gap marker, and a PES packet without a PTS
         runs = [PacketRun(0, 2, 0, TICKS, "h", ""), PacketRun(2, 1, None, 0, "m", ""),
                 PacketRun(3, 1, None, 0, "", "")]
-        marks, change = [GapMarker(2, None, 0, 0)], PageChange(0, b"", 0)
-        rows: list[tuple[list[PacketRun], list[GapMarker], str, list[PageChange], list[str]]] = [
-                (runs[:1], [], "", [change], []),
-                (runs[:1], [], "is cut", [change],
-                 ["one: is cut; only the PES packets before it are used"]),
-                (runs[:2], marks, "", [change],
-                 ["1 gap marker was ignored here, but check refuses gap markers (fault 45)"]),
-                (runs, marks, "is cut", [change], [
-                    "one: is cut; only the PES packets before it are used",
-                    "1 gap marker was ignored here, but check refuses gap markers (fault 45)",
-                    "1 of 4 PES packets have no PTS and were skipped: they are refused with "
-                    "fault 34"]),
-                (runs[:1], [], "", [], ["one has no header of page 888; other subtitle pages: 777, "
-                                        "150, 101, 102, 103"])]
-        for several, some, damage, changes, printed in rows:
-            lines, packets = list[str](), Packets(0, several)
-            packets.gap_markers, packets.changes = some, changes
-            packets.damage = damage
-            packets.header_counts = {"888": 9, "150": 2, "777": 3, "101": 1, "102": 1, "103": 1,
-                                     "104": 1}
-            self.assertEqual((report_sent_pages(packets, OriginSearch("a", "one"), lines), lines),
-                             (bool(changes), printed), (several, some, damage))
-        packets.header_counts = {"888": 9}
-        self.assertFalse(report_sent_pages(packets, OriginSearch("a", "one"), lines))
-        self.assertEqual(lines[-1], "one has no header of page 888; other subtitle pages: none")
+        rows: dict[str, tuple[int, str, bool, dict[str, int], list[str]]] = {
+            "only PTS": (1, "", True, pages, []), "cut off": (1, "is cut", True, pages, [cut]),
+            "a gap marker": (2, "", True, pages, [marked]),
+            "all": (3, "is cut", True, pages, [
+                cut, marked, "1 of 4 PES packets have no PTS and were skipped: they are refused "
+                "with fault 34"]),
+            "other pages": (1, "", False, pages, ["one has no header of page 888; other subtitle "
+                                                  "pages: 777, 150, 101, 102, 103"]),
+            "no other page": (1, "", False, {"888": 9}, ["one has no header of page 888; other "
+                                                         "subtitle pages: none"])}
+        for name, (count, damage, is_sent, header_counts, expected) in rows.items():
+            lines, packets = list[str](), Packets(0, runs[:count])
+            packets.gap_markers = [GapMarker(2, None, 0, 0)] * (count > 1)
+            packets.changes = [PageChange(0, b"", 0)] * is_sent
+            packets.damage, packets.header_counts = damage, header_counts
+            self.assertEqual(report_sent_pages(packets, OriginSearch("a", "one"), lines), is_sent)
+            self.assertEqual(lines, expected, name)
 
     def test_reports_the_length_of_each_break(self) -> None:
         parts = [make_part_at(0), make_part_at(25, 100), make_part_at(-50, 200),
@@ -243,11 +249,12 @@ class OriginLines(unittest.TestCase):
         self.assertEqual(self.shift_texts(0, 5, 1, bases=(0, 1, 1)), [
             "from 00:01:00:00 on, where the PTS go back, subtitles are 0.20 s (5 frames) late",
             f"from 00:02:00:00 {printed} 0.04 s (1 frame) late"])
-        for count, left in ((20, 0), (21, 1), (25, 5)):
-            result = self.shift_texts(*((at * 7) % 5 * 30 for at in range(count + 1)))
-            words = f"and {left} more change{'s' * (left != 1)}"
-            self.assertEqual((len(result), words in result), (20 + (left > 0), left > 0), result)
-            self.assertTrue(result[-1].startswith(f"from 00:{count:02}:00:00"), result)
+
+    def test_reports_the_first_19_changes_of_the_delay_and_the_last(self) -> None:
+        for count, omitted in ((20, ""), (21, "and 1 more change"), (25, "and 5 more changes")):
+            *lines, last = self.shift_texts(*((at * 7) % 5 * 30 for at in range(count + 1)))
+            self.assertEqual((len(lines[:19]), lines[19:]), (19, [omitted] * bool(omitted)), count)
+            self.assertTrue(last.startswith(f"from 00:{count:02}:00:00"), last)
 
 
 TELETEXT, VIDEO = 0x101, 0x200
@@ -260,95 +267,118 @@ def list_programme_lines(*streams: tuple[int, int]) -> list[str]:
             *(f"stream {pid} {kind}" for pid, kind in streams)]
 
 
-def survey_lines(lines: Sequence[str], is_whole: bool = True) -> Survey:
-    survey = Survey()
-    for line in lines:
-        survey.read_line(line)
-    survey.is_complete = is_whole
+def survey_lines(lines: Sequence[str], is_complete: bool = True) -> Survey:
+    survey = read_survey(*lines)
+    survey.is_complete = is_complete
     return survey
+
+
+def list_picture_lines(*pts: int, kind: int = MPEG_2, skipped: int = 0) -> list[str]:
+    """Return the lines of `survey` for pictures with these PTS, after `skipped` other pictures."""
+    return [*list_programme_lines((VIDEO, kind)), f"video {VIDEO} {skipped}",
+            *(f"picture {VIDEO} {item}" for item in pts)]
 
 
 def make_picture_lines(frames: Sequence[int | None], end: str = "0 0") -> list[str]:
     """Return the lines of `survey` for pictures at these frames, after three other pictures.
 
-    The PTS wrap between the pictures.
+    The PTS wrap between the pictures. `end` has the numbers of lost and of scrambled packets.
     """
     pts = ["-" if item is None else (CLOCK - 5 + TICKS * item) % CLOCK for item in frames]
-    return [*list_programme_lines((VIDEO, MPEG_2)), f"video {VIDEO} 3",
-            *(f"picture {VIDEO} {item}" for item in pts), f"pictures {VIDEO} {end}"]
+    return [*list_picture_lines(skipped=3), *(f"picture {VIDEO} {item}" for item in pts),
+            f"pictures {VIDEO} {end}"]
+
+
+def find(lines: Sequence[str], is_complete: bool = True) -> str | FirstPicture:
+    """Find the first picture in lines of `survey`. Return the reason if there is none."""
+    try:
+        return find_first_picture(survey_lines(lines, is_complete), TELETEXT)
+    except NoFirstPicture as reason:
+        return str(reason)
 
 
 class FirstPictures(unittest.TestCase):
-    def said(self, lines: Sequence[str], is_whole: bool = True) -> str | FirstPicture:
-        try:
-            return find_first_picture(survey_lines(lines, is_whole), TELETEXT)
-        except NoFirstPicture as reason:
-            return str(reason)
+    """The first picture of a programme with Teletext on PID 0x101 and video on PID 0x200."""
 
     def test_uses_the_smallest_pts(self) -> None:
         for frames, least in ((GROUP, 0), ([0], 0), ([7, 5, 6], 5), ([0, 1, 2], 0)):
-            self.assertEqual(self.said(make_picture_lines(frames)), FirstPicture(
-                VIDEO, MPEG_2, (CLOCK - 5 + TICKS * least) % CLOCK, 3), frames)
-        for kind in (0x01, H_264, HEVC):
-            lines = [*list_programme_lines((VIDEO, kind)), f"video {VIDEO} 0", f"picture {VIDEO} 9"]
-            self.assertEqual(self.said(lines), FirstPicture(VIDEO, kind, 9, 0), kind)
+            self.assertEqual(find(make_picture_lines(frames)), FirstPicture(
+                VIDEO, MPEG_2, (CLOCK - 5 + TICKS * least) % CLOCK, skipped=3), frames)
+
+    def test_reads_all_supported_formats(self) -> None:
+        for kind in (0x01, MPEG_2, H_264, HEVC):
+            self.assertEqual(find(list_picture_lines(9, kind=kind)),
+                             FirstPicture(VIDEO, kind, 9, skipped=0), kind)
         self.assertIn("(HEVC, PID 0x200) has PTS 9; 1 earlier PES packet of video was skipped",
-                      FirstPicture(VIDEO, HEVC, 9, 1).line())
+                      FirstPicture(VIDEO, HEVC, 9, skipped=1).line())
 
-    def test_takes_all_pmts_into_account(self) -> None:
-        first = FirstPicture(VIDEO, MPEG_2, 0, 0)
-        begun, none = [f"video {VIDEO} 0", f"picture {VIDEO} 0"], list_programme_lines()
-        own = list_programme_lines((VIDEO, MPEG_2))
-        for tables in ([*none, *own], [*own, *none]):
-            for is_whole in (True, False):
-                self.assertEqual(self.said([*tables, *begun], is_whole), first, is_whole)
-        lines = [*list_programme_lines((VIDEO, MPEG_2)), *begun, f"picture {VIDEO} {3 * TICKS}"]
-        self.assertIn("skip 2 frames", str(self.said(lines)))
-        self.assertEqual(self.said([*lines, f"pictures {VIDEO} 0 0 0 0"]), first)
+    def test_finds_the_video_of_a_pmt_before_or_after_one_without_video(self) -> None:
+        own, none = list_programme_lines((VIDEO, MPEG_2)), list_programme_lines()
+        for tables, is_complete in itertools.product(([*none, *own], [*own, *none]), (True, False)):
+            self.assertEqual(find([*tables, f"video {VIDEO} 0", f"picture {VIDEO} 0"], is_complete),
+                             FirstPicture(VIDEO, MPEG_2, 0, 0), (tables, is_complete))
 
-    def test_uses_the_clock_of_the_first_picture(self) -> None:
+    def test_refuses_skipped_frames_unless_the_group_is_cut_off(self) -> None:
+        lines = list_picture_lines(0, 3 * TICKS)
+        self.assertIn("skip 2 frames", str(find(lines)))
+        self.assertEqual(find([*lines, f"pictures {VIDEO} 0 0 0 0"]),
+                         FirstPicture(VIDEO, MPEG_2, 0, 0))
+
+    def start(self, lines: Sequence[str], pts: Sequence[int], within: int = 0) -> StartClock:
+        """Return the clock if the first picture has the time 00:00:00:02. `pts` are of Teletext."""
+        packets = Packets(TELETEXT, [PacketRun(at, 1, item % CLOCK, 0, "h", "")
+                                     for at, item in enumerate(pts)])
+        request = make_example_request("a.stl", "a.ts", "--start", "00:00:00:02", "--within",
+                                       str(within))
+        return compute_start_clock(request, survey_lines(lines), packets)
+
+    def test_the_clock_of_the_first_picture_is_shifted_to_the_nearest_teletext_pts(self) -> None:
+        # By how many ticks the PTS of Teletext are later than frames of the pictures, --within, and
+        # by how many ticks the clock is shifted (`None`: it is unclear)
         rows: list[tuple[list[int], int, int | None, str]] = [
             ([0], 0, 0, "agrees"), ([1], 0, 1, "shifted forward by 1 tick "),
             ([1799], 0, 1799, "forward"), ([1800], 0, None, ""), ([1801], 0, -1799, "back"),
             ([3599], 0, -1, "shifted back by 1 tick "), ([1800, 1800, 5], 0, None, ""),
             ([1800, 1800, 5], 1, 5, "shifted forward by 5 ticks")]
-        for shift, (several, within, moved, words) in itertools.product((0, CLOCK - 3), rows):
-            lines = [*list_programme_lines((VIDEO, MPEG_2)), f"video {VIDEO} 0",
-                     f"picture {VIDEO} {shift}"]
-            packets = Packets(TELETEXT, [PacketRun(at, 1, (shift + TICKS * (7 + at) + after) %
-                                                   CLOCK, 0,
-                                                   "h", "") for at, after in enumerate(several)])
-            request = make_example_request("a.stl", "a.ts", "--start", "00:00:00:02", "--within",
-                                           str(within))
-            if moved is None:
+        for first, (ticks, within, shift, words) in itertools.product((0, CLOCK - 3), rows):
+            pts = [first + TICKS * (7 + at) + later for at, later in enumerate(ticks)]
+            if shift is None:
                 with self.assertRaises(Unclear):
-                    compute_start_clock(request, survey_lines(lines), packets)
+                    self.start(list_picture_lines(first), pts, within)
                 continue
-            start_clock = compute_start_clock(request, survey_lines(lines), packets)
-            origin = (shift - 2 * TICKS + moved) % CLOCK
-            self.assertEqual((start_clock.clock, start_clock.frame), (Clock(origin, START), 2),
-                             (shift, several, within))
-            self.assertIn(words, start_clock.lines[1], (shift, several, within))
-        lines = [*list_programme_lines((VIDEO, MPEG_2)), f"video {VIDEO} 0",
-                 f"picture {VIDEO} {TICKS}", f"picture {VIDEO} 0", f"group {VIDEO} 0 0 open"]
-        self.assertEqual(compute_start_clock(request, survey_lines(lines),
-                                             packets).clock.picture_offset, -1)
+            start = self.start(list_picture_lines(first), pts, within)
+            origin = (first - 2 * TICKS + shift) % CLOCK
+            self.assertEqual((start.clock, start.frame), (Clock(origin, START), 2), (first, ticks))
+            self.assertIn(words, start.lines[1], (first, ticks))
+
+    def test_gives_the_distance_to_the_other_picture_of_the_group_in_frames(self) -> None:
+        lines = [*list_picture_lines(TICKS, 0), f"group {VIDEO} 0 0 open"]
+        clock = self.start(lines, [7 * TICKS, 8 * TICKS + 5], within=1).clock
+        self.assertEqual(clock.picture_offset, -1)
+        for other, frames in ((None, 0), (0, -3), (5 * TICKS + 9, 2), (5 * TICKS - 9, 2),
+                              (CLOCK - TICKS, -4)):
+            self.assertEqual(FirstPicture(VIDEO, MPEG_2, 3 * TICKS, 0, other).picture_offset,
+                             frames, other)
+
+    def test_describes_the_largest_offset_in_ticks_and_milliseconds(self) -> None:
         self.assertEqual(describe_largest_offset(180),
                          "PTS differ from the times of their frames by up to 180 ticks (2.00 ms)")
+
+    def test_only_an_estimated_clock_is_a_choice_with_evidence(self) -> None:
         for source, evidence in itertools.product((RECORDING, GIVEN, START, TCP), (
                 None, Selection(ORIGIN_CHOICE, "8", "words"))):
-            chosen = (evidence or Selection(ORIGIN_CHOICE, "7", ESTIMATED_NOTE))._replace(part=2)
-            self.assertEqual(Clock(7, source, evidence=evidence).get_selection(2),
-                             chosen if source == RECORDING else None, (source, evidence))
-        for other, away in ((None, 0), (0, -3), (5 * TICKS + 9, 2), (5 * TICKS - 9, 2),
-                            (CLOCK - TICKS, -4)):
-            self.assertEqual(FirstPicture(VIDEO, MPEG_2, 3 * TICKS, 0, other).picture_offset, away,
-                             (other, away))
+            chosen = evidence or Selection(ORIGIN_CHOICE, "7", ESTIMATED_NOTE)
+            self.assertEqual(Clock(7, source, evidence=evidence).get_selection(part=2),
+                             chosen._replace(part=2) if source == RECORDING else None,
+                             (source, evidence))
 
     def test_finds_the_first_picture_of_each_kind_of_group(self) -> None:
+        # The PTS of the picture with the random_access_indicator, and the smallest PTS of `GROUP`
         flagged, least = (CLOCK - 5 + TICKS * 2) % CLOCK, CLOCK - 5
         skipped = "; 3 earlier PES packets of video were skipped"
-        for frames, form, first, other, away, more in (
+        # The order of pictures, and whether the group is closed. Expected are the PTS of the first
+        # picture and of the other one, its distance in frames, and the end of the line.
+        for frames, form, first, other, distance, more in (
                 (GROUP, "closed", least, flagged, 2, "; the picture with the "
                  f"random_access_indicator has PTS {flagged}, 2 frames later"),
                 (GROUP, "open", flagged, least, -2, "; earlier pictures of its group, from PTS "
@@ -357,26 +387,28 @@ class FirstPictures(unittest.TestCase):
                  f"PTS {least} on (2 frames), can't be decoded"),
                 ([0, 1, 2], "open", least, None, 0, ""), ([0, 2, 1], "closed", least, None, 0, "")):
             lines = make_picture_lines(frames)
-            result = self.said([*lines[:-1], f"group {VIDEO} {flagged} {least} {form}", lines[-1]])
+            result = find([*lines[:-1], f"group {VIDEO} {flagged} {least} {form}", lines[-1]])
             self.assertEqual(result, FirstPicture(VIDEO, MPEG_2, first, 3, other), (frames, form))
             assert isinstance(result, FirstPicture)
             self.assertEqual((result.picture_offset, result.line()), (
-                away, f"the first picture (MPEG-2, PID 0x200) has PTS {first}{skipped}{more}"),
+                distance, f"the first picture (MPEG-2, PID 0x200) has PTS {first}{skipped}{more}"),
                              (frames, form, first))
 
-    def test_asks_about_a_delay_of_a_picture_distance(self) -> None:
-        for away, delay, words in (
+    def test_asks_about_a_delay_that_is_the_distance_to_the_other_picture(self) -> None:
+        # The distance to the other picture and the delay of the subtitles in frames
+        for distance, delay, words in (
                 (-2, -2, "is the time code from the GOP header?"), (-2, 2, ""), (-2, -1, ""),
                 (-2, 0, ""), (-2, None, ""), (0, 0, ""), (0, None, ""), (2, -2, ""),
                 (2, 2, "is the time code that of the picture with the random_access_indicator?")):
-            printed = Clock(0, START, delay, picture_offset=away).question()
-            self.assertTrue(printed.startswith(words) and bool(printed) == bool(words), printed)
+            question = Clock(0, START, delay, picture_offset=distance).question()
+            self.assertEqual(question[:len(words)] if words else question, words, (distance, delay))
 
     def test_uses_the_first_video_pid_of_a_programme(self) -> None:
         first, moved = list_programme_lines((VIDEO, MPEG_2)), list_programme_lines((0x201, H_264))
         both = list_programme_lines((VIDEO, MPEG_2), (0x201, H_264))
         other = [line.replace("programme 1", "programme 2") for line in moved]
         pictures = make_picture_lines([0, 1])[len(first):]
+        # Lines of PMTs, and whether the first picture on PID 0x200 is found
         rows = {"moved": ([*first, *moved], True),
                 "there and back": ([*first, *moved, *first], True),
                 "then both": ([*first, *both], True), "first both": ([*both, *first], False),
@@ -384,7 +416,7 @@ class FirstPictures(unittest.TestCase):
                 "the other one first": ([*moved, *first], False),
                 "of two programmes": ([*first, *other], False)}
         for name, (lines, is_found) in rows.items():
-            result = self.said([*lines, *pictures])
+            result = find([*lines, *pictures])
             self.assertEqual(isinstance(result, FirstPicture) and result.pid == VIDEO, is_found,
                              (name, result))
 
@@ -412,28 +444,28 @@ class FirstPictures(unittest.TestCase):
                 (make_picture_lines(GROUP[::2] + [9]), True,
                  "skip 3 frames: a PES packet has several")]
         for lines, is_whole, words in rows:
-            self.assertIn(words, self.said(lines, is_whole), (lines, is_whole))
+            self.assertIn(words, find(lines, is_whole), (lines, is_whole))
 
     def test_does_not_take_a_picture_before_an_early_jump(self) -> None:
-        request = make_example_request("a.stl", "a.ts", "--start", "00:00:00:02")
-        packets = Packets(TELETEXT, [PacketRun(0, 1, 7 * TICKS, 0, "h", "")])
-        for passed, number, is_refused in ((0, 20, True), (0, 30, True), (0, 31, False),
-                                           (19, 20, False), (18, 20, True)):
-            lines = [*list_programme_lines((VIDEO, MPEG_2)), f"video {VIDEO} {passed}",
-                     f"picture {VIDEO} 0", f"steps {VIDEO} {TICKS} 2 {TICKS} 2",
+        # The number of pictures before the first one, the number of the picture at which decoding
+        # times jump by 11 frames, and whether it is in between. Teletext follows picture 30.
+        for skipped, number, is_refused in ((0, 20, True), (0, 30, True), (0, 31, False),
+                                            (19, 20, False), (18, 20, True)):
+            lines = [*list_picture_lines(0, skipped=skipped), f"steps {VIDEO} {TICKS} 2 {TICKS} 2",
                      f"steps {VIDEO} {TICKS} {number - 5} {11 * TICKS} {number}",
                      f"steps {VIDEO} {TICKS} 40 {TICKS} 40",
                      *(f"lead {TELETEXT} {at} 0 {VIDEO} {at}" for at in (30, 500))]
-            name = f"{passed} {number}"
+            reason = ""
             try:
-                compute_start_clock(request, survey_lines(lines), packets)
-                self.assertFalse(is_refused, name)
-            except NoFirstPicture as reason:
-                self.assertEqual((str(reason), is_refused), (
-                    "the decoding times of PID 0x200 jump before the first PES packet of PID "
-                    "0x101", True), name)
+                self.start(lines, [7 * TICKS])
+            except NoFirstPicture as error:
+                reason = str(error)
+            self.assertEqual(reason, "the decoding times of PID 0x200 jump before the first PES "
+                             "packet of PID 0x101" if is_refused else "", (skipped, number))
 
     def test_counts_frames_without_a_pts(self) -> None:
+        # The PTS of pictures, whether the recording ends with them, and the number of frames
+        # between them that have no picture
         frame, field = TICKS, TICKS // 2
         long = [frame * item for item in range(260)]
         for pts, is_cut, count in (
