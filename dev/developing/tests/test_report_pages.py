@@ -27,34 +27,39 @@ from .test_judging_status import make_severity
 from .test_judging_verdicts import make_part_verdict
 
 
+# Page address and control bits: with C6, whose pages show only what is within a box, and without it
 SUBTITLE_HEADER, PLAIN_HEADER = bytes([8, 8, 0, 8, 0, 8, 1, 0]), bytes([8, 8, 0, 8, 0, 0, 1, 0])
 
 
 def page(**rows: bytes) -> Rows:
+    """Return a page with the given rows, such as `r20`. All other rows are blank."""
     return tuple(rows.get(f"r{number}", b"").ljust(40) for number in range(1, 25))
 
 
 class Attributes(unittest.TestCase):
-    def look(self, row: bytes, number: int = 20, is_boxed_page: bool = True) -> CellStyle:
-        """Return the display style of the last cell in a row."""
+    def style_last_cell(self, row: bytes, number: int = 20, is_boxed_page: bool = True
+                        ) -> CellStyle:
         return style_row(row, number, 0, is_boxed_page)[-1]
 
-    def test_ignores_parity_bits_conceal_and_single_box_codes(self) -> None:
-        plain = CellStyle("A", 7, 0, False, False, False)
+    def test_only_two_start_box_codes_in_a_row_begin_a_box(self) -> None:
+        # Codes with parity bits or conceal (18) change nothing else.
+        plain = CellStyle("A", ink=7, background=0, boxed=False, flash=False, double=False)
         for row, is_in_box in ((b"\x8b\x8bA", True), (b"\x18A", False), (b"\x0bA", False),
                                (b"\x0b \x0bA", False), (b"\x0b\x0b\x0aA", True)):
-            self.assertEqual(self.look(row), plain._replace(boxed=is_in_box), row)
+            self.assertEqual(self.style_last_cell(row), plain._replace(boxed=is_in_box), row)
 
     def test_double_height_ends_with_row_22(self) -> None:
         for number, expected in ((22, True), (23, False), (24, False)):
-            self.assertEqual(self.look(b"\x0dA", number).double, expected, number)
+            self.assertEqual(self.style_last_cell(b"\x0dA", number).double, expected, number)
 
-    def test_other_pages_are_shown_without_a_box(self) -> None:
+    def test_a_page_without_boxes_is_shown_completely(self) -> None:
         for row in (b"A", b"\x0b\x0bA", b"\x0a\x0aA"):
-            self.assertTrue(self.look(row, is_boxed_page=False).boxed, row)
+            self.assertTrue(self.style_last_cell(row, is_boxed_page=False).boxed, row)
 
     def test_draws_rows_as_ffmpeg_and_libzvbi_do(self) -> None:
-        for codes, *wanted in (
+        # The codes of a row. Expected are, for each cell, the numbers of its ink and background,
+        # b if it is within a box, f if it flashes, and d if it has double height.
+        for codes, *expected in (
                 ("0b 0b 03 1d 61 04 62 1c 63 0a 0a 64", "777333444444", "000333300000",
                  " bbbbbbbbb  ", " " * 12, " " * 12),
                 ("0d 01 0b 0b 08 61 09 62 0c 63 0a 62", "771111111111", "0" * 12, "   bbbbbbbbb",
@@ -66,36 +71,46 @@ class Attributes(unittest.TestCase):
             result = ["".join(letters) for letters in zip(*(
                 (str(cell.ink), str(cell.background), " b"[cell.boxed], " f"[cell.flash],
                  " d"[cell.double]) for cell in cells))]
-            self.assertEqual(result, wanted, codes)
+            self.assertEqual(result, expected, codes)
 
     def test_draws_mosaics_after_a_mosaic_colour(self) -> None:
         for row, letters in ((b"\x11a", "\u2592"), (b"\x11A", "A"), (b"\x11 ", " "),
                              (b"\x11\1a", "a"), (b"\x11!", "\u2592"), (b"a", "a"),
                              (b"\x10a", "\u2592"), (b"\x17a", "\u2592"), (b"\x0fa", "a")):
-            self.assertEqual(self.look(row).characters, letters, row)
+            self.assertEqual(self.style_last_cell(row).characters, letters, row)
 
 
 class Drawings(unittest.TestCase):
-    def test_draws_the_used_rows(self) -> None:
-        rows = page(r20=b"\x0b\x0b\x0dtall", r21=b"\x0b\x0bcovered", r22=b"\x0b\x0b\1seen <")
-        drawn = markup_text(draw_picture(rows, SUBTITLE_HEADER, (19, 23), [(22, 3), (22, 4)]))
-        self.assertEqual(("tall" in drawn, "covered" in drawn, "seen &lt;</text>" in drawn),
-                         (True, False, True))
-        for part, count in (('class="n"', 2), ('<rect class="p0" x="12" width="468" height="30"/>',
-                            1), ('<g transform="translate(0 315)"><rect class="p0" x="12"', 1),
-                            ('class="i1" x="36"', 1), ('transform="scale(1 2)"', 1),
-                            ('<rect class="d1" x="36" y="315" width="24" height="15"/>', 1)):
-            self.assertEqual(drawn.count(part), count, part)
+    ROWS = page(r20=b"\x0b\x0b\x0dtall", r21=b"\x0b\x0bcovered", r22=b"\x0b\x0b\1seen <")
+
+    def test_draws_only_boxes_and_no_row_below_double_height(self) -> None:
+        drawn = markup_text(draw_picture(self.ROWS, SUBTITLE_HEADER, (19, 23), [(22, 3), (22, 4)]))
+        for text, is_drawn in (("tall", True), ("covered", False), ("seen &lt;</text>", True)):
+            self.assertEqual(text in drawn, is_drawn, text)
+        for name, markup, count in (
+                ("row numbers", 'class="n"', 2),
+                ("background", '<rect class="p0" x="12" width="468" height="30"/>', 1),
+                ("row 22", '<g transform="translate(0 315)"><rect class="p0" x="12"', 1),
+                ("red", 'class="i1" x="36"', 1), ("double height", 'transform="scale(1 2)"', 1),
+                ("frame of both cells that differ",
+                 '<rect class="d1" x="36" y="315" width="24" height="15"/>', 1)):
+            self.assertEqual(drawn.count(markup), count, name)
+
+    def test_draws_all_given_rows_of_a_page_without_boxes(self) -> None:
         for header, count in ((PLAIN_HEADER, 3), (SUBTITLE_HEADER, 1)):
-            self.assertEqual(markup_text(draw_picture(rows, header, (18, 20))).count('class="n"'),
-                             count, (header, count))
+            drawn = markup_text(draw_picture(self.ROWS, header, (18, 20)))
+            self.assertEqual(drawn.count('class="n"'), count, header)
         for last, is_there in ((21, False), (22, True)):
-            drawn = markup_text(draw_picture(rows, PLAIN_HEADER, (18, last)))
+            drawn = markup_text(draw_picture(self.ROWS, PLAIN_HEADER, (18, last)))
             self.assertEqual("seen" in drawn, is_there, last)
+
+    def test_marks_cells_of_an_old_row_and_of_bytes_with_even_parity(self) -> None:
         marked = markup_text(draw_row(bytes([OLD] * 3 + [0x41, HIT, HIT]).ljust(40), 20, 0,
                                       True)[0])
         self.assertIn('<rect class="old" x="1" y="1" width="34" height="13"/>', marked)
         self.assertIn('<rect class="hit" x="49" y="1" width="22" height="13"/>', marked)
+
+    def test_a_page_has_boxes_if_c5_or_c6_is_set(self) -> None:
         self.assertEqual([is_boxed(bytes([8, 8, 0, 0, 0, bits, 1, 0])) for bits in (0, 4, 8, 12)],
                          [False, True, True, True])
 
@@ -105,6 +120,7 @@ class Drawings(unittest.TestCase):
         self.assertEqual(re.findall(' d="([^"]*)"', text), ["M0 0H100V10H0zM200 0H202V10H200z"])
 
     def test_frames_neighbouring_cells_once(self) -> None:
+        # Rows and columns of cells, rows with double height, and the number of frames
         rows: list[tuple[list[tuple[int, int]], list[int], int]] = [
             ([], [], 0), ([(5, 1)], [], 1), ([(5, 1), (5, 2)], [], 1), ([(5, 1), (5, 3)], [], 2),
             ([(5, 1), (6, 1)], [], 1), ([(5, 1), (7, 1)], [], 2), ([(5, 1), (7, 1)], [5], 1),

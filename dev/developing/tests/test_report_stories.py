@@ -17,8 +17,9 @@ from .transmissions import (
 HTML = "{http://www.w3.org/1999/xhtml}"
 FOREIGN_MARKUP = re.compile(r"<script|<link|<img|<iframe|@import|\burl\(|\bsrc=|\bon\w+="
                             r"|https?://(?!www\.w3\.org/1999/xhtml)")
-# `count` is the number of subtitles. `bytes` has changed bytes: of the GSI block (block 0), a TTI
-# block or a PES packet, their offset and their value.
+# `count` is the number of subtitles, and `sent` has words of `stories.CHANGES` and `Reports.ways`.
+# `bytes` has changed bytes of the GSI block (block 0), a TTI block or a PES packet: their offset,
+# and their value in hexadecimal digits.
 REPORTS = {story["name"]: story for story in read_table("""
 name              | count | sent                      | options     | bytes
 accepted          | 3     | as scheduled              | --within 1  |
@@ -54,8 +55,7 @@ def is_of(pts: int, number: int) -> bool:
     return 0 <= pts - first_tick(f"{number}") < LASTS * TICKS
 
 
-def change_second_packet(sent: SentPes, change: Callable[[bytes], bytes]) -> SentPes:
-    """Change the first row of subtitle 6."""
+def change_first_row_of_6(sent: SentPes, change: Callable[[bytes], bytes]) -> SentPes:
     return [(pts, [some[0], change(some[1]), *some[2:]] if is_of(pts, 6) else some)
             for pts, some in sent]
 
@@ -63,11 +63,11 @@ def change_second_packet(sent: SentPes, change: Callable[[bytes], bytes]) -> Sen
 class Reports(StoryCase):
     text, lines = b"\3No! <&> %d", 2
     ways = {
-        "6 in row 24": lambda sent: change_second_packet(
+        "6 in row 24": lambda sent: change_first_row_of_6(
             sent, lambda row: make_numbered_row(24, b"\x0dElsewhere.")),
-        "6 with a wrong letter": lambda sent: change_second_packet(
+        "6 with a wrong letter": lambda sent: change_first_row_of_6(
             sent, lambda row: row[:20] + bytes([row[20] ^ 3]) + row[21:]),
-        "6 with an even byte": lambda sent: change_second_packet(
+        "6 with an even byte": lambda sent: change_first_row_of_6(
             sent, lambda row: row[:20] + bytes([row[20] ^ 0x80]) + row[21:]),
         "6 not erased": lambda sent: [item for item in sent if not (
             is_of(item[0] - LASTS * TICKS, 6))],
@@ -100,13 +100,14 @@ class Reports(StoryCase):
         return result, self.read("out/one.html").decode()
 
     def check_page(self, page: str) -> None:
-        """Check that a report is accessible XML without scripts and external resources."""
+        """Check that a report loads nothing, has no broken link, and names its table headers."""
         items = list(tree.fromstring(page).iter())
         self.assertIsNone(FOREIGN_MARKUP.search(page))
-        names = [item.get("id") for item in items if item.get("id")]
-        self.assertEqual(len(names), len(set(names)))
-        links = [item for item in items if item.tag == f"{HTML}a"]
-        self.assertLessEqual({item.get("href") for item in links}, {f"#{name}" for name in names})
+        anchors = [item.get("id") for item in items if item.get("id")]
+        self.assertEqual(len(anchors), len(set(anchors)))
+        links = {item.get("href") for item in items if item.tag == f"{HTML}a"}
+        self.assertLessEqual(links, {f"#{name}" for name in anchors})
+        self.assertTrue(any(item.tag == f"{HTML}th" for item in items))
         for item in items:
             if item.tag == f"{HTML}th":
                 self.assertIn(item.get("scope"), ("col", "row"))
@@ -115,7 +116,7 @@ class Reports(StoryCase):
             elif item.tag == f"{HTML}a":
                 self.assertTrue("".join(item.itertext()).strip())
 
-    def test_reports_are_accessible_and_load_nothing(self) -> None:
+    def test_reports_are_accessible_xml_without_scripts_and_external_resources(self) -> None:
         for name, story in REPORTS.items():
             with self.subTest(name):
                 self.check_page(self.report(story)[1])
@@ -123,7 +124,7 @@ class Reports(StoryCase):
 
 @functools.lru_cache(maxsize=None)
 def make_case() -> Reports:
-    result = Reports("test_reports_are_accessible_and_load_nothing")
+    result = Reports("test_reports_are_accessible_xml_without_scripts_and_external_resources")
     result.folder = result.bench.make_folder("reports")
     return result
 
