@@ -14,7 +14,7 @@ from subtitles.judging.unchecked import MISSING_TEXTS, Unchecked, list_check_ent
 from .bench import Case
 from .judged import ProgrammeCase
 
-# Made, failed, listed: the decision
+# Whether a check was made, failed, and is listed as not made somewhere: the decision about it
 DECISIONS = {(False, False, False): LISTED, (False, False, True): LISTED,
              (False, True, False): FAILED, (False, True, True): LISTED,
              (True, False, False): MADE, (True, False, True): LISTED,
@@ -23,16 +23,18 @@ DECISIONS = {(False, False, False): LISTED, (False, False, True): LISTED,
 
 class Checks(Case):
     def test_a_check_is_made_has_failed_or_is_listed(self) -> None:
-        self.check("all combinations", sorted(DECISIONS),
+        self.check("all combinations are in the table", sorted(DECISIONS),
                    sorted(itertools.product((False, True), repeat=3)))
         for values, decision in DECISIONS.items():
             self.check(f"{values}", decide_check(CheckState(*values)), decision)
+
+    def test_each_kind_of_check_has_a_phrase_and_belongs_to_a_check(self) -> None:
         self.check("kinds", sorted({kind for kinds in CHECKS.values() for kind in kinds}),
                    sorted(CHECK_KINDS))
         self.check("phrases", sorted(PHRASES), sorted(CHECK_KINDS))
-        self.check("first", KINDS[:len(CHECK_KINDS)], CHECK_KINDS)
+        self.check("first kinds", KINDS[:len(CHECK_KINDS)], CHECK_KINDS)
 
-    def test_each_part_lists_each_check_that_was_not_made(self) -> None:
+    def test_a_part_gets_an_entry_for_a_check_that_was_not_made_and_has_no_entry(self) -> None:
         states = [CheckState(is_made, has_failed) for is_made in (False, True)
                   for has_failed in (False, True)]
         for name, kinds in CHECKS.items():
@@ -48,7 +50,7 @@ class Checks(Case):
         self.check("nothing is known", [item.kind for item in list_check_entries([], [(1, {})])],
                    [UNREAD, LOSSES, CLOCK, OPTION])
 
-    def test_names_unmade_checks(self) -> None:
+    def test_describes_kinds_of_unmade_checks(self) -> None:
         drift = "whether the video and the subtitles drift apart"
         rows: dict[str, tuple[Sequence[str], str]] = {
             "nothing": ((), ""), "unread": ((UNREAD,), f"Not checked: {drift}."),
@@ -57,11 +59,14 @@ class Checks(Case):
                          "losses that leave no trace.")}
         for name, (kinds, sentence) in rows.items():
             self.check(name, describe_kinds(kinds), sentence)
-        for word in (ACCEPTED, REFUSED, RELATIVE, NOT_JUDGED):
-            facts = Facts(word, 2, unchecked=[UNREAD, CLOCK], reason="why")
-            told = write_sentence(facts)
-            more = ("" if word == RELATIVE else "; a delay that all subtitles share") + "."
-            self.check(word, told.endswith(f" Not checked: {drift}{more}"), word != NOT_JUDGED)
+
+    def test_the_sentence_of_a_judged_pair_names_unmade_checks(self) -> None:
+        drift = " Not checked: whether the video and the subtitles drift apart"
+        delay = "; a delay that all subtitles share"  # `relative` means this, so it is not named
+        for word, end in ((ACCEPTED, f"{drift}{delay}."), (REFUSED, f"{drift}{delay}."),
+                          (RELATIVE, f"{drift}."), (NOT_JUDGED, "")):
+            sentence = write_sentence(Facts(word, 2, unchecked=[UNREAD, CLOCK], reason="why"))
+            self.check(word, "".join(sentence.partition(" Not checked: ")[1:]), end)
 
     def test_parses_required_kinds(self) -> None:
         self.check_rows(parse_required_kinds, {

@@ -26,6 +26,10 @@ from .transmissions import delay_subtitle, join_pes_packets
 from .test_judging_status import make_severity
 
 
+# Subtitles in frames 100 to 199 and 200 to 299
+FIRST, SECOND = Subtitle(1, 1, 100, 200, 20, 2, b""), Subtitle(2, 2, 200, 300, 20, 2, b"")
+
+
 def page(text: bytes) -> Rows:
     return (*BLANK_PAGE[:19], text.ljust(40), *BLANK_PAGE[20:])
 
@@ -39,43 +43,42 @@ def make_timeline_of_pages(*changes: tuple[int, Rows]) -> Timeline:
 
 
 class ActualCues(Case):
+    """Two subtitles with the pages `ONE` and `TWO`, from frames 100 and 200 on."""
+
     ONE, TWO = page(b"one"), page(b"two")
 
-    def test_finds_the_frames_of_a_decoded_subtitle(self) -> None:
-        item, blank, two = self.ONE, BLANK_PAGE, self.TWO
-        wrong = page(b"onf")
+    def test_finds_the_frames_in_which_a_subtitle_was_decoded(self) -> None:
+        one, blank, two, wrong = self.ONE, BLANK_PAGE, self.TWO, page(b"onf")
         late, text, never = (Cause(0, name, frames, sent, None, "", 0) for name, frames, sent in (
-            (LATE, 7, item), (WRONG_TEXT, None, wrong), (NEVER, None, None)))
-        for name, cause, changes, expected in (
-                ("right", None, [(100, item), (200, two)], (100, 200)),
-                ("late", late, [(107, item), (207, two)], (107, 207)),
-                ("late within the limit", None, [(103, item), (203, two)], (103, 203)),
+            (LATE, 7, one), (WRONG_TEXT, None, wrong), (NEVER, None, None)))
+        # The cause of a fault of the first subtitle, the decoded pages by their first frame, and
+        # its decoded in-cue and out-cue
+        for name, cause, changes, cues in (
+                ("right", None, [(100, one), (200, two)], (100, 200)),
+                ("late", late, [(107, one), (207, two)], (107, 207)),
+                ("late within the limit", None, [(103, one), (203, two)], (103, 203)),
                 ("wrong text", text, [(101, wrong), (199, two)], (101, 199)),
                 ("never sent", never, [(0, blank), (200, two)], (None, None)),
-                ("damaged", None, [(100, item), (150, wrong), (200, two)], (100, 200)),
-                ("erased", None, [(100, item), (150, blank), (200, two)], (100, 150)),
-                ("by another one", None, [(100, item), (150, two)], (100, 150)),
-                ("up to the end", None, [(100, item)], (100, None))):
-            subtitles = [Subtitle(1, 1, 100, 200, 20, 2, b""), Subtitle(2, 2, 200, 300, 20, 2, b"")]
-            decoded = make_timeline_of_pages(*changes)
-            decoded_times = add_decoded_page(Cue(subtitles[0], item, cause), 0,
-                                             ExpectedPages(subtitles, [item, two]), decoded,
-                                             (expected[0] or 100) - 100)
-            self.check(name, (decoded_times.begin, decoded_times.end), expected)
-            self.must(f"{name}: late", decoded_times.delay_in == (
-                None if expected[0] is None else expected[0] - 100), decoded_times.delay_in)
+                ("damaged", None, [(100, one), (150, wrong), (200, two)], (100, 200)),
+                ("erased", None, [(100, one), (150, blank), (200, two)], (100, 150)),
+                ("replaced by the next", None, [(100, one), (150, two)], (100, 150)),
+                ("up to the end", None, [(100, one)], (100, None))):
+            delay = None if cues[0] is None else cues[0] - 100
+            cue = add_decoded_page(Cue(FIRST, one, cause), 0, ExpectedPages(
+                [FIRST, SECOND], [one, two]), make_timeline_of_pages(*changes), delay or 0)
+            self.check(name, (cue.begin, cue.end, cue.delay_in), (*cues, delay))
 
     def test_finds_the_cue_between_equal_pages(self) -> None:
-        subtitles = [Subtitle(1, 1, 100, 200, 20, 2, b""), Subtitle(2, 2, 200, 300, 20, 2, b"")]
         decoded = make_timeline_of_pages((100, self.ONE), (300, BLANK_PAGE))
-        due = ExpectedPages(subtitles, [self.ONE, self.ONE])
-        result = [add_decoded_page(Cue(item, self.ONE, None), place, due, decoded, 0)
-                  for place, item in enumerate(subtitles)]
-        self.must("times",
-                  [(item.begin, item.end) for item in result] == [(100, 200), (200, 300)], result)
+        due = ExpectedPages([FIRST, SECOND], [self.ONE, self.ONE])
+        cues = [add_decoded_page(Cue(item, self.ONE, None), place, due, decoded, 0)
+                for place, item in enumerate((FIRST, SECOND))]
+        self.check("frames", [(cue.begin, cue.end) for cue in cues], [(100, 200), (200, 300)])
 
 
 class ActualTimes(ProgrammeCase):
+    """Ten subtitles, from frame 100 on, and recordings of them. The PTS of frame 0 is 0."""
+
     def test_subtitles_outside_the_recording_have_no_actual_times(self) -> None:
         for first, end in ((0, 20), (0, 21), (20, None), (21, None), (12, 25)):
             sent, name = self.sent[first:end], f"PES packets {first} to {end}"
@@ -105,7 +108,8 @@ class ActualTimes(ProgrammeCase):
             return result, [*csv.DictReader(file)]
 
     def test_writes_a_csv_row_for_the_pair_and_each_subtitle(self) -> None:
-        late = [(pts + 3 * TICKS * (pts == 300 * TICKS), some) for pts, some in self.sent]
+        tci = self.due[2][0] * TICKS
+        late = [(pts + 3 * TICKS * (pts == tci), some) for pts, some in self.sent]
         result, (pair, *rows) = self.read_csv(
             self.write("one.pes", join_pes_packets(late)), "--origin", "0")
         self.check("pair", (pair["position"], pair["verdict"], pair["reason"]),
@@ -122,18 +126,19 @@ class ActualTimes(ProgrammeCase):
 
 
 def make_list(faults: list[str], trusted: list[tuple[int, int]]) -> list[str]:
-    """Return the output of `check --all` with fault 60, other faults and trusted frames."""
+    """Return the output of `check --all` with fault 60, other faults, and trusted frames, given by
+    the first and last of each range."""
     return ["refused 60 Empty", *faults, *(
         f"trusted frames {format_frame(first)} {format_frame(last)}"
         for first, last in trusted), f"{len(faults) + 1} faults"]
 
 
 class CueVerdicts(Case):
+    """The verdict on the subtitle `FIRST`."""
+
     def test_considers_the_cause_and_simultaneous_faults(self) -> None:
-        subtitle = Subtitle(1, 1, 100, 200, 20, 2, b"")
-        programme = ExpectedPages([subtitle], [page(b"one")])
-        waived = make_severity("67 warning"), make_severity("72 warning"), make_severity("others "
-                                                                                         "warning")
+        programme = ExpectedPages([FIRST], [page(b"one")])
+        severities = [make_severity(f"{faults} warning") for faults in ("67", "72", "others")]
         rows: list[tuple[str | None, list[int], int, list[str]]] = [
             # Cause, numbers of other faults, first clean frame, and three expected verdicts: if
             # fault 67 is a warning, if fault 72 is a warning, and if all faults are warnings.
@@ -147,20 +152,20 @@ class CueVerdicts(Case):
             (UNKNOWN_CAUSE, [], 100, ["not known", "waived", "waived"]),
             (NOT_RECEIVED, [], 100, ["not known", "waived", "waived"]),
             (UNKNOWN_CAUSE, [67], 100, ["wrong", "wrong", "waived"])]
-        for name, numbers, first, expected_value in rows:
+        for name, numbers, first, expected in rows:
             cause = name and Cause(0, name, 3, None, None, "", 0)
             faults = [f"refused {number} Name frame {format_frame(150)}"
                       for number in [*numbers, *[72] * bool(cause)]]
             output = make_answer(make_list(faults, [(first, 199)]))
             causes = SimpleNamespace(expected=programme, frames_by_end_fault={}) if cause \
                 else None
-            cue = Cue(subtitle, page(b"one"), cause or None)
-            result = [CueJudge(make_part(0, 300, 0, output, causes=causes,
-                                         severity=severity)).judge(cue).word for severity in waived]
-            self.check(f"{name}, {numbers}, trusted from {first} on", result, expected_value)
+            cue = Cue(FIRST, page(b"one"), cause or None)
+            result = [CueJudge(make_part(0, 300, 0, output, causes=causes, severity=severity)
+                               ).judge(cue).word for severity in severities]
+            self.check(f"{name}, {numbers}, trusted from {first} on", result, expected)
 
     def test_marks_subtitles_with_losses_as_unknown(self) -> None:
-        cue = Cue(Subtitle(1, 1, 100, 200, 20, 2, b""), page(b"one"), None)
+        cue = Cue(FIRST, page(b"one"), None)
         for span, word in (((0, 99), "right"), ((100, 100), "not known"), ((199, 300), "not known"),
                            ((200, 300), "right")):
             part: Any = SimpleNamespace(
@@ -170,14 +175,14 @@ class CueVerdicts(Case):
             self.check(f"{span}", (verdict.word, verdict.doubt), (
                 word, "not received completely" if word == "not known" else ""))
 
-    def test_waives_a_refused_subtitle_only_if_all_its_faults_are_waived(self) -> None:
+    def test_waives_a_refused_subtitle_only_if_all_its_faults_are_warnings(self) -> None:
         part: Any = SimpleNamespace(is_error=lambda fault: fault.number == 52)
         for numbers, expected in (((50,), True), ((52,), False), ((50, 52), False)):
             faults = [parse_single_fault(f"refused {number} X block 1 at 0") for number in numbers]
             self.check(f"{numbers}", SubtitleFaults(None, faults).is_waived(part), expected)
 
     def test_explains_why_a_subtitle_is_not_known(self) -> None:
-        # Trusted frames, first frame and end of the decoded page, and the reason.
+        # Trusted frames, in-cue and out-cue of the decoded page, and the reason.
         rows: dict[str, tuple[list[tuple[int, int]], int | None, int | None, str]] = {
             "all frames are trusted": ([(100, 199)], 100, 200, ""),
             "all but the first": ([(101, 199)], 100, 200, "check does not trust 1 of its frames"),
@@ -188,38 +193,38 @@ class CueVerdicts(Case):
             "nothing": ([], None, None, "not received")}
         for name, (spans, begin, end, reason) in rows.items():
             part = make_part(0, 300, 0, make_answer(make_list([], spans)))
-            cue = Cue(Subtitle(1, 1, 100, 200, 20, 2, b""), page(b"one"), None, None, begin, end)
+            cue = Cue(FIRST, page(b"one"), None, None, begin, end)
             self.check(name, CueJudge(part).judge(cue).doubt, reason)
 
 
 class TextMarkup(Case):
     def test_marks_characters_that_differ(self) -> None:
+        # The expected text, the decoded text, and both with marked characters in brackets
         for first, second, expected in (
                 ("abc", "abd", ("ab[c]", "ab[d]")), ("abc", "abc", ("abc", "abc")),
                 ("a b", "axxb", ("a[ ]b", "a[xx]b")), ("abcd", "abd", ("ab[c]d", "abd")),
                 ("", "abc", ("", "[abc]")), ("aXbYc", "a1b2c", ("a[X]b[Y]c", "a[1]b[2]c")),
                 ("xaab", "xab", ("xa[a]b", "xab")), ("<a>", "<b>", ("&lt;[a]&gt;", "&lt;[b]&gt;"))):
-            reported = tuple(markup_text(item).replace("<mark>", "[").replace("</mark>", "]")
-                             for item in mark_difference(first, second))
-            self.check(f"{first} {second}", reported, expected)
+            marked = tuple(markup_text(item).replace("<mark>", "[").replace("</mark>", "]")
+                           for item in mark_difference(first, second))
+            self.check(f"{first} {second}", marked, expected)
 
-    def test_prints_the_first_200_wrong_rows(self) -> None:
+    def test_shows_the_first_200_of_203_wrong_rows(self) -> None:
         result: Any = SimpleNamespace(
             rows=[CueRow(at, look, [], [at]) for look in ("ok", "bad") for at in range(203)],
             part=SimpleNamespace(number=1, recording="one.pes"), kinds=[], make_caption=lambda: "")
         text = markup_text(CueList.make_list(result))
         self.check("rows", (text.count('class="bad"'), text.count('class="bad more"')), (200, 3))
-        self.must("texts", "203 right subtitles" in text and "and 3 more rows" in text, text[:900])
+        self.must("right rows", "203 right subtitles" in text, text[:900])
+        self.must("omitted rows", "and 3 more rows" in text, text[:900])
 
-    def test_prints_the_first_of_equal_neighbours(self) -> None:
-        subtitle = Subtitle(1, 1, 100, 200, 20, 2, b"")
+    def test_a_row_is_a_repetition_if_the_row_before_has_the_same_cause_and_delay(self) -> None:
         causes = [Cause(0, name, frames, None, None, "", 0) for name, frames in (
             (LATE, 1), (LATE, 1), (LATE, 2), (NEVER, None), (NEVER, None))]
         result: Any = SimpleNamespace(
-            cues=[Cue(subtitle, BLANK_PAGE, cause) for cause in (*causes, None, None)],
+            cues=[Cue(FIRST, BLANK_PAGE, cause) for cause in (*causes, None, None)],
             judge=SimpleNamespace(judge=lambda _: CueVerdict("wrong")), causes=None,
-            cells=lambda *_: [],
-            part=SimpleNamespace(recording="one.pes"))
+            cells=lambda *_: [], part=SimpleNamespace(recording="one.pes"))
         self.check("repeated", [row.is_repeated for row in CueList.make_judged_rows(result)],
                    [False, True, False, False, True, False, False])
 
@@ -231,57 +236,56 @@ class TextMarkup(Case):
             "a value and a special character": (("--every 25 <x>",), "<b>--every 25</b> &lt;x&gt;"),
             "a dash": (("a - b",), "a - b")})
 
-    def test_gives_each_verdict_a_class_and_a_shape(self) -> None:
-        words = (ACCEPTED, VALID, WAIVED, RELATIVE, REFUSED, LOST, WARNED, NOT_JUDGED)
+    def test_draws_a_verdict_of_read_like_one_of_qc(self) -> None:
         for reading, pair in ((AS_SHOWN, ACCEPTED), (NOT_READ, NOT_JUDGED), (WITH_FAULTS, REFUSED),
                               (SAME, ACCEPTED), (DIFFERS, REFUSED)):
-            self.check(reading, [draw_verdict(word)[0] for word in (reading, pair)],
-                       [draw_verdict(pair)[0]] * 2)
+            self.check(reading, draw_verdict(reading)[0], draw_verdict(pair)[0])
+
+    def test_gives_each_verdict_of_qc_a_class_and_a_shape(self) -> None:
+        words = (ACCEPTED, VALID, WAIVED, RELATIVE, REFUSED, LOST, WARNED, NOT_JUDGED)
         self.check("all", set(SHAPES), {*words, AS_SHOWN, NOT_READ, SAME})
         self.check("classes", len({kind for kind, _ in SHAPES.values()}), len(words))
         self.check("shapes", len({markup_text(drawn) for _, drawn in SHAPES.values()}), len(words))
 
 
 class RefusedFiles(Case):
-    def test_shows_the_field_that_a_fault_names(self) -> None:
+    def test_shows_the_field_that_a_fault_of_a_block_names(self) -> None:
         path = self.write("two.stl", make_gsi_block(b"", 1, 1) + bytes(range(16)) + b"\x8f" * 112)
         subtitle_file = SubtitleFile(path)
         fields = {11: "DFC STL25.01", 12: "DFC STL25.01", 13: "DSC 1", 14: "CCT 00", 15: "EBN 03",
                   16: "CS 04", 17: "CF 0F", 18: "JC 0E", 19: "VP 0D", 22: "SGN and SN 000102"}
         for number in range(10, 60):
-            line = f"refused {number} X block {int(number > 14)}"
+            fault = parse_single_fault(f"refused {number} X block {int(number > 14)}")
             head, _, value = fields.get(number, "").rpartition(" ")
-            reported = markup_text(mark_field(subtitle_file, parse_single_fault(line))).strip()
-            self.must(line, reported == (f"{head} <mark>{value}</mark>" if head else ""), reported)
+            self.check(f"{number}", markup_text(mark_field(subtitle_file, fault)).strip(),
+                       f"{head} <mark>{value}</mark>" if head else "")
         self.check("no block",
                    markup_text(mark_field(subtitle_file, parse_single_fault("refused 14 Cct"))), "")
 
     def test_marks_the_byte_or_line_that_a_fault_names(self) -> None:
-        def marked(*lines: str) -> str:
-            return markup_text(mark_text(b"a b\x8ac", [parse_single_fault(line) for line in lines]))
-
-        for lines, words in (
+        # Faults of a subtitle whose text is "a b", and on the next line "c"
+        for lines, marked in (
                 ((), "a b<br/>c"), (("refused 50 X block 2 at 0",), "<mark>a</mark> b<br/>c"),
                 (("refused 51 X block 2 at 4",), "a b<br/><mark>c</mark>"),
                 (("refused 52 X block 2 at 1",), "a b<br/><mark>c</mark>"),
                 (("refused 53 X block 2 at 0", "refused 50 X block 2 at 2"),
                  "<mark>a <mark>b</mark></mark><br/>c"), (("refused 21 X block 2",), "a b<br/>c")):
-            self.check(f"{lines}", marked(*lines), words)
-        letters = [markup_text(show_byte(byte)) for byte in (0x20, 0x3C, 0x7E, 0x7F, 0x0B)]
-        self.check("letters", letters, ["\u2423", "&lt;", "~", "<i>7F</i>", "<i>0B</i>"])
+            faults = [parse_single_fault(line) for line in lines]
+            self.check(f"{lines}", markup_text(mark_text(b"a b\x8ac", faults)), marked)
+
+    def test_shows_a_byte_as_a_character_or_as_a_hexadecimal_number(self) -> None:
+        self.check("bytes", [markup_text(show_byte(byte)) for byte in (0x20, 0x3C, 0x7E, 0x7F, 0x0B)
+                             ], ["\u2423", "&lt;", "~", "<i>7F</i>", "<i>0B</i>"])
 
     def test_marks_the_times_that_a_fault_names(self) -> None:
-        begin, end = "00:00:02:10", "00:00:02:20"
-        named_subtitle = NamedSubtitle(3, 3, begin, end)
-        for line, expected in (
-                ("refused 21 X block 6", (f"<mark>{begin}</mark>", f"<mark>{end}</mark>")),
-                ("refused 56 X block 6", (f"<mark>{begin}</mark>", end)),
-                ("refused 57 X block 6", (f"<mark>{begin}</mark>", end)),
-                ("refused 20 X block 6", (begin, end)), ("refused 50 X block 6", (begin, end))):
-            self.check(line,
-                       (*map(markup_text, mark_times(named_subtitle, [parse_single_fault(line)])),),
-                       expected)
-        wrong = named_subtitle._replace(begin="99:00:00:00")
-        reported = [*map(markup_text,
-                         mark_times(wrong, [parse_single_fault("refused 20 X block 6")]))]
-        self.check("no time", reported, ["<mark>99:00:00:00</mark>", end])
+        begin, end, wrong = "00:00:02:10", "00:00:02:20", "99:00:00:00"
+        for name, number, tci, expected in (
+                ("TCI not before TCO", 21, begin, (f"<mark>{begin}</mark>", f"<mark>{end}</mark>")),
+                ("TCI", 56, begin, (f"<mark>{begin}</mark>", end)),
+                ("TCI again", 57, begin, (f"<mark>{begin}</mark>", end)),
+                ("a wrong time, but both are right", 20, begin, (begin, end)),
+                ("a character", 50, begin, (begin, end)),
+                ("a wrong time", 20, wrong, (f"<mark>{wrong}</mark>", end))):
+            times = mark_times(NamedSubtitle(3, 3, tci, end), [
+                parse_single_fault(f"refused {number} X block 6")])
+            self.check(name, tuple(map(markup_text, times)), expected)
