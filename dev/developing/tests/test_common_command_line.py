@@ -38,6 +38,7 @@ class CommandLine(Case):
     def test_accepts_the_limits_of_each_option(self) -> None:
         none: Any = None
         many = "9" * 5000
+        # Texts, and their values, or `none` if they are refused
         of_words: list[tuple[Callable[[str], object], dict[str, object]]] = [
             (command_line.parse_page, {"888": (0, 0x88), "8FF": none, "": none, "8GG": none,
                 "1aA": (1, 0xAA), "988": none, "8 8": none}),
@@ -56,9 +57,8 @@ class CommandLine(Case):
                 "": none, "-1": none, many: none, "\u0661": none}),
             (command_line.parse_break_count, {"0": 0, "999": 999, "1000": none, "-1": none,
                 "": none, "\u0661": none}),
-            (command_line.validate_start_time,
-             {"tcp": "tcp", "10:00:00:00": "10:00:00:00", "TCP": none,
-              "24:00:00:00": none}),
+            (command_line.validate_start_time, {"tcp": "tcp", "10:00:00:00": "10:00:00:00",
+                "TCP": none, "24:00:00:00": none}),
             (command_line.parse_pid, {"0": 0, "8190": 8190, "0x1FFE": 8190, "8191": none,
                 "-1": none, "0x101": 257, "x": none, "": none})]
         for call, texts in of_words:
@@ -69,16 +69,20 @@ class CommandLine(Case):
                     result = None
                 self.assertEqual(result, expected, f"{call.__name__} {text[:20]}")
 
-    def test_formats_options_and_counts(self) -> None:
+    def test_gives_the_program_a_pid_and_a_packet_size_other_than_188(self) -> None:
         for pid, size, expected in ((None, 188, []), (None, 204, []),
                                     (0x101, 188, ["--pid", "0x101"]),
                                     (0, 192, ["--pid", "0x0", "--packet-size", "192"])):
             self.assertEqual(command_line.make_stream_options(pid, size), expected, (pid, size))
+
+    def test_formats_counts_and_ranges_of_frames(self) -> None:
         self.assertEqual([command_line.counted(item, "fault") for item in (0, 1, 2)],
                          ["0 faults", "1 fault", "2 faults"])
         self.assertEqual([command_line.format_frame_range(*item)
                           for item in ((0, 0), (1, 1), (0, 1), (0, 2))],
                          ["0 frames", "1 frame", "0 to 1 frame", "0 to 2 frames"])
+
+    def test_page_888_is_the_default(self) -> None:
         parser = command_line.ToolParser("")
         command_line.add_page(parser)
         self.assertEqual(vars(parser.parse_args([])), {"page": (0, 0x88)})
@@ -86,14 +90,16 @@ class CommandLine(Case):
     def test_escapes_control_characters_of_terminals(self) -> None:
         for text, expected in (("\x1f ~\x7f", "\\x1f ~\\x7f"),
                                ("\x80\x9f\xa0", "\\u0080\\u009f\xa0"),
-                               ("\u061c\u061b", "\\u061c\u061b"), ("\u200d\u200e\u200f\u2010",
-                                                                   "\u200d\\u200e\\u200f\u2010"),
+                               ("\u061c\u061b", "\\u061c\u061b"),
+                               ("\u200d\u200e\u200f\u2010", "\u200d\\u200e\\u200f\u2010"),
                                ("\u2027\u2028\u202e\u202f", "\u2027\\u2028\\u202e\u202f"),
                                ("\u2065\u2066\u2069\u206a", "\u2065\\u2066\\u2069\u206a"),
                                ("\udc80\udcff", "\\x80\\xff"), ("\udc7f\ud800", "\\udc7f\\ud800"),
                                ("a\nb\0", "a\\x0ab\\x00")):
             self.assertEqual(command_line.escape_hidden(text), expected, text)
             self.assertTrue(command_line.quote_argument(text).startswith("$'"), text)
+
+    def test_a_shell_reads_a_quoted_argument_as_the_text(self) -> None:
         for text in ("plain", "two words", "it's", "a\\b", ""):
             self.assertEqual(shlex.split(command_line.quote_argument(text)), [text], text)
         for text in ("it's\na\\n", "\x1b[1m"):
@@ -109,24 +115,32 @@ class CommandLine(Case):
                 (OSError("a  word"), "the output: a word"),
                 (ValueError("x  y"), "internal error: ValueError in no line: x y")):
             self.assertEqual(command_line.format_error(reason), expected, reason)
-        for value, lines in (("0", 0), ("1", 1)):
+
+    def test_prints_a_traceback_of_an_internal_error_if_subttx_debug_is_1(self) -> None:
+        for value, error, count in (("0", ValueError("x"), 0), ("0", Stop("x"), 0),
+                                    ("1", ValueError("x"), 1), ("1", Stop("x"), 0)):
             with mock.patch.dict(os.environ, {"SUBTTX_DEBUG": value}), \
-                    mock.patch("traceback.print_exception") as traced:
-                command_line.format_error(ValueError("x"))
-                command_line.format_error(Stop("x"))
-            self.assertEqual(traced.call_count, lines, (value, lines))
+                    mock.patch("traceback.print_exception") as print_exception:
+                command_line.format_error(error)
+            self.assertEqual(print_exception.call_count, count, (value, error))
+
+    def test_a_safe_name_begins_with_no_character_that_has_a_meaning_for_tools(self) -> None:
         for name, expected in (("a", "a"), ("-", "./-"), ("-a", "./-a"), ("=a", "./=a"),
                                ("+a", "./+a"), ("@a", "./@a"), ("a-", "a-"), ("/-a", "/-a")):
             self.assertEqual(make_safe_name(name), expected, name)
 
-    def test_handles_a_missing_version_and_a_closed_output(self) -> None:
+    def test_prints_that_the_version_is_unknown_without_its_file(self) -> None:
         with mock.patch.object(command_line, "HOME", self.folder):
             self.assertEqual(command_line.version(), "of an unknown version")
+
+    def test_fails_if_standard_output_is_closed(self) -> None:
         with mock.patch.object(sys, "stdout", None), \
                 mock.patch.object(command_line, "discard_output"), \
                 contextlib.redirect_stderr(io.StringIO()) as errors:
             self.assertEqual(command_line.run_main(lambda words: 0, []), 2)
         self.assertIn(": standard output is closed\n", errors.getvalue())
+
+    def test_names_with_surrogates_are_not_utf_8(self) -> None:
         self.assertEqual([is_utf_8(name) for name in ("", "a", "\u00e9", "\udce9")],
                          [True, True, True, False])
 
@@ -135,47 +149,58 @@ class CommandLine(Case):
             raise OSError(2, "No such file", "one", None, "two")
         self.assertEqual((reported.exception.filename, reported.exception.filename2),
                          ("typed", None))
-        came = [None, None, b"some"]
-        pipe: Any = SimpleNamespace(read=lambda size: came.pop(0), close=lambda: None)
-        with Input(os.devnull) as source, mock.patch("select.select") as waited:
+
+    def test_waits_twice_for_a_pipe_that_twice_has_no_data(self) -> None:
+        reads = [None, None, b"some"]
+        pipe: Any = SimpleNamespace(read=lambda size: reads.pop(0), close=lambda: None)
+        with Input(os.devnull) as source, mock.patch("select.select") as select:
             source.file.close()
             source.file = pipe
-            self.assertEqual((source.read(5), waited.call_count), (b"some", 2))
-        for code, status in ((3, 3), (None, 0), (0, 0)):
-            with mock.patch("sys.argv", ["tool", "word"]):
+            self.assertEqual((source.read(5), select.call_count), (b"some", 2))
+
+    def test_returns_the_exit_status_of_a_call(self) -> None:
+        with mock.patch("sys.argv", ["tool", "word"]):
+            for code, status in ((3, 3), (None, 0), (0, 0)):
                 self.assertEqual(command_line.call_main(lambda line: sys.exit(code), []), status,
-                                 (code, status))
-                self.assertEqual(command_line.call_main(len, ["one"]), 1, (code, status))
+                                 code)
+            self.assertEqual(command_line.call_main(len, ["one"]), 1, "the value returned")
 
     def test_refuses_special_files_without_waiting(self) -> None:
-        self.write("file", b"12345")
         os.mkdir(self.path("folder"))
         os.mkfifo(self.path("pipe"))
-        os.symlink("file", self.path("link"))
         self.make_socket("socket")
         for name, kind in (("folder", "a folder"), ("pipe", "a pipe"), ("socket", "a socket"),
                            ("/dev/zero", "a device")):
             for may_be_pipe in (False, True)[:1 + (name != "pipe")]:
                 message = refusal(lambda: read_first_bytes(self.path(name), 5, may_be_pipe))
                 self.must(f"{name} {may_be_pipe}",
-                          message.startswith(f"{self.path(name)} is {kind}"),
-                          message)
-        self.must("followed", read_first_bytes(self.path("link"), 9) == b"12345")
-        self.must("a link", refusal(lambda: read_first_bytes(self.path("link"), 9,
-                                                             is_followed=False))
-                  == f"{self.path('link')} is a link")
-        for most, expected in ((4, b""), (5, b"12345"), (6, b"12345")):
-            message = refusal(lambda: read_bounded_bytes(self.path("file"), most))
-            self.must(f"{most}", bool(message) == (not expected) and (
-                message or read_bounded_bytes(self.path("file"), most)) == (
-                    expected or f"{self.path('file')} has more than 4 bytes"), message)
-        with File(self.path("file")) as file, mock.patch.object(
+                          message.startswith(f"{self.path(name)} is {kind}"), message)
+
+    def test_follows_a_link_only_if_this_is_allowed(self) -> None:
+        self.write("file", b"12345")
+        os.symlink("file", self.path("link"))
+        self.check("followed", read_first_bytes(self.path("link"), 9), b"12345")
+        self.check("not followed", refusal(lambda: read_first_bytes(
+            self.path("link"), 9, is_followed=False)), f"{self.path('link')} is a link")
+
+    def test_reads_a_file_of_at_most_the_given_size(self) -> None:
+        path = self.write("file", b"12345")
+        for most in (5, 6):
+            self.check(f"{most}", read_bounded_bytes(path, most), b"12345")
+        self.check("4", refusal(lambda: read_bounded_bytes(path, 4)),
+                   f"{path} has more than 4 bytes")
+
+    def test_refuses_a_file_of_the_system_that_waits(self) -> None:
+        with File(self.write("file", b"12345")) as file, mock.patch.object(
                 file, "file", mock.Mock(**{"read.return_value": None})):
-            self.check("a file of the system that waits", refusal(lambda: file.read()),
+            self.check("message", refusal(lambda: file.read()),
                        f"{self.path('file')} has no end: give a file")
+
+    def test_reads_the_first_bytes_of_an_endless_pipe(self) -> None:
+        os.mkfifo(self.path("pipe"))
         with subprocess.Popen(["sh", "-c", "sleep 0.2; yes >\"$0\"", self.path("pipe")]):
-            self.must("a pipe", read_first_bytes(self.path("pipe"), 100_001, True) ==
-                      (b"y\n" * 50_001)[:100_001])
+            self.check("bytes", read_first_bytes(self.path("pipe"), 100_001, may_be_pipe=True),
+                       (b"y\n" * 50_001)[:100_001])
 
     def test_splits_lines_as_shlex_does_within_bounds(self) -> None:
         chance = random.Random(94)
@@ -190,15 +215,21 @@ class CommandLine(Case):
             except ValueError:
                 result = "wrong"
             self.assertEqual(result, expected, repr(line))
+
+    def test_splits_four_lines_of_the_maximum_length_within_5_seconds(self) -> None:
         began = time.process_time()
         for item in ("a", "'b'c", "\\d", '"\\e"'):
             self.assertEqual(len(split_arguments(item * (MAX_LINE_CHARACTERS // len(item)))),
                              1, item)
         self.assertLess(time.process_time() - began, 5)
+
+    def test_reports_a_line_that_is_too_long_and_goes_on(self) -> None:
         lines = split_lines(f"a\n{'b' * (MAX_LINE_CHARACTERS + 1)}\nc\x0b\x85\u2028 'd e'\n'")
         self.assertEqual([(item.number, item.arguments[-1][:9], bool(item.fault))
                           for item in lines], [
             (1, "a", False), (2, "b" * 9, True), (3, "d e", False), (4, "'", True)])
+
+    def test_reads_a_list_of_at_most_16_million_bytes(self) -> None:
         path = self.write("list", (b"#" * 63_999 + b"\n") * (MAX_BYTES // 64_000))
         self.assertEqual([*split_lines(read_list(path))], [])
         with open(path, "ab") as file:
@@ -219,6 +250,9 @@ class CommandLine(Case):
             message = refusal(lambda: [*split_lines(text)])
             self.check(name, message, place and f"{place} exceeds the limits of a list: 100,000 "
                        "lines and 1,000,000 words")
+
+    def test_limits_words_of_a_line_and_refuses_nul_characters_in_words(self) -> None:
+        many = "a " * MAX_LINE_WORDS
         for name, (text, fault) in {
                 "the most words of a line": (many, ""),
                 "one more": (f"{many}a", "it has more than 256 words"),
@@ -236,6 +270,8 @@ class CommandLine(Case):
                                ("\r", "\\x0d"), ("\t", "\\x09"), ("\x7f", "\\x7f")):
             self.assertEqual(markup('<a b="{}">{}</a>', text, text).source,
                              f'<a b="{expected}">{expected}</a>', text)
+
+    def test_joins_markup_without_escaping_it_again_and_refuses_text(self) -> None:
         bold = markup("<b>{}</b>", 5)
         self.assertEqual((markup("{}{:,}{:.1f}", bold, 1000, 2.55).source, (bold + bold).source,
                           join_markup([bold, "<"], markup("<br/>")).source, bool(bold),
@@ -246,7 +282,7 @@ class CommandLine(Case):
                       lambda: bold + "<b>"):  # type: ignore[operator]
             self.assertRaises((TypeError, AttributeError), wrong)
 
-    def test_writes_only_constant_markup(self) -> None:
+    def test_all_markup_in_the_tools_is_constant(self) -> None:
         for path in modules(TOOLS):
             with open(path, encoding="utf-8") as file:
                 calls = [node for node in ast.walk(ast.parse(file.read()))
@@ -269,28 +305,35 @@ class CommandLine(Case):
                 10: ("One", "first", "mend it"), 11: ("Two", "second", "replace it")})
         with mock.patch.object(listing, "REFUSALS_PATH", self.path("none")):
             self.assertEqual(listing.read_meanings(), {})
-        self.assertTrue({50, 72} <= {*listing.read_meanings()} and
-                        all(map(all, listing.read_meanings(
-            ).values())))
+        meanings = listing.read_meanings()
+        self.assertLessEqual({50, 72}, {*meanings})
+        self.assertTrue(all(map(all, meanings.values())))
 
-    def test_writes_a_file_completely_or_not_at_all(self) -> None:
-        item = self.write("one", b"old")
-        os.symlink(item, self.path("link"))
+    def test_writes_through_a_link(self) -> None:
+        os.symlink(self.write("one", b"old"), self.path("link"))
         with open_output(self.path("link")) as file:
             file.write(b"linked")
         self.assertEqual((self.read("one"), os.path.islink(self.path("link"))), (b"linked", True))
+
+    def test_an_output_gets_the_permissions_of_a_new_file(self) -> None:
         mask = os.umask(0o027)
-        for path in (item, self.path("new")):
+        for path in (self.write("old", b"old"), self.path("new")):
             with open_output(path) as file:
                 file.write(b"new")
             self.assertEqual(os.stat(path).st_mode & 0o777, 0o640, path)
         os.umask(mask)
-        with self.assertRaises(KeyError), open_output(item) as file:
+
+    def test_writes_a_file_completely_or_not_at_all(self) -> None:
+        path = self.write("one", b"old")
+        with self.assertRaises(KeyError), open_output(path) as file:
             file.write(b"half")
             raise KeyError
-        self.assertEqual((self.read("one"), is_replaced(item), is_replaced("/dev/null"),
-                          is_replaced(self.path("none")), is_replaced("-")),
-                         (b"new", True, False, True, False))
+        self.assertEqual(self.read("one"), b"old")
+
+    def test_replaces_files_but_neither_devices_nor_standard_output(self) -> None:
+        for path, expected in ((self.write("one", b""), True), (self.path("none"), True),
+                               ("/dev/null", False), ("-", False)):
+            self.assertEqual(is_replaced(path), expected, path)
 
     def test_replaces_a_link_in_a_folder_of_results(self) -> None:
         for target in (self.write("one", b"theirs"), self.path("none"), self.folder):
@@ -335,79 +378,82 @@ class CommandLine(Case):
                 message = refusal(lambda: self.assertEqual(sources(), "a sum"))
             self.must(f"{status}", bool(message) == (status != 0), message)
 
-    def test_recognises_an_input_by_any_name(self) -> None:
-        item, other = self.write("one", b"1"), self.write("other", b"2")
-        os.link(item, self.path("hard"))
-        os.symlink("one", self.path("link"))
+    def refuses(self, inputs: Inputs, name: str, is_followed: bool) -> bool:
+        """Return whether `inputs` refuse to write to a file, or to replace it without following."""
+        return bool(refusal(lambda: inputs.refuse(self.path(name), is_followed)))
+
+    def test_refuses_an_output_that_is_an_input_under_any_name(self) -> None:
+        os.link(self.write("one", b"1"), self.path("hard"))
+        self.write("other", b"2")
+        for link in ("link", "another"):
+            os.symlink("one", self.path(link))
         inputs = Inputs(self.path("link"), None, "-", self.path("none"))
         for name, is_followed, expected in (
                 ("one", False, True), ("hard", False, True), ("link", False, True),
-                ("other", True, False), ("none", True, False)):
-            message = refusal(lambda: inputs.refuse(self.path(name), is_followed))
-            self.must(f"{name}", bool(message) == expected, message)
-        before = os.dup(0)
+                ("other", True, False), ("none", True, False), ("another", False, False),
+                ("another", True, True)):
+            self.check(f"{name} {is_followed}", self.refuses(inputs, name, is_followed), expected)
+
+    def test_refuses_an_output_that_is_the_standard_input(self) -> None:
+        path, before = self.write("one", b"1"), os.dup(0)
         for name, expected in (("one", True), ("pipe", False)):
-            standard = os.open(self.path("one"), os.O_RDONLY) if expected else os.pipe()[0]
-            os.dup2(standard, 0)
-            self.must(f"{name} as standard input", bool(refusal(
-                lambda: Inputs("-").refuse(self.path("one"), True))) == expected)
+            os.dup2(os.open(path, os.O_RDONLY) if name == "one" else os.pipe()[0], 0)
+            self.check(name, self.refuses(Inputs("-"), "one", True), expected)
         os.dup2(before, 0)
-        os.symlink("one", self.path("another"))
-        for is_followed in (False, True):
-            self.must(f"another link {is_followed}", bool(refusal(
-                lambda: inputs.refuse(self.path("another"), is_followed))) == is_followed)
-        os.rename(self.path("one"), self.path("moved"))
-        self.must("it has another name", not refusal(
-            lambda: Inputs(other).refuse(self.path("moved"), True)))
-        missing = Inputs(other)
-        self.must("there", refusal(lambda: missing.refuse(other, True)))
-        os.rename(other, self.path("kept"))
-        self.must("gone", not refusal(lambda: missing.refuse(self.path("kept"), True)))
+
+    def test_does_not_refuse_an_input_that_was_renamed(self) -> None:
+        inputs = Inputs(self.write("other", b"2"))
+        self.check("before", self.refuses(inputs, "other", True), True)
+        os.rename(self.path("other"), self.path("kept"))
+        self.check("after", self.refuses(inputs, "kept", True), False)
 
 
 class Signals(Case):
-    def test_leaves_the_old_or_the_new_file(self) -> None:
+    """Calls that a KeyboardInterrupt, such as by Ctrl-C, ends."""
+
+    def test_leaves_the_old_or_the_new_file_and_no_other(self) -> None:
         for is_before in (True, False):
             path = self.write("file", b"old")
 
-            def replaced(name: str, target: str) -> None:
+            def replace(name: str, target: str) -> None:
                 if not is_before:
                     os.rename(name, target)
                 raise KeyboardInterrupt
 
-            reported: BaseException | None = None
+            error: BaseException | None = None
             try:
-                with mock.patch("subtitles.common.files.os.replace", replaced), \
+                with mock.patch("subtitles.common.files.os.replace", replace), \
                         open_output(path) as file:
                     file.write(b"new")
             except (KeyboardInterrupt, OSError) as reason:
-                reported = reason
-            self.must("the signal", isinstance(reported, KeyboardInterrupt), reported)
-            self.must(f"{is_before}", self.read("file") == (b"old" if is_before else b"new"))
-            self.must("nothing is left", os.listdir(self.folder) == ["file"],
-                      os.listdir(self.folder))
+                error = reason
+            name = "before the file is replaced" if is_before else "after the file was replaced"
+            self.must(f"{name}: error", isinstance(error, KeyboardInterrupt), error)
+            self.check(f"{name}: file", self.read("file"), b"old" if is_before else b"new")
+            self.check(f"{name}: files", os.listdir(self.folder), ["file"])
 
     def test_removes_a_temporary_folder(self) -> None:
+        # The signal comes when the folder is made, when it is removed, or while it is used.
         for place in ("os.mkdir", "shutil.rmtree", ""):
-            def interrupted(path: str, *words: Any, **more: Any) -> None:
-                seen.append(path)
+            def interrupt(path: str, *args: Any, **more: Any) -> None:
+                paths.append(path)
                 if place != "shutil.rmtree":
-                    result(path, *words, **more)
-                if len(seen) == 1:
+                    function(path, *args, **more)
+                if len(paths) == 1:
                     raise KeyboardInterrupt
-                result(path, *words, **more)
+                function(path, *args, **more)
 
-            seen: list[str] = []
-            result: Any = os.mkdir if place == "os.mkdir" else shutil.rmtree
+            paths: list[str] = []
+            function: Any = os.mkdir if place == "os.mkdir" else shutil.rmtree
             patched: Any = \
-                mock.patch(f"subtitles.common.files.{place}", interrupted) if place else \
+                mock.patch(f"subtitles.common.files.{place}", interrupt) if place else \
                 contextlib.nullcontext()
             with mock.patch("tempfile.tempdir", self.folder), self.assertRaises(KeyboardInterrupt):
                 with patched, make_temporary_folder("one-") as folder:
-                    self.must("there", os.path.dirname(folder) == self.folder and os.stat(
-                        folder).st_mode & 0o777 == 0o700)
+                    self.check(f"{place}: parent", os.path.dirname(folder), self.folder)
+                    self.check(f"{place}: mode", os.stat(folder).st_mode & 0o777, 0o700)
                     for name in ("one", "two"):
                         os.mkdir(os.path.join(folder, name))
                     if not place:
                         raise KeyboardInterrupt
-            self.must(f"{place}: nothing is left", os.listdir(self.folder) == [])
+            self.check(f"{place}: files", os.listdir(self.folder), [])

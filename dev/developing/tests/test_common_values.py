@@ -19,6 +19,9 @@ from .bench import Case
 
 
 class Shapes(unittest.TestCase):
+    """The rules of `OUTER_RECORD`: a is "p" and b is `None`, or a consists of q and r; and a is "p"
+    or "q", or b is an inner record."""
+
     INNER_RECORD = Record("inner", "", Member("x", Integer(0, 5)),
                           Member("y", Flag(), is_required=False))
     OUTER_RECORD = Record("outer", "", Member("a", Text()), Member("b", Maybe(INNER_RECORD)),
@@ -26,9 +29,9 @@ class Shapes(unittest.TestCase):
                        Rules(({"a": OneOf("p"), "b": OneOf(None)}, {"a": Text("[qr]+")})),
                        Rules(({"a": Text("[pq]")}, {"b": INNER_RECORD}))))
 
-    def test_reports_the_first_value_of_the_wrong_type(self) -> None:
+    def test_accepts_only_values_of_the_right_type(self) -> None:
         nan, inf = float("nan"), float("inf")
-        item: dict[str, Any] = {"x": 1}
+        # A shape, values that fit, and values that do not
         rows: list[tuple[Shape, list[object], list[object]]] = [
             (Text(), ["", "a", "\n"], [None, 5, b"a", ["a"]]),
             (Text("[a-c]+"), ["abc", "a"], ["", "abcd", "dabc", "abc\n", "ab\nc", None]),
@@ -45,6 +48,10 @@ class Shapes(unittest.TestCase):
                 self.assertIsNone(shape.find_misfit(value), (shape.schema(), value))
             for value in bad:
                 self.assertEqual(shape.find_misfit(value), "", (shape.schema(), value))
+
+    def test_reports_the_place_of_the_first_value_that_does_not_fit(self) -> None:
+        item: dict[str, Any] = {"x": 1}
+        # A shape, a value, and the place ("": the value itself, `None`: all of it fits)
         deep: list[tuple[Shape, object, str | None]] = [
             (ListOf(Integer(0, 9), 3, 1), [1, 2, 3], None), (ListOf(Integer(0, 9), 3, 1), [], ""),
             (ListOf(Integer(0, 9), 3, 1), [1, 2, 3, 4], ""), (ListOf(Flag(), 3), [], None),
@@ -67,6 +74,7 @@ class Shapes(unittest.TestCase):
             self.assertEqual(shape.find_misfit(value), place, value)
 
     def test_cuts_a_text_and_a_list_that_are_too_long(self) -> None:
+        # A shape, a value, and what the result file has
         rows: list[tuple[Shape, object, object]] = [
                 (Text(most=5), "abcde", "abcde"), (Text(most=5), "abcdef", "ab..."),
                 (Text("a*", 5), "a" * 6, "a" * 6), (Text(most=5), None, None),
@@ -90,6 +98,7 @@ class Shapes(unittest.TestCase):
 class Spans(unittest.TestCase):
     def test_has_the_first_frame_and_not_the_end(self) -> None:
         day = FRAMES_OF_A_DAY
+        # A range, whether it includes the frames 0, 25 and 50, and its options
         for between, inside, words in (
                 (ALL_DAY, [True, True, True], ""), (FrameRange(25, 50), [False, True, False],
                                                     "--from 00:00:01:00 --to 00:00:02:00"),
@@ -103,64 +112,87 @@ class Spans(unittest.TestCase):
 
 
 class PrintedLines(unittest.TestCase):
-    def test_keeps_each_command_and_choice_and_a_note_once(self) -> None:
-        printed = list[str]()
-        printer: Any = SimpleNamespace(print_line=printed.append, print_command=printed.append)
-        listener = Listener(printer)
-        listener.add_notes("a", "", "b")
-        listener.add_notes("a", "c")
-        listener.add_notes("b")
-        self.assertEqual((listener.notes, printed), (["a", "b", "c"], []))
-        first, second = (Selection(ORIGIN_CHOICE, value, f"line {value}") for value in "12")
-        listener.add_selection(first)
-        listener.add_selection(second, False)
-        listener.add_command("check", "a b", ">", "c")
-        listener.add_command("check", "d'", "|", "e")
-        listener.print_line("more")
-        self.assertEqual(listener.selections, [first, second])
-        self.assertEqual(listener.commands, ["check 'a b' >c", "check 'd'\"'\"'' | e"])
-        self.assertEqual(printed, ["line 1", *listener.commands, "more"])
+    def setUp(self) -> None:
+        self.printed = list[str]()
+        printer: Any = SimpleNamespace(print_line=self.printed.append,
+                                       print_command=self.printed.append)
+        self.listener = Listener(printer)
 
-    def test_runs_the_last_step_between_sentence_and_line(self) -> None:
+    def test_keeps_each_note_once_and_prints_none(self) -> None:
+        for notes in (("a", "", "b"), ("a", "c"), ("b",)):
+            self.listener.add_notes(*notes)
+        self.assertEqual((self.listener.notes, self.printed), (["a", "b", "c"], []))
+
+    def test_keeps_and_prints_commands_and_choices(self) -> None:
+        first, second = (Selection(ORIGIN_CHOICE, value, f"line {value}") for value in "12")
+        self.listener.add_selection(first)
+        self.listener.add_selection(second, False)  # which is not printed
+        self.listener.add_command("check", "a b", ">", "c")
+        self.listener.add_command("check", "d'", "|", "e")
+        self.listener.print_line("more")
+        commands = ["check 'a b' >c", "check 'd'\"'\"'' | e"]
+        self.assertEqual(self.listener.selections, [first, second])
+        self.assertEqual(self.listener.commands, commands)
+        self.assertEqual(self.printed, ["line 1", *commands, "more"])
+
+    def test_runs_the_last_step_between_sentence_and_last_line(self) -> None:
         printer, out = Printer(Progress()), io.StringIO()
         printer.out, printer.before_last_line = out, lambda: print("at end", file=out)
+        printer.is_quiet = True
+        printer.print_verdict("sentence", "line")
+        self.assertEqual((printer.last_line, out.getvalue()), ("line", "sentence\nat end\nline\n"))
+
+    def test_prints_other_lines_only_if_it_is_not_quiet(self) -> None:
+        printer, out = Printer(Progress()), io.StringIO()
+        printer.out = out
         printer.print_line("one\x07")
         printer.is_quiet = True
         printer.print_line("two")
         self.assertEqual((printer.last_line, out.getvalue()), ("two", "one\\x07\n"))
-        printer.print_verdict("sentence", "line")
-        self.assertEqual((printer.last_line, out.getvalue()), (
-            "line", "one\\x07\nsentence\nat end\nline\n"))
-        with mock.patch.object(out, "write", side_effect=BrokenPipeError), mock.patch(
-                "subtitles.request.commands.discard_output") as silence:
+
+    def test_discards_the_output_if_nobody_reads_it(self) -> None:
+        printer, out = Printer(Progress()), mock.Mock(**{"write.side_effect": BrokenPipeError})
+        printer.out = out
+        with mock.patch("subtitles.request.commands.discard_output") as discard_output:
             printer.print_line("nobody reads it")
-        self.assertEqual((silence.call_args.args, printer.last_line), ((out,), "nobody reads it"))
+        self.assertEqual((discard_output.call_args.args, printer.last_line),
+                         ((out,), "nobody reads it"))
 
 
 class FileNames(Case):
-    def test_gives_the_program_a_file_name_in_utf_8(self) -> None:
-        later = OutputNames("one", self.folder, "out",
-                            "later")  # folder whose files are moved to `out` later
-        for item, name in ((later, "one"), (later.make_part_paths(2), "one.2")):
-            self.must(f"{name}: later", (item.make_display_path("html"), item.report_path,
-                                         item.json_path) == (
-                f"out/{name}.html", f"later/{name}.html", f"later/{name}.json"))
-        later.set_subtitle_file(self.write("a.stl", b"one"))
-        self.must("as it is", later.make_part_paths(1).program_stl == later.program_stl ==
-                  self.path("a.stl"))
-        later.set_subtitle_file(self.path("a.stl"), is_moved=True)
-        self.check("moved", later.make_part_paths(1).moved_stl, "out/one.midnight.copy")
-        own = os.fsdecode(os.fsencode(self.path("caf")) + b"\xe9")
-        self.write(own, b"two")
-        for _ in range(2):
-            later.set_subtitle_file(own)
-            self.must("by another name", later.program_stl == self.path("one.given.stl") and
-                      later.make_part_paths(1).program_stl == later.program_stl and
-                      self.read("one.given.stl") ==
-                      b"two" and later.make_utf_8_path(own, "x") != later.program_stl)
+    def setUp(self) -> None:
+        super().setUp()
+        # Files are written to `later`, and moved to `out` when all are complete.
+        self.names = OutputNames("one", self.folder, "out", "later")
 
-    def test_shortens_long_names_to_different_names(self) -> None:
-        long = ["a" * 179, "a" * 180, "a" * 181, "a" * 182, "a" * 181 + "b", "é" * 90, "é" * 91]
-        result = [make_pair_name(f"{item}.stl") for item in long]
-        self.must("long", len({*result}) == len(long) and [item in result for item in long] == [
-            True, True, False, False, False, True, False], result)
+    def test_writes_to_one_folder_and_displays_the_other(self) -> None:
+        for names, name in ((self.names, "one"), (self.names.make_part_paths(2), "one.2")):
+            self.check(name, (names.make_display_path("html"), names.report_path, names.json_path),
+                       (f"out/{name}.html", f"later/{name}.html", f"later/{name}.json"))
+
+    def test_the_program_reads_the_subtitle_file_itself_or_the_copy_with_moved_times(self) -> None:
+        path = self.write("a.stl", b"one")
+        self.names.set_subtitle_file(path)
+        self.check("itself", (self.names.program_stl, self.names.make_part_paths(1).program_stl),
+                   (path, path))
+        self.names.set_subtitle_file(path, is_moved=True)
+        self.check("moved", self.names.make_part_paths(1).moved_stl, "out/one.midnight.copy")
+
+    def test_gives_the_program_a_file_name_in_utf_8(self) -> None:
+        latin_1 = os.fsdecode(os.fsencode(self.path("caf")) + b"\xe9")
+        self.write(latin_1, b"two")
+        link = self.path("one.given.stl")
+        for _ in range(2):
+            self.names.set_subtitle_file(latin_1)
+            self.check("names", (self.names.program_stl,
+                                 self.names.make_part_paths(1).program_stl), (link, link))
+            self.check("content", self.read("one.given.stl"), b"two")
+            self.must("another", self.names.make_utf_8_path(latin_1, "x") != link)
+
+    def test_shortens_names_of_more_than_180_bytes_to_different_names(self) -> None:
+        short = ["a" * 179, "a" * 180, "é" * 90]
+        long = ["a" * 181, "a" * 182, "a" * 181 + "b", "é" * 91]
+        result = [make_pair_name(f"{name}.stl") for name in (*short, *long)]
+        self.check("short", result[:3], short)
+        self.check("different", len({*result}), len(result))
+        self.check("shortened", {*long} & {*result}, set())
