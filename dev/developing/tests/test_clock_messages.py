@@ -360,10 +360,6 @@ class FirstPictures(unittest.TestCase):
             self.assertEqual(FirstPicture(VIDEO, MPEG_2, 3 * TICKS, 0, other).picture_offset,
                              frames, other)
 
-    def test_describes_the_largest_offset_in_ticks_and_milliseconds(self) -> None:
-        self.assertEqual(describe_largest_offset(180),
-                         "PTS differ from the times of their frames by up to 180 ticks (2.00 ms)")
-
     def test_only_an_estimated_clock_is_a_choice_with_evidence(self) -> None:
         for source, evidence in itertools.product((RECORDING, GIVEN, START, TCP), (
                 None, Selection(ORIGIN_CHOICE, "8", "words"))):

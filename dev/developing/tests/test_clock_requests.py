@@ -120,6 +120,6 @@ class Requests(Case):
             self.assertEqual(result.lines[0] == line, is_unclear, result.lines)
             self.assertEqual(any("rows came" in line for line in result.lines), is_unclear, delays)
 
-    def test_reports_that_no_cue_matches(self) -> None:
+    def test_reports_that_no_cue_matches_if_other_texts_are_sent(self) -> None:
         result = self.find([(TICKS * 99, b"other"), (TICKS * 200, b"texts")], within=1)
         self.assertEqual((result.status, result.lines), (1, ["no cue matches at any origin"]))

@@ -82,7 +82,7 @@ class CommandLine(Case):
                           for item in ((0, 0), (1, 1), (0, 1), (0, 2))],
                          ["0 frames", "1 frame", "0 to 1 frame", "0 to 2 frames"])
 
-    def test_page_888_is_the_default(self) -> None:
+    def test_page_888_is_the_default_of_pes2ts(self) -> None:
         parser = command_line.ToolParser("")
         command_line.add_page(parser)
         self.assertEqual(vars(parser.parse_args([])), {"page": (0, 0x88)})

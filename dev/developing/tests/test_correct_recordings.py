@@ -8,6 +8,7 @@ from __future__ import annotations
 
 import collections
 import random
+from functools import partial
 from typing import Callable, Iterator, List, NamedTuple, Sequence, Tuple
 
 from developing.pes import make_pes_packet
@@ -45,7 +46,6 @@ BOUNDS = {
     AIRINGS: Bound(11, 0, 0)}
 
 
-WriteFiles = Callable[[Case], Tuple[str, str]]  # writes a subtitle file and a recording
 EVERY = ("--every", "40", "--no-complete")
 
 
@@ -54,7 +54,7 @@ class Recording(NamedTuple):
 
     kind: str
     name: str
-    write_files: WriteFiles
+    write_files: Callable[[Case], tuple[str, str]]
     args: Sequence[str] = EVERY
 
     def judge(self, case: Case) -> JudgedPair:
@@ -78,23 +78,20 @@ SHARES: dict[str, tuple[Sequence[int], Sequence[int]]] = {
     "u5": (range(6), range(6))}
 
 
-def make_late_inserter(kind: str, count: int, is_adjoining: bool) -> WriteFiles:
-    def write_files(case: Case) -> tuple[str, str]:
-        chance = random.Random(f"{kind} {count} {is_adjoining}")
-        begins, ends = SHARES[kind]
-        times = [(begin, begin + DISTANCE if is_adjoining and chance.randrange(2) else end)
-                 for begin, end in list_even_times(count)]
-        delays = {end: chance.choice(ends) for _, end in times}
-        delays |= {begin: chance.choice(begins) for begin, _ in times}
-        stl = write_programme(case, times)
-        known = {pts // TICKS + delays.get(pts // TICKS, 0): packets
-                 for pts, packets in schedule_pages(case, stl)}
-        known |= {frame: [HEADER, CLOSING] for frame in (
-            FIRST_TCI - 50, FIRST_TCI - 25, times[-1][1] + 25, times[-1][1] + 50)}
-        return stl, case.write("late.pes", join_pes_packets([
-            (frame * TICKS, known.get(frame, [])) for frame in range(min(known), max(known) + 1)]))
-
-    return write_files
+def write_late_cues(case: Case, kind: str, count: int, is_adjoining: bool) -> tuple[str, str]:
+    chance = random.Random(f"{kind} {count} {is_adjoining}")
+    begins, ends = SHARES[kind]
+    times = [(begin, begin + DISTANCE if is_adjoining and chance.randrange(2) else end)
+             for begin, end in list_even_times(count)]
+    delays = {end: chance.choice(ends) for _, end in times}
+    delays |= {begin: chance.choice(begins) for begin, _ in times}
+    stl = write_programme(case, times)
+    known = {pts // TICKS + delays.get(pts // TICKS, 0): packets
+             for pts, packets in schedule_pages(case, stl)}
+    known |= {frame: [HEADER, CLOSING] for frame in (
+        FIRST_TCI - 50, FIRST_TCI - 25, times[-1][1] + 25, times[-1][1] + 50)}
+    return stl, case.write("late.pes", join_pes_packets([
+        (frame * TICKS, known.get(frame, [])) for frame in range(min(known), max(known) + 1)]))
 
 
 def list_inserters() -> Iterator[Recording]:
@@ -103,8 +100,9 @@ def list_inserters() -> Iterator[Recording]:
         within = max([1, *begins, *ends])
         for count in (12, 24, 80):
             for is_adjoining in (False, True):
-                yield Recording(INSERTERS, f"{kind} {count} {is_adjoining}", make_late_inserter(
-                    kind, count, is_adjoining), ["--within", f"{within}", *EVERY])
+                yield Recording(INSERTERS, f"{kind} {count} {is_adjoining}", partial(
+                    write_late_cues, kind=kind, count=count, is_adjoining=is_adjoining),
+                                ["--within", f"{within}", *EVERY])
 
 
 FrameChoice = Callable[[random.Random, int], List[int]]  # selects some of so many frames
@@ -166,13 +164,10 @@ def make_paced_programme(case: Case, name: str, count: int, each: int) -> tuple[
                  for frame in sorted(frames) for at in range(each)]
 
 
-def make_paced_case(name: str, count: int, each: int) -> WriteFiles:
-    """Return a function that writes the stream of a `make_paced_programme`."""
-    def write_files(case: Case) -> tuple[str, str]:
-        stl, sent = make_paced_programme(case, name, count, each)
-        return stl, case.write("paced.ts", make_service_stream(sent))
-
-    return write_files
+def write_paced_stream(case: Case, name: str, count: int, each: int) -> tuple[str, str]:
+    """Write the stream of a `make_paced_programme`."""
+    stl, sent = make_paced_programme(case, name, count, each)
+    return stl, case.write("paced.ts", make_service_stream(sent))
 
 
 def paces() -> Iterator[Recording]:
@@ -182,7 +177,8 @@ def paces() -> Iterator[Recording]:
         for name in names:
             for count in (12, 30):
                 label = "each third" if name == "alone" and count == 30 else name
-                yield Recording(kind, f"{label} {count}", make_paced_case(label, count, each), args)
+                yield Recording(kind, f"{label} {count}", partial(
+                    write_paced_stream, name=label, count=count, each=each), args)
 
 
 class Service(NamedTuple):
@@ -203,6 +199,7 @@ def make_service_tables(services: Sequence[Service]) -> list[tuple[int, bytes]]:
     return result
 
 
+Plan = Callable[[int], List[Tuple[int, Sequence[Service]]]]
 OWN_SERVICE = Service(1, [(TELETEXT_PID, 2, 0x88)])
 
 
@@ -227,6 +224,12 @@ def make_service_stream(sent: SentPes,
     return maker.data
 
 
+def write_services(case: Case, plan: Plan, beside: Sequence[int]) -> tuple[str, str]:
+    stl = write_programme(case, list_even_times(12))
+    sent = schedule_pages(case, stl)
+    return stl, case.write("some.ts", make_service_stream(sent, plan(len(sent)), beside))
+
+
 def list_services() -> Iterator[Recording]:
     """Yield recordings with several programmes, or with tables that change after the subtitles."""
     silent = Service(2, [(SILENT_PID, 2, 0x88)])
@@ -236,7 +239,7 @@ def list_services() -> Iterator[Recording]:
     moved = Service(1, [(OTHER_PID, 2, 0x88)])
     # The programmes that are announced, each from a PES packet on (`end`: their number), and PIDs
     # that carry PES packets without Teletext
-    plans: dict[str, tuple[Callable[[int], list[tuple[int, Sequence[Service]]]], list[int]]] = {
+    plans: dict[str, tuple[Plan, list[int]]] = {
         "alone": (lambda end: [(0, (OWN_SERVICE,))], []),
         "another page": (lambda end: [(0, (OWN_SERVICE, other_page))], [SILENT_PID]),
         "silent service": (lambda end: [(0, (OWN_SERVICE, silent))], [SILENT_PID]),
@@ -246,93 +249,74 @@ def list_services() -> Iterator[Recording]:
         "another PID behind": (lambda end: [(0, (OWN_SERVICE,)), (end - 1, (moved,))], []),
         "not announced": (lambda end: [(0, (Service(1, []),))], [])}
     for name, (plan, beside) in plans.items():
-        def write_files(case: Case, plan: Callable[[int], list[tuple[int, Sequence[
-                Service]]]] = plan, beside: list[int] = beside) -> tuple[str, str]:
-            stl = write_programme(case, list_even_times(12))
-            sent = schedule_pages(case, stl)
-            return stl, case.write("some.ts", make_service_stream(sent, plan(len(sent)), beside))
-
-        yield Recording(PROGRAMMES, name, write_files)
+        yield Recording(PROGRAMMES, name, partial(write_services, plan=plan, beside=beside))
 
 
-def make_broken_case(*lengths: int) -> WriteFiles:
-    """Return a function that writes a programme with breaks of these lengths in frames."""
-    def write_files(case: Case) -> tuple[str, str]:
-        stl = write_programme(case, list_even_times(20 * (len(lengths) + 1)))
-        sent = []
-        for pts, packets in schedule_pages(case, stl):
-            part = (pts // TICKS - FIRST_TCI) // (20 * DISTANCE)
-            sent.append((pts + TICKS * sum(lengths[:part]), packets))
-        return stl, case.write("breaks.pes", join_pes_packets(sent))
-
-    return write_files
+def write_breaks(case: Case, lengths: Sequence[int]) -> tuple[str, str]:
+    """Write a programme with breaks of these lengths in frames."""
+    stl = write_programme(case, list_even_times(20 * (len(lengths) + 1)))
+    sent = []
+    for pts, packets in schedule_pages(case, stl):
+        part = (pts // TICKS - FIRST_TCI) // (20 * DISTANCE)
+        sent.append((pts + TICKS * sum(lengths[:part]), packets))
+    return stl, case.write("breaks.pes", join_pes_packets(sent))
 
 
 def breaks() -> Iterator[Recording]:
     for lengths in ((25,), (50,), (100,), (124,), (125,), (126,), (250,), (400, 50), (400, 150)):
-        yield Recording(BREAKS, f"{lengths}", make_broken_case(*lengths),
+        yield Recording(BREAKS, f"{lengths}", partial(write_breaks, lengths=lengths),
                         ["--breaks", f"{len(lengths)}", *EVERY])
 
 
-def make_recording_with_tail(count: int) -> WriteFiles:
-    """Return a function that writes a programme and repeats `count` subtitles ten minutes later."""
-    def write_files(case: Case) -> tuple[str, str]:
-        times = [(frame + at * at * 7, end + at * at * 7) for at, (frame, end) in
-                 enumerate(list_even_times(20))]
-        stl = write_programme(case, times)
-        sent = schedule_pages(case, stl)
-        end = times[count - 1][1] * TICKS if count else -1
-        later = [(pts + 15_000 * TICKS, packets) for pts, packets in sent if pts <= end]
-        return stl, case.write("tail.pes", join_pes_packets([*sent, *later]))
-
-    return write_files
+def write_tail(case: Case, count: int) -> tuple[str, str]:
+    """Write a programme and repeat `count` subtitles ten minutes later."""
+    times = [(frame + at * at * 7, end + at * at * 7) for at, (frame, end) in
+             enumerate(list_even_times(20))]
+    stl = write_programme(case, times)
+    sent = schedule_pages(case, stl)
+    end = times[count - 1][1] * TICKS if count else -1
+    later = [(pts + 15_000 * TICKS, packets) for pts, packets in sent if pts <= end]
+    return stl, case.write("tail.pes", join_pes_packets([*sent, *later]))
 
 
-def make_short_subtitle_case(count: int, is_before: bool) -> WriteFiles:
-    """Return a function that writes a programme and many short subtitles of another programme.
+def write_short_subtitles(case: Case, count: int, is_before: bool) -> tuple[str, str]:
+    """Write a programme and many short subtitles of another programme.
 
     The short subtitles last six minutes. They precede the programme if `is_before` is true, and
     otherwise follow it.
     """
-    def write_files(case: Case) -> tuple[str, str]:
-        quick = [(FIRST_TCI + 20 * at, FIRST_TCI + 20 * at + 15) for at in range(450)]
-        others = schedule_pages(case,
-                                write_programme(case, quick, text=b"Others %d", name="quick.stl"))
-        stl = write_programme(case, list_even_times(count))
-        by = TICKS * (10_000 if not is_before else -10_000)
-        return stl, case.write("quick.pes", join_pes_packets(sorted([
-            *schedule_pages(case, stl), *((pts + by, packets) for pts, packets in others)])))
-
-    return write_files
+    quick = [(FIRST_TCI + 20 * at, FIRST_TCI + 20 * at + 15) for at in range(450)]
+    others = schedule_pages(case,
+                            write_programme(case, quick, text=b"Others %d", name="quick.stl"))
+    stl = write_programme(case, list_even_times(count))
+    by = TICKS * (10_000 if not is_before else -10_000)
+    return stl, case.write("quick.pes", join_pes_packets(sorted([
+        *schedule_pages(case, stl), *((pts + by, packets) for pts, packets in others)])))
 
 
-def make_cut_case(count: int) -> WriteFiles:
-    """Return a function that writes a programme with a break between adjoining subtitles.
+def write_cut(case: Case, count: int) -> tuple[str, str]:
+    """Write a programme with a break between adjoining subtitles.
 
     At the break, after `count` subtitles, the page is erased.
     """
-    def write_files(case: Case) -> tuple[str, str]:
-        times = list_even_times(20, True)
-        stl = write_programme(case, times)
-        own = write_programme(case, times[:count], name="first.stl")
-        rest = [(pts + 500 * TICKS, packets) for pts, packets in schedule_pages(case, stl)
-                if pts >= times[count][0] * TICKS]
-        return stl, case.write("cut.pes", join_pes_packets([*schedule_pages(case, own), *rest]))
-
-    return write_files
+    times = list_even_times(20, True)
+    stl = write_programme(case, times)
+    own = write_programme(case, times[:count], name="first.stl")
+    rest = [(pts + 500 * TICKS, packets) for pts, packets in schedule_pages(case, stl)
+            if pts >= times[count][0] * TICKS]
+    return stl, case.write("cut.pes", join_pes_packets([*schedule_pages(case, own), *rest]))
 
 
 def airings() -> Iterator[Recording]:
     """Yield recordings with repeated subtitles, another programme, or a break."""
     for count in (0, 3, 6):
-        yield Recording(AIRINGS, f"tail {count}", make_recording_with_tail(count),
-                        ["--every", "40"])
+        yield Recording(AIRINGS, f"tail {count}", partial(write_tail, count=count), EVERY[:2])
     for count in (5, 8, 12):
         for is_before in (False, True):
             yield Recording(AIRINGS, f"quick {count} {is_before}",
-                            make_short_subtitle_case(count, is_before))
+                            partial(write_short_subtitles, count=count, is_before=is_before))
     for count in (8, 12):
-        yield Recording(AIRINGS, f"cut {count}", make_cut_case(count), [
+        yield Recording(AIRINGS, f"cut {count}", partial(write_cut, count=count), [
             *EVERY, "--to", format_frame(FIRST_TCI + DISTANCE * count)])
 
 

@@ -111,10 +111,6 @@ class Blocks(Case):
             sentence = f'Refused: in subtitle 2 (SN 8) at 00:00:08:00, "{shown}" (block 2), {fault}'
             self.check(name, judge_files(self, stl).verdict.sentence[:len(sentence)], sentence)
 
-    def test_does_not_judge_a_file_that_is_no_subtitle_file(self) -> None:
-        stl = self.write("none.stl", b"no file of subtitles")
-        self.check("verdict", judge_files(self, stl).word, "not judged")
-
 
 class Advice(Case):
     def test_no_clause_advises_an_option_that_accepts_its_fault(self) -> None:

@@ -121,14 +121,6 @@ class ParsedWaivers(Case):
 class WaivedSubtitles(Case):
     """A subtitle file `one.stl` with `PROGRAMME`, and recordings that differ from it."""
 
-    def test_a_pair_is_waived_only_if_all_subtitles_with_its_fault_are(self) -> None:
-        # The numbers of faults that only waived subtitles have; the pair has fault 72.
-        for waived, verdict in (({72}, WAIVED), (set[int](), REFUSED), ({67}, REFUSED)):
-            part = CheckSummary(1, fault_count=1, printed_total=1, fault_numbers={72},
-                                waived_numbers=waived)
-            decision = decide(Grounds([part], make_severity(), has_clock=True))
-            self.check(f"{waived}", decision.word, verdict)
-
     def judge(self, sent: Sequence[ShownSubtitle], severity: Sequence[str],
               programme: Sequence[ShownSubtitle] = PROGRAMME) -> dict[str, Any]:
         """Judge a transmission by `programme` with a severity file. Return the JSON result."""
