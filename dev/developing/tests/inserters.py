@@ -39,16 +39,13 @@ class Inserter(NamedTuple):
         return max(*self.begins, *self.ends, int(self.each > 1))
 
 
-def is_rare_choice(chance: random.Random) -> bool:
-    return chance.randrange(20) == 0
-
-
 # All inserters. They send one PES packet in each frame, one in most frames, or two in each frame,
 # and repeat pages with headers that either erase the page or keep it.
 INSERTERS = [Inserter(name, begins, ends, 12 if keeps else 25, keeps, each, is_left_out)
              for name, (begins, ends) in SHARES.items() for keeps in (False, True)
-             for each, is_left_out in ((1, lambda chance: False), (1, is_rare_choice),
-                                       (2, lambda chance: False))]
+             for each, is_left_out in (
+                 (1, lambda chance: False), (1, lambda chance: chance.randrange(20) == 0),
+                 (2, lambda chance: False))]
 
 
 class LateSubtitle(NamedTuple):

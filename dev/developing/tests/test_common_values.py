@@ -113,6 +113,8 @@ class Spans(unittest.TestCase):
 
 class PrintedLines(unittest.TestCase):
     def setUp(self) -> None:
+        self.printer, self.out = Printer(Progress()), io.StringIO()
+        self.printer.out = self.out
         self.printed = list[str]()
         printer: Any = SimpleNamespace(print_line=self.printed.append,
                                        print_command=self.printed.append)
@@ -136,27 +138,24 @@ class PrintedLines(unittest.TestCase):
         self.assertEqual(self.printed, ["line 1", *commands, "more"])
 
     def test_runs_the_last_step_between_sentence_and_last_line(self) -> None:
-        printer, out = Printer(Progress()), io.StringIO()
-        printer.out, printer.before_last_line = out, lambda: print("at end", file=out)
-        printer.is_quiet = True
-        printer.print_verdict("sentence", "line")
-        self.assertEqual((printer.last_line, out.getvalue()), ("line", "sentence\nat end\nline\n"))
+        self.printer.before_last_line = lambda: print("at end", file=self.out)
+        self.printer.is_quiet = True
+        self.printer.print_verdict("sentence", "line")
+        self.assertEqual(self.out.getvalue(), "sentence\nat end\nline\n")
+        self.assertEqual(self.printer.last_line, "line")
 
     def test_prints_other_lines_only_if_it_is_not_quiet(self) -> None:
-        printer, out = Printer(Progress()), io.StringIO()
-        printer.out = out
-        printer.print_line("one\x07")
-        printer.is_quiet = True
-        printer.print_line("two")
-        self.assertEqual((printer.last_line, out.getvalue()), ("two", "one\\x07\n"))
+        self.printer.print_line("one\x07")
+        self.printer.is_quiet = True
+        self.printer.print_line("two")
+        self.assertEqual((self.printer.last_line, self.out.getvalue()), ("two", "one\\x07\n"))
 
     def test_discards_the_output_if_nobody_reads_it(self) -> None:
-        printer, out = Printer(Progress()), mock.Mock(**{"write.side_effect": BrokenPipeError})
-        printer.out = out
-        with mock.patch("subtitles.request.commands.discard_output") as discard_output:
-            printer.print_line("nobody reads it")
-        self.assertEqual((discard_output.call_args.args, printer.last_line),
-                         ((out,), "nobody reads it"))
+        with mock.patch.object(self.out, "write", side_effect=BrokenPipeError), mock.patch(
+                "subtitles.request.commands.discard_output") as discard_output:
+            self.printer.print_line("nobody reads it")
+        self.assertEqual((discard_output.call_args.args, self.printer.last_line),
+                         ((self.out,), "nobody reads it"))
 
 
 class FileNames(Case):
