@@ -48,12 +48,15 @@ def make_answer(lines: Sequence[str] = ("accepted 10 frames 2 transmissions",),
 def make_part(begin: int | None, end: int | None, origin: int | None,
               printed: CheckOutput | None = None, number: int = 1, source: str = GIVEN,
               packets: Packets | None = None, places: Sequence[LossPlace] = (),
-              **more: Any) -> Part:
-    """Return a part with frames from `begin` to `end`, PES packets, losses and other members."""
+              program_stl: str = "a.stl", **more: Any) -> Part:
+    """Return a part with frames from `begin` to `end`, PES packets, losses and other members.
+
+    `source` is the source of its clock, and `program_stl` the subtitle file that `check` reads.
+    """
     alignment = None if begin is None or end is None or origin is None else \
         TimedPart(begin, end, Clock(origin, source))
     names = OutputNames("a", "", None)
-    names.program_stl = "a.stl"
+    names.program_stl = program_stl
     if packets is not None or places:
         more["recording"] = SimpleNamespace(packets=packets, stream=lambda: None, is_stream=False,
                                             has_picture=lambda: False,
@@ -94,6 +97,7 @@ def run_qc(words: Sequence[str]) -> int:
 
 
 def survey_packets(case: Case, data: bytes, page: Page = PAGE) -> Packets:
+    """Write a file of PES packets. Return what `survey` prints about it."""
     return survey(case.bench.program, case.write("held.pes", data), page).by_pid.get(0, Packets(0))
 
 
@@ -106,5 +110,6 @@ def markup_text(*values: Value) -> str:
 
 
 def make_shell_script(lines: list[str], status: int) -> str:
+    """Return a script that prints lines and exits with a status, or by a signal if negative."""
     printed = "".join(f"echo '{line}'; " for line in lines)
     return printed + (f"exit {status}" if status >= 0 else f"kill {status} $$")

@@ -324,27 +324,36 @@ class Parts(unittest.TestCase):
         into = [*shown[:2], shown[2]._replace(end=401), *shown[3:]]
         two = [shown[0], shown[1]._replace(end=230), shown[1]._replace(begin=240, end=405),
                *shown[3:]]
-        rows: list[tuple[list[ExpectedSubtitle], list[tuple[int, bytes]],
-                         list[tuple[int, ...]]]] = [
-            (shown, [], [(100, 350, 6, 6, 0), (400, 650, 6, 6, 0)]),
-            (shown, [(351, b"x"), (4399, b"y")], [(100, 350, 6, 6, 0), (400, 650, 6, 6, 0)]),
-            (up_to, [(400, b"")], [(100, 400, 6, 6, 0), (400, 650, 6, 6, 0)]),
-            (into, [], [(100, 250, 4, 4, 1), (400, 650, 5, 6, 0)]),
-            (two, [], [(100, 230, 4, 4, 1), (400, 650, 5, 6, 0)])]
-        for (some, extra, wanted), has_two_bases in itertools.product(rows, (False, True)):
+        both: list[tuple[int, ...]] = [(100, 350, 6, 6, 0), (400, 650, 6, 6, 0)]
+        # The subtitles, more page changes, and for each part the first and last frame, the matching
+        # cues, all cues, and the number of subtitles that reach into the next part
+        rows: dict[str, tuple[list[ExpectedSubtitle], list[tuple[int, bytes]],
+                              list[tuple[int, ...]]]] = {
+            "a pause between the parts": (shown, [], both),
+            "other pages in the pause": (shown, [(351, b"x"), (4399, b"y")], both),
+            "no pause": (up_to, [(400, b"")], [(100, 400, 6, 6, 0), (400, 650, 6, 6, 0)]),
+            "a subtitle reaches into the second part": (
+                into, [], [(100, 250, 4, 4, 1), (400, 650, 5, 6, 0)]),
+            "a subtitle after a short pause does": (
+                two, [], [(100, 230, 4, 4, 1), (400, 650, 5, 6, 0)])}
+        for (name, (some, extra, expected)), has_two_bases in itertools.product(
+                rows.items(), (False, True)):
             result = self.parts(some, 4000, has_two_bases, extra)
             self.assertEqual([(*item[:2], item.best.matches, item.best.total, len(item.overlapping))
-                              for item in result], wanted, some)
+                              for item in result], expected, name)
             self.assertEqual([(item.best.start, item.base, item.early) for item in result],
-                             [(0, 0, None), (-4000, int(has_two_bases), None)], some)
+                             [(0, 0, None), (-4000, int(has_two_bases), None)], name)
+            # The last page change of the first part, and the first of the second
             first, second = ([*item.time_base.changes] for item in result)
-            beside = sorted(frame for frame, _ in extra)
-            last = some[2].begin if wanted[0][4] else min(some[2].end, 399)
+            others = sorted(frame for frame, _ in extra)
+            last = some[2].begin if expected[0][4] else min(some[2].end, 399)
             self.assertEqual((first[-1], second[0]), (
-                beside[-1] if beside else last, 4400 if has_two_bases else min(
-                    [item for item in beside if item > last] + [4400])), some)
+                others[-1] if others else last, 4400 if has_two_bases else min(
+                    [item for item in others if item > last] + [4400])), name)
 
     def test_each_part_has_its_own_delays(self) -> None:
+        # In each part, all cues but the first are as many frames late; --late may say that no cue
+        # ever is.
         cues = find_expected_cues(self.shown)
         late = Lateness({0: 1}, {0: 1})
         for delays in itertools.product((0, 1), repeat=2):
@@ -363,12 +372,11 @@ class Parts(unittest.TestCase):
         cues = find_expected_cues(self.shown)
         own = [(TICKS * cue.frame, cue.letters) for cue in cues]
         none = make_time_base(cues, [(0, b"x")]).copy_between([], -1, 9)
-        strange = make_time_base(cues, [(TICKS * at * at, b"x") for at in range(30)])
-        for bases, number in (([make_time_base(cues, own[:2]), make_time_base(cues, own[:5])], 1),
-                              ([make_time_base(cues, own[:5]), make_time_base(cues, own[:4])], 0),
-                              ([none, make_time_base(cues, own[:3]), none], 1),
-                              ([make_time_base(cues, own[:5]), strange], 0),
-                              ([strange, make_time_base(cues, own[:5])], 1)):
+        other_texts = make_time_base(cues, [(TICKS * at * at, b"x") for at in range(30)])
+        two, three, four, five = (make_time_base(cues, own[:count]) for count in (2, 3, 4, 5))
+        # The time bases, named by the number of matching cues, and the number of the chosen one
+        for bases, number in (([two, five], 1), ([five, four], 0), ([none, three, none], 1),
+                              ([five, other_texts], 0), ([other_texts, five], 1)):
             [part] = fit_parts(self.shown[::-1], bases, [])  # subtitles in reverse order
             self.assertEqual((part.base, part[:2], part.best.start, part.overlapping), (
                 number, (100, 650), 0, []), number)
@@ -376,25 +384,29 @@ class Parts(unittest.TestCase):
             self.assertEqual([fit for fit in bases[number].fits if fit.start], part.others,
                              (bases, number))
         self.assertEqual(fit_parts(self.shown, [none], []), [])
-        ends = [(ticks + 3 * TICKS * (not text), text) for ticks, text in own]
-        begins = [(ticks + 3 * TICKS * bool(text), text) for ticks, text in own]
-        for some, start in ((ends, 0), (begins, -3)):
-            [part] = fit_parts(self.shown, [make_time_base(cues, some)], [])
-            self.assertEqual(part.best.start, start, (some, start))
+
+    def test_in_cues_determine_the_origin_of_a_part(self) -> None:
+        cues = find_expected_cues(self.shown)
+        for late_out_cues, late_in_cues, start in ((3, 0, 0), (0, 3, -3)):
+            sent = [(TICKS * (cue.frame + (late_in_cues if cue.letters else late_out_cues)),
+                     cue.letters) for cue in cues]
+            [part] = fit_parts(self.shown, [make_time_base(cues, sent)], [])
+            self.assertEqual(part.best.start, start)
 
 
 class Runs(unittest.TestCase):
+    """Airings of a programme of 12 subtitles: `due` at unequal distances, `grid` at equal ones."""
+
     due = [ExpectedSubtitle(at * at * 7 + 90 * at, at * at * 7 + 90 * at + 60 + at, at, b"%d" % at)
            for at in range(12)]
     grid = [ExpectedSubtitle(100 * at, 100 * at + 50, at, b"%d" % at) for at in range(12)]
 
-    def run_frames(self, shown: Sequence[ExpectedSubtitle], kinds: str, step: int,
-                   has_clock: bool = False
-              ) -> list[tuple[int, int]]:
-        """Return the first and last frame of each airing of a programme.
+    def find_airings(self, shown: Sequence[ExpectedSubtitle], kinds: str, step: int,
+                     has_clock: bool = False) -> list[tuple[int, int]]:
+        """Return the first and last frame of each airing that is found.
 
-        `kinds` has a letter for each airing: r (right), w (wrong texts), f (few right texts), h
-        (half of the cues) or l (less than half).
+        An airing begins `step` frames after the one before. `kinds` has a letter for each: r
+        (right), w (wrong texts), f (few right texts), h (half of the cues) or l (less than half).
         """
         sendings = []
         for number, kind in enumerate(kinds):
@@ -406,19 +418,21 @@ class Runs(unittest.TestCase):
         return [(first[1] + EACH * first[0], last[1] + EACH * last[0])
                 for first, last in find_airings(bases, has_clock)]
 
-    def test_finds_each_run_in_any_order(self) -> None:
+    def test_finds_airings_with_half_of_the_cues_or_more(self) -> None:
         for step, kinds in itertools.product((EACH, -10 ** 6), (
                 "r", "rrr", "hrr", "lr", "rwr", "wrw", "fr")):
             for has_clock in (False, True)[:1 + ("w" in kinds)]:
                 kept = [(EACH * at, EACH * at + self.due[5 if kind == "h" else 11].end)
                         for at, kind in enumerate(kinds)
                         if kind != "l" and not (kind == "w" and has_clock)]
-                self.assertEqual(self.run_frames(self.due, kinds, step, has_clock), kept,
+                self.assertEqual(self.find_airings(self.due, kinds, step, has_clock), kept,
                                  (step, kinds, has_clock))
-        self.assertEqual(self.run_frames(self.grid, "rw", EACH), [(0, 1150)])
-        self.assertEqual(self.run_frames(self.grid, "rr", EACH), [(0, 1150), (EACH, EACH + 1150)])
 
-    def test_finds_the_pes_packets_of_runs_many_hours_apart(self) -> None:
+    def test_finds_an_airing_at_equal_distances_only_by_its_texts(self) -> None:
+        self.assertEqual(self.find_airings(self.grid, "rw", EACH), [(0, 1150)])
+        self.assertEqual(self.find_airings(self.grid, "rr", EACH), [(0, 1150), (EACH, EACH + 1150)])
+
+    def test_finds_the_pes_packets_of_airings_many_hours_apart(self) -> None:
         hour = 90_000
         for away in (14 * hour, 19 * hour + 7):
             packets = make_sent_packets([
@@ -432,9 +446,10 @@ class Runs(unittest.TestCase):
                               for at in range(len(runs))],
                              [(0, first - 1), (last + 1, packets.count - 1)], away)
 
-    def test_returns_the_changes_between_two_places(self) -> None:
+    def test_returns_the_changes_between_two_frames_of_time_bases(self) -> None:
         bases = [make_time_base([], [(TICKS * at, b"%d" % at) for at in range(5)], 4)
                  for _ in range(3)]
+        # A time base and frame to begin after, and to end with; the frames of the changes between
         for low, high, expected in (
                 ((0, 1), (0, 3), [[2], [], []]), ((0, 1), (1, 1), [[2, 3, 4], [0], []]),
                 ((-1, 0), (1, 0), [[0, 1, 2, 3, 4], [], []]), ((1, 4), (1 << 40, 0), [
@@ -443,17 +458,19 @@ class Runs(unittest.TestCase):
             self.assertEqual([[*base.changes] for base in limit_bases(bases, low, high)], expected,
                              (low, high))
 
-    def test_finds_a_run_by_its_times_alone(self) -> None:
+    def test_finds_an_airing_by_its_times_alone(self) -> None:
         cues = find_expected_cues(self.due[:10])
-        for within, (count, changes, is_told) in itertools.product((0, 1), (
+        # The number of cues that are compared, of page changes with other texts at the times of
+        # cues, and whether these are an airing. With --within, at least 20 cues are needed.
+        for within, (count, changes, is_airing) in itertools.product((0, 1), (
                 (20, 20, True), (20, 18, True), (20, 17, False), (16, 15, True), (10, 15, True),
                 (10, 14, False), (9, 20, False), (19, 20, True))):
-            reported = is_told and count >= 10 * (1 + within)
             base = make_time_base(cues, [(TICKS * (cue.frame + within * at % 2), b"%d" % at)
                                          for at, cue in enumerate(cues[:changes])], 9999, within)
             for bases in ([base], [base.copy_between(cues, -1, -1), base],
                           [base.copy_between(cues, -1, 300), base]):
                 expected = {at: (len(bases) - 1, cue.frame + within * at % 2)
                             for at, cue in enumerate(cues[:changes])}
-                self.assertEqual(find_changes_by_time(bases, count), expected if reported else {},
+                is_found = is_airing and count >= 10 * (1 + within)
+                self.assertEqual(find_changes_by_time(bases, count), expected if is_found else {},
                                  (within, count, changes))

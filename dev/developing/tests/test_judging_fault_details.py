@@ -6,7 +6,6 @@ import itertools
 from typing import Any
 from unittest import mock
 
-from developing.pes import make_pes_packet
 from developing.stl import make_gsi_block, make_tti_block
 from subtitles.common.times import CLOCK, TICKS, format_frame
 from subtitles.formats.listing import NamedFault, read_meanings, remove_markup
@@ -23,7 +22,8 @@ from .bench import Case
 from .parts import (
     make_answer, make_example_request, parse_single_fault, survey_packets, make_part,
     decode_packets)
-from .transmissions import CLOSING, HEADER, ORIGIN, write_programme, make_numbered_row
+from .transmissions import (
+    CLOSING, HEADER, ORIGIN, SentPes, join_pes_packets, write_programme, make_numbered_row)
 from .test_judging_faults import NO_C4, ORIGIN_BEFORE_WRAP, cause
 from .test_judging_verdicts import make_part_verdict
 
@@ -39,6 +39,16 @@ REFUSED_SUBTITLE = ["refused 50 Character block {} at 1", "1 faults"]
 
 
 class FaultDetails(Case):
+    def make_read_part(self, lines: list[str], sent: SentPes, stl: str, **more: Any) -> Part:
+        """Return a part from frame 0 to 150 with a PES packet for each PTS and packets in `sent`.
+
+        `check` printed these lines about it, and the number of faults.
+        """
+        answer = make_answer([*lines, f"{len(lines)} faults"], path=self.path("list"))
+        return make_part(0, 150, more.pop("origin", 0), answer, program_stl=stl,
+                         packets=survey_packets(self, join_pes_packets(sent)),
+                         pes=(0, len(sent) - 1), **more)
+
     def part(self, output: list[str], number: int, stl: str) -> Part:
         """Return a part of a second, in which one of six subtitles is expected.
 
@@ -54,10 +64,8 @@ class FaultDetails(Case):
         causes.frames_by_end_fault = {63: number, 74: number + 1}
         request = make_example_request("one.stl", "one.pes", "--from", times[0], "--to", times[1])
         answer = make_answer(lines, path=self.path(f"list{number}"))
-        result = make_part(25 * number, 25 * number + 24, 0, answer, number, request=request,
-                           causes=causes if output == REFUSED else None)
-        result.names.program_stl = stl
-        return result
+        return make_part(25 * number, 25 * number + 24, 0, answer, number, request=request,
+                         program_stl=stl, causes=causes if output == REFUSED else None)
 
     def list_results(self, *outputs: list[str]) -> list[dict[str, Any]]:
         """Return the faults of a recording in which each part has one of these outputs.
@@ -121,12 +129,8 @@ class FaultDetails(Case):
                                            "its DSC is 0 (open subtitles): --open accepts it"),
             ("72 Content frame 00:00:01:00 row 1 column 1", "", "drawn otherwise"),
             ("68 Parity frame 00:00:01:00 packet 0", "", "")]
-        output = make_answer([*(f"refused {line}" for line, _, _ in rows), f"{len(rows)} faults"],
-                             path=self.path("list"))
-        pes = make_pes_packet(25 * TICKS, [NO_C4, CLOSING])
-        part = make_part(0, 99, 0, output, packets=survey_packets(self, pes), pes=(0, 0),
-                         drawing_differences="drawn otherwise")
-        part.names.program_stl = stl
+        part = self.make_read_part([f"refused {line}" for line, _, _ in rows], [
+            (25 * TICKS, [NO_C4, CLOSING])], stl, drawing_differences="drawn otherwise")
         verdict = make_part_verdict([part])
         faults = [*make_faults(verdict)]
         for (line, meaning, remedy), fault in zip(rows, faults):
@@ -144,13 +148,12 @@ class FaultDetails(Case):
         frames = (0, 75, 150)  # of three PES packets
         lines = [*(f"refused 38 UnitLength pes {at}" for at in range(3)), *(
             f"refused 68 Parity frame {format_frame(frame)} packet 0" for frame in frames),
-                 "refused 73 Gap frame 00:00:00:10", "7 faults"]
+                 "refused 73 Gap frame 00:00:00:10"]
+        stl = write_programme(self, [(0, 50)])  # the subtitle of a fault in these frames
         for origin in (0, ORIGIN, ORIGIN_BEFORE_WRAP):
             pts = [(origin + TICKS * frame) % CLOCK for frame in frames]
-            pes = b"".join(make_pes_packet(item, [HEADER, CLOSING]) for item in pts)
-            part = make_part(0, 150, origin, make_answer(lines, path=self.path("list")), pes=(0, 2),
-                             packets=survey_packets(self, pes))
-            part.names.program_stl = write_programme(self, [(0, 50)])  # the subtitle of the part
+            part = self.make_read_part(lines, [(item, [HEADER, CLOSING]) for item in pts], stl,
+                                       origin=origin)
             places = [(at, pts[at], format_frame(frame)) for at, frame in enumerate(frames)]
             self.assertEqual([(item["pes"], item["pes_pts"], item["pes_time"], bool(
                 item["subtitle"])) for item in make_faults(make_part_verdict([part]))], [
@@ -159,16 +162,14 @@ class FaultDetails(Case):
                 (None, None, None, True)], origin)
 
     def test_gives_the_expected_and_the_decoded_cell(self) -> None:
-        data = make_pes_packet(25 * TICKS, [HEADER, make_numbered_row(20, b"\x01xyz"), CLOSING])
+        sent = [(25 * TICKS, [HEADER, make_numbered_row(20, b"\x01xyz"), CLOSING])]
+        stl = write_programme(self, [(25, 50)])
         due = (*BLANK_PAGE[:19], b"  [b".ljust(40), *BLANK_PAGE[20:])
         lines = [f"refused 72 Content frame 00:00:01:00 row 20 column {at}" for at in (2, 3, 4)]
         for within, (option, letter) in itertools.product((0, 3), (
                 ("english", "\u2190"), ("german", "\u00c4"))):
-            part = make_part(0, 99, 0, make_answer([*lines, "3 faults"], path=self.path("cells")),
-                             packets=survey_packets(self, data), pes=(0, 0),
-                             expected_pages=lambda: ExpectedPages(
-                                 [Subtitle(1, 1, 25, 50, 20, 2, b"")], [due]))
-            part.names.program_stl = write_programme(self, [(25, 50)])
+            part = self.make_read_part(lines, sent, stl, expected_pages=lambda: ExpectedPages(
+                [Subtitle(1, 1, 25, 50, 20, 2, b"")], [due]))
             verdict = make_part_verdict([part])
             verdict.request = make_example_request("one.stl", "one.pes", "--within", str(within),
                                                    "--option", option)
@@ -179,13 +180,12 @@ class FaultDetails(Case):
                                      [("20", " "), ("79", "y")]], (within, option))
 
     def test_gives_no_hint_on_a_header_in_an_unread_part(self) -> None:
-        packets = survey_packets(self, make_pes_packet(25 * TICKS, [NO_C4, CLOSING]))
-        part = make_part(0, 99, 0, packets=packets, pes=(0, 0))
-        part.names.program_stl = write_programme(self, [(25, 50)])
-        fault = parse_single_fault("refused 67 X frame 00:00:01:00")
+        line = "refused 67 X frame 00:00:01:00"
+        part = self.make_read_part([line], [(25 * TICKS, [NO_C4, CLOSING])],
+                                   write_programme(self, [(25, 50)]))
         for name, some, has_hint in (("read", part, True),
                                      ("unread", dataclasses.replace(part, pes=None), False)):
-            hint = describe_first_hint(fault, some, make_part_verdict([some]))
+            hint = describe_first_hint(parse_single_fault(line), some, make_part_verdict([some]))
             self.check(name, "C4 (erase page) is clear" in hint, has_hint)
 
     def test_finds_the_code_of_a_received_cell(self) -> None:

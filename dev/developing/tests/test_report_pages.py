@@ -163,9 +163,8 @@ class VerdictLists(Case):
                "refused 68 Parity frame 00:00:03:15 packet 1", "3 faults")
 
     def make_refused_part(self, number: int) -> Part:
-        part = make_part(75, 99, 0, make_answer(self.PRINTED, path=self.path(f"{number}")), number)
-        part.names.program_stl = get_example_path("story.stl")
-        return part
+        return make_part(75, 99, 0, make_answer(self.PRINTED, path=self.path(f"{number}")), number,
+                         program_stl=get_example_path("story.stl"))
 
     def test_the_box_lists_losses_and_faults_without_a_number(self) -> None:
         gaps = [Gap("00:00:01:00", None, f"{at} packets", LossPlace(1, 2, at), is_judged=at != 2)
