@@ -460,8 +460,8 @@ class Runs(unittest.TestCase):
 
     def test_finds_an_airing_by_its_times_alone(self) -> None:
         cues = find_expected_cues(self.due[:10])
-        # The number of cues that are compared, of page changes with other texts at the times of
-        # cues, and whether these are an airing. With --within, at least 20 cues are needed.
+        # The number of cues that matched in the first airing, that of page changes at the times of
+        # its 20 cues, and whether they are an airing. With --within, this needs 20 matches, not 10.
         for within, (count, changes, is_airing) in itertools.product((0, 1), (
                 (20, 20, True), (20, 18, True), (20, 17, False), (16, 15, True), (10, 15, True),
                 (10, 14, False), (9, 20, False), (19, 20, True))):
