@@ -57,14 +57,16 @@ class Origins(Case):
             "without the last two": ((ALL_DAY, (3, 4)), [0])})
 
     def test_distinguishes_subtitles_by_text_row_and_justification(self) -> None:
-        def look(text: bytes, row: int = 20, justify: int = 2) -> Sequence[object]:
+        def read(text: bytes, row: int = 20, justify: int = 2) -> ExpectedSubtitle:
             stl = write_subtitle_file(self, [(0, 9, make_box_line(text))], "look.stl", 0, row,
                                       justify)
-            return read_subtitles_between(stl, "english", ALL_DAY, ())[0].look, text
+            return read_subtitles_between(stl, "english", ALL_DAY, ())[0]
 
-        self.check("different looks", len({look(b"a"), look(b"a", row=22), look(b"a", justify=1),
-                                           look(b"b")}), 4)
-        self.check("equal looks", look(b"a"), look(b"a"))
+        different = [read(b"a"), read(b"a", row=22), read(b"a", justify=1), read(b"b")]
+        self.check("different looks", len({subtitle.look for subtitle in different}), 4)
+        self.check("equal looks", read(b"a"), read(b"a"))
+        self.check("letters", [subtitle.letters for subtitle in different],
+                   [b"a", b"a", b"a", b"b"])
 
     def test_reads_characters_by_the_national_option(self) -> None:
         stl = self.stl([(0, 9, b"\xc8a")])  # an a umlaut, which English lacks

@@ -185,11 +185,12 @@ class Fits(Case):
 
     def test_measures_the_delay_of_each_matching_cue_in_whole_frames(self) -> None:
         late = [(1, b"a"), (10, b""), (22, b"b"), (36, b""), (42, b"x"), (50, b"")]
+        expected = OriginFit(
+            origin=-10 * TICKS % CLOCK, matches=5, content_matches=5, text_matches=2,
+            exact_matches=5, total=6, first_text=10, first_unmatched=50, start=10,
+            delays=[1, 0, 2, 1, 0])
         for ticks in ([0] * 6, [0, 1800, 9, -9, 0, 5]):
-            fit = self.fit(late, ticks, within=2)
-            self.assertEqual((fit.origin, fit.delays, fit.first_unmatched),
-                             (-10 * TICKS % CLOCK, [1, 0, 2, 1, 0], 50), ticks)
-            self.assertEqual((fit.matches, fit.text_matches, fit.total), (5, 2, 6), ticks)
+            self.assertEqual(self.fit(late, ticks, within=2), expected, ticks)
 
     def test_says_whether_the_text_of_a_cue_is_sent_in_its_frame(self) -> None:
         for frame, text, expected in ((20, b"b", True), (20, b"x", False), (21, b"b", False)):
