@@ -8,7 +8,7 @@ import argparse
 import datetime
 import json
 import os
-from typing import Any, Callable, NamedTuple, Sequence
+from typing import Any, Callable, NamedTuple
 from unittest import mock
 
 from subtitles.air import judge, main
@@ -21,42 +21,47 @@ from subtitles.results.files import make_unjudged
 from .bench import Case
 
 DAY = 1_796_112_000.0  # 2026-12-01T08:00:00Z
-LENGTH = 10  # length of a segment in seconds
+SEGMENT_SECONDS = 10
 MARGIN_SECONDS = 60
-WRITTEN = 1e9  # mtime of subtitle files and schedules
+OLD_MTIME = 1e9  # mtime of subtitle files and schedules, long before DAY
 
 
 class SentProgramme(NamedTuple):
-    """A programme's actual air times, and whether its subtitles are correct."""
+    """When a programme is on air, and whether its subtitles are correct."""
 
     begin: float
     end: float
-    is_right: bool = True
+    is_correct: bool = True
+
+
+FAILURE = Outcome(None, "the machine failed")
 
 
 class FakeChecker:
-    """A checker that knows which programmes are on air, and returns the expected outcomes."""
+    """A checker that returns the outcome of `Checker` without judging. `sent` has the programmes on
+    air by the names of their results. If `override` returns an outcome, that is used instead."""
 
     def __init__(self, sent: dict[str, SentProgramme],
-                 fails: Callable[[], bool] = lambda: False) -> None:
-        self.sent, self.fails, self.work, self.calls = sent, fails, os.devnull, list[str]()
+                 override: Callable[[Programme], Outcome | None] = lambda _: None) -> None:
+        self.sent, self.override = sent, override
+        self.work, self.calls = os.devnull, list[str]()
 
     def check(self, programme: Programme, stretch: UnbrokenRun, end: float) -> Outcome:
         name, begin = programme.name, programme.begin
         self.calls.append(name)
-        if self.fails():
-            return Outcome(None, "the machine failed")
+        if overriding := self.override(programme):
+            return overriding
         sent = self.sent.get(name)
         first, last = max(stretch.begin, begin - MARGIN_SECONDS) - DAY, min(stretch.end, end) - DAY
         if sent is None or sent.begin >= last or sent.end <= first:
-            return outcome(name, "not judged", "no cue agrees")
+            return make_outcome(name, "not judged", "no cue agrees")
         if sent.begin > begin - DAY + MARGIN_SECONDS:
-            return outcome(name, "not judged", "it began later")
-        if sent.is_right and sent.begin >= first and sent.end <= last:
-            return outcome(name, "relative", "relative 1500 frames")
+            return make_outcome(name, "not judged", "it began later")
+        if sent.is_correct and sent.begin >= first and sent.end <= last:
+            return make_outcome(name, "relative", "relative 1500 frames")
         if sent.begin < first:
-            return outcome(name, "not judged", "its beginning is missing")
-        refused = outcome(name, "refused", "refused 72" if sent.end < last else "refused 74")
+            return make_outcome(name, "not judged", "its beginning is missing")
+        refused = make_outcome(name, "refused", "refused 72" if sent.end < last else "refused 74")
         return refused._replace(is_finished=sent.end < last)
 
     def clear(self) -> None:
@@ -72,9 +77,10 @@ def make_tdt(seconds: float) -> bytes:
         b"\x47\x1f\xff\x10".ljust(188, b"\xff"))
 
 
-def outcome(name: str, verdict: str, reason: str) -> Outcome:
+def make_outcome(name: str, verdict: str, reason: str, **changes: object) -> Outcome:
+    """Return an outcome whose JSON result has these values, and a recording that was read."""
     return Outcome({**make_unjudged(name, reason, "undecided"), "verdict": verdict,
-                    "inputs": {"recording": {}}},
+                    "inputs": {"recording": {}}, **changes},
                    reason)
 
 
@@ -99,7 +105,7 @@ class AirCase(Case):
     def write(self, name: str, data: bytes | bytearray) -> str:
         """Write a file that was complete long before the programmes."""
         path = super().write(name, data)
-        os.utime(path, (WRITTEN, WRITTEN))
+        os.utime(path, (OLD_MTIME, OLD_MTIME))
         read_content.cache_clear()  # the mtime does not show the change
         return path
 
@@ -112,7 +118,7 @@ class AirCase(Case):
         return read_schedule(self.path("schedule"), self.args(), now, known)
 
     def make_judge(self, checker: FakeChecker, *more: str) -> judge.Judge:
-        """Return a judge that uses a fake checker and does not monitor disks."""
+        """Return a new judge that uses a fake checker and does not monitor segments or disks."""
         result = judge.Judge(self.args(*more), "qc")
         result.checker = checker  # type: ignore
         result.monitor.look = lambda *_: None  # type: ignore
@@ -124,6 +130,7 @@ class AirCase(Case):
 
     def put_segment(self, begin: float, end: float, data: bytes = b"", is_new: bool = False
                     ) -> str:
+        """Put a segment, whose name reports a possible loss before it if `is_new` is true."""
         path = self.path(f"segments/{make_segment_name(DAY + begin, is_new)}")
         with open(path, "wb") as file:
             file.write(data or b"." * max(int(end - begin), 1))
@@ -131,19 +138,20 @@ class AirCase(Case):
         return path
 
     def put_clock_jump(self, step: int, at: int = 0, difference: int = 0) -> None:
-        """Put a segment on each side of a jump of the clock by `step` seconds. Before it, the clock
-        differs from the TDT by `difference`."""
+        """Put a segment on each side of a jump of the clock by `step` seconds; the later begins
+        `at` seconds. Before it, the clock differs from the TDT by `difference` seconds."""
         find_difference.cache_clear()  # other rows have the same names, sizes and times
         begin = at - 10 - max(step, 0)
         self.put_segment(begin, begin + 10, make_tdt(begin - difference))
         self.put_segment(at, at + 10, make_tdt(at - step - difference), is_new=step < 0)
 
-    def put_segments(self, begin: int, end: int, missing: Sequence[tuple[int, int]] = ()) -> None:
-        for at in range(begin, end, LENGTH):
-            if not any(at < last and at + LENGTH > first for first, last in missing):
-                self.put_segment(at, min(at + LENGTH, end))
+    def put_segments(self, begin: int, end: int) -> None:
+        """Put segments of ten seconds between two times."""
+        for at in range(begin, end, SEGMENT_SECONDS):
+            self.put_segment(at, min(at + SEGMENT_SECONDS, end))
 
     def verdicts(self) -> dict[str, str]:
+        """Return the verdict of each result in the folder `out`, by the result's name."""
         names = (name[:-5] for name in os.listdir(self.path("out")) if name.endswith(".json"))
         return {name: str(self.result(name)["verdict"]) for name in names if name != "state"}
 

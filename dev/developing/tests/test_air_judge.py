@@ -2,98 +2,88 @@
 from __future__ import annotations
 
 import contextlib
+import errno
 import json
 import math
 import os
 import time
-from typing import Any, BinaryIO, NamedTuple
+from typing import Any, BinaryIO, Collection, Sequence
 from unittest import mock
 
 from subtitles.air import judge as judging
 from subtitles.air.check import Outcome
 from subtitles.air.decision import Window, give_up, is_clock_wrong, is_given_up
+from subtitles.air.schedule import Programme
 from subtitles.air.segments import (
     Segment, find_segments, make_segment_name, parse_segment_begin)
 from subtitles.air.state import Monitor
 from subtitles.common.files import open_result
-from .air import AirCase, DAY, FakeChecker, MARGIN_SECONDS, SentProgramme, outcome
+from subtitles.formats.teletext import Page
+from .air import (
+    AirCase, DAY, FAILURE, FakeChecker, MARGIN_SECONDS, SentProgramme, make_outcome)
 from .bench import read_example_file
 from .programmes import wait_until
+from .stories import Story, read_table
 from .transmissions import write_subtitle_file
 
 NAME = "20261201T081000Z-one"
-BEGIN, END = 600, 660
+BEGIN, END = 600, 660  # scheduled air time in seconds after DAY
 OTHER_NAME = NAME.replace("one", "two")
 PAGE_NAME = f"{OTHER_NAME}-889"
+PAGE, OTHER_PAGE = (0, 0x88), (0, 0x89)
+
+ON_TIME = {NAME: SentProgramme(BEGIN, END)}
+NEVER_SENT: dict[str, SentProgramme] = {}
+# When the feed was recorded; when the programme was on air, which is scheduled from 600 to 660, and
+# whether its subtitles were wrong; its verdict, and the seconds from the scheduled end to it
+TRIALS = """
+case                               | recorded        | on air        | verdict    | after
+all is there                       | 0-900           | 600-660       | relative   | 10
+wrong                              | 0-900           | 600-660 wrong | refused    | 10
+it begins late                     | 0-900           | 640-700       | relative   | 40
+it begins late, wrong              | 0-900           | 640-700 wrong | refused    | 70
+it begins early                    | 0-900           | 560-620       | relative   | 10
+it begins at the end of the margin | 0-900           | 660-720       | relative   | 70
+it begins after the margin         | 0-900           | 661-721       | not judged | 70
+it begins long after it            | 0-2000          | 900-960       | not judged | 70
+it begins before the margin        | 0-900           | 530-590       | not judged | 70
+the same, wrong                    | 0-900           | 530-590 wrong | not judged | 70
+with long breaks                   | 0-900           | 610-770       | relative   | 130
+with long breaks, wrong            | 0-900           | 610-770 wrong | refused    | 130
+it never ends                      | 0-2000          | 600-1900      | refused    | 130
+never sent                         | 0-900           |               | not judged | 70
+nothing is recorded                |                 |               | not judged | 70
+a gap in it                        | 0-630, 640-900  | 600-660       | not judged | 70
+a gap before it                    | 0-580, 590-900  | 600-660       | relative   | 10
+a gap before it, wrong             | 0-580, 590-900  | 600-660 wrong | refused    | 10
+a gap in one that begins early     | 0-580, 590-900  | 570-630 wrong | not judged | 70
+a gap after it                     | 0-670, 680-900  | 600-660       | relative   | 10
+a gap after it, wrong              | 0-670, 680-900  | 600-660 wrong | refused    | 10
+a gap as soon as it ends, wrong    | 0-660, 680-900  | 600-660 wrong | not judged | 70
+a gap long before a late one       | 0-610, 620-900  | 640-700       | relative   | 40
+a gap in a late one                | 0-680, 690-900  | 640-700       | not judged | 70
+the feed ends in it                | 0-640           | 600-660       | not judged | 70
+the feed begins in it              | 620-900         | 600-660       | not judged | 70
+the feed begins before it          | 590-900         | 600-660       | relative   | 10
+the feed ends after it             | 0-670           | 600-660       | relative   | 10
+"""
+REASONS = {
+    "it begins after the margin": "it began later",
+    "it begins long after it": "no cue agrees",
+    "it begins before the margin": "its beginning is missing",
+    "it never ends": "refused 74",
+    "never sent": "no cue agrees",
+    "nothing is recorded": "not recorded: 2026-12-01T08:09:00Z to 2026-12-01T08:12:00Z",
+    "a gap in it": "not recorded: 2026-12-01T08:10:30Z to 2026-12-01T08:10:40Z; of the rest: "
+                   "refused 74",
+    "a gap in one that begins early": "not recorded: 2026-12-01T08:09:40Z to 2026-12-01T08:09:50Z; "
+                                      "of the rest: its beginning is missing",
+    "a gap as soon as it ends, wrong": "not recorded: 2026-12-01T08:11:00Z to 2026-12-01T08:11:20Z;"
+                                       " of the rest: refused 74"}
 
 
-class AirCaseRow(NamedTuple):
-    """A test case of the judge.
-
-    `recorded` and `missing` are intervals in seconds. The verdict is expected `after` seconds after
-    the scheduled end.
-    """
-
-    recorded: tuple[int, int]
-    missing: tuple[tuple[int, int], ...]
-    sent: SentProgramme | None
-    verdict: str
-    after: int
-    reason: str = ""
-
-
-TRIALS = {
-    "all is there": AirCaseRow((0, 900), (), SentProgramme(600, 660), "relative", 10),
-    "wrong": AirCaseRow((0, 900), (), SentProgramme(600, 660, False), "refused", 10),
-    "it begins late": AirCaseRow((0, 900), (), SentProgramme(640, 700), "relative", 40),
-    "it begins late, wrong": AirCaseRow((0, 900), (), SentProgramme(640, 700, False),
-                                        "refused", 70),
-    "it begins early": AirCaseRow((0, 900), (), SentProgramme(560, 620), "relative", 10),
-    "it begins at the end of the margin": AirCaseRow((0, 900), (), SentProgramme(660, 720),
-                                                     "relative", 70),
-    "it begins after the margin": AirCaseRow((0, 900), (), SentProgramme(661, 721),
-                                             "not judged", 70, "it began later"),
-    "it begins long after it": AirCaseRow((0, 2000), (), SentProgramme(900, 960), "not judged", 70,
-                                          "no cue"),
-    "it begins before the margin": AirCaseRow((0, 900), (), SentProgramme(530, 590),
-                                              "not judged", 70, "its beginning is missing"),
-    "the same, wrong": AirCaseRow((0, 900), (), SentProgramme(530, 590, False), "not judged", 70),
-    "with long breaks": AirCaseRow((0, 900), (), SentProgramme(610, 770), "relative", 130),
-    "with long breaks, wrong": AirCaseRow((0, 900), (), SentProgramme(610, 770, False),
-                                          "refused", 130),
-    "it never ends": AirCaseRow((0, 2000), (), SentProgramme(600, 1900), "refused", 130,
-                                "refused 74"),
-    "never sent": AirCaseRow((0, 900), (), None, "not judged", 70, "no cue"),
-    "nothing is recorded": AirCaseRow((0, 0), (), None, "not judged", 70, "not recorded: "
-                                      "2026-12-01T08:09:00Z to 2026-12-01T08:12:00Z"),
-    "a gap in it": AirCaseRow((0, 900), ((630, 640),), SentProgramme(600, 660), "not judged", 70,
-                              "not recorded: 2026-12-01T08:10:30Z to 2026-12-01T08:10:40Z"),
-    "a gap before it": AirCaseRow((0, 900), ((580, 590),), SentProgramme(600, 660), "relative", 10),
-    "a gap before it, wrong": AirCaseRow((0, 900), ((580, 590),), SentProgramme(600, 660, False),
-                                         "refused", 10),
-    "a gap in one that begins early": AirCaseRow(
-        (0, 900), ((580, 590),), SentProgramme(570, 630, False), "not judged", 70, "not recorded: "
-        "2026-12-01T08:09:40Z to 2026-12-01T08:09:50Z; of the rest: its beginning is missing"),
-    "a gap after it": AirCaseRow((0, 900), ((670, 680),), SentProgramme(600, 660), "relative", 10),
-    "a gap after it, wrong": AirCaseRow((0, 900), ((670, 680),), SentProgramme(600, 660, False),
-                                        "refused", 10),
-    "a gap as soon as it ends, wrong": AirCaseRow(
-        (0, 900), ((660, 680),), SentProgramme(600, 660, False), "not judged", 70, "not recorded: "
-        "2026-12-01T08:11:00Z to 2026-12-01T08:11:20Z; of the rest: refused 74"),
-    "a gap long before a late one": AirCaseRow((0, 900), ((610, 620),), SentProgramme(640, 700),
-                                               "relative", 40),
-    "a gap in a late one": AirCaseRow((0, 900), ((680, 690),), SentProgramme(640, 700),
-                                      "not judged", 70),
-    "the feed ends in it": AirCaseRow((0, 640), (), SentProgramme(600, 660), "not judged", 70),
-    "the feed begins in it": AirCaseRow((620, 900), (), SentProgramme(600, 660), "not judged", 70),
-    "the feed begins before it": AirCaseRow((590, 900), (), SentProgramme(600, 660),
-                                            "relative", 10),
-    "the feed ends after it": AirCaseRow((0, 670), (), SentProgramme(600, 660), "relative", 10),
-}
-
-
-# Lines, each with a begin in seconds, a subtitle file and options; and the expected margins in
-# seconds before and after.
+# Lines of a schedule, each with its time in seconds after DAY, a subtitle file and options; and for
+# each line, how many seconds before and after its time an airing counts for it
 MARGINS = {
     "far apart": (["0 one", "120 one"], [(60, 60), (60, 60)]),
     "other subtitles": (["0 one", "30 two"], [(60, 60), (60, 60)]),
@@ -106,10 +96,10 @@ MARGINS = {
     "not sorted": (["30 one", "0 one"], [(60, 15), (15, 60)])}
 
 
-HOUR, LAST = 3600, 720  # an hour; the end of the window of a programme that begins at BEGIN
+HOUR, LAST = 3600, END + MARGIN_SECONDS  # an hour, and the end of a programme's window
 # For a programme that waits: later segments as begin and end in seconds after its window, the time
 # before which all segments are deleted, the time that the clock shows for an hour, and whether the
-# programme is given up.
+# programme is given up. It may begin until BEGIN + MARGIN_SECONDS.
 GIVEN_UP_CASES: dict[str, tuple[list[tuple[int, int]], float, float, bool]] = {
     "no later feed": ([], 0, 0, False),
     "the latest begin is not deleted": ([], BEGIN + MARGIN_SECONDS, 0, False),
@@ -123,72 +113,92 @@ GIVEN_UP_CASES: dict[str, tuple[list[tuple[int, int]], float, float, bool]] = {
     "the clock shows more than that": ([], 0, LAST + 48 * HOUR + 1, True)}
 
 
+# What the JSON result of a refused file has instead of a recording or faults
+FILE_FAULTS: dict[str, dict[str, object]] = {
+    "its recording was not read": {"inputs": {"recording": None}},
+    "its recording was judged": {"faults": [{"file": "stl", "severity": "error"}]}}
+
+
 class JudgedProgrammes(AirCase):
-    now = lag = 0
+    """`air judge` with a margin of 60 seconds, a fake checker, and a schedule with one.stl, whose
+    subtitles take 60 seconds, at 08:10:00. Times are seconds after DAY, which is 08:00:00. The
+    programme is expected from BEGIN to END, and searched for in its window from 540 to LAST. If a
+    test does not change it, the feed was recorded from 0 to 900 without a gap."""
+
+    now = recorder_lag = 0
 
     def setUp(self) -> None:
         super().setUp()
         write_subtitle_file(self, [(0, 1500, b"One")])
         write_subtitle_file(self, [(0, 1500, b"Two")], "two.stl")
         self.write_schedule("2026-12-01T08:10:00Z one.stl")
+        self.put_segments(0, 900)
 
-    def run_judge(self, checker: FakeChecker, end: int, begin: int = BEGIN, *more: str
-                  ) -> judging.Judge:
-        """Run the judge every five seconds from `begin` to `end`, or until it writes a result."""
-        judge = self.make_judge(checker, *more)
-        for self.now in range(begin, end, 5):
+    def run_judge(self, checker: FakeChecker, until: int, since: int = BEGIN,
+                  options: Sequence[str] = ()) -> judging.Judge:
+        """Let a new judge look every five seconds from `since` on, until there is a result or the
+        time `until`. Set `self.now` to the time of its last look. Return the judge."""
+        judge = self.make_judge(checker, *options)
+        for self.now in range(since, until, 5):
             while judge.look(DAY + self.now):
                 pass
             if self.verdicts():
                 break
         return judge
 
-    def list_recorded_segments(self, folder: str, begin: float, end: float) -> list[Segment]:
-        now = DAY + self.now - self.lag
+    def find_recorded_segments(self, folder: str, begin: float, end: float) -> list[Segment]:
+        """Return the segments, or their beginnings, that a recorder has written by `self.now`."""
+        now = DAY + self.now - self.recorder_lag
         result = find_segments(folder, begin, min(end, now))
         return [item._replace(end=min(item.end, now)) for item in result]
 
-    def test_each_programme_is_judged_in_time(self) -> None:
-        for name, trial in TRIALS.items():
-            self.delete_all("segments", "out")
-            checker = FakeChecker({NAME: trial.sent} if trial.sent else {})
-            self.put_segments(*trial.recorded, trial.missing)
-            with mock.patch.object(judging, "find_segments", self.list_recorded_segments):
-                self.run_judge(checker, 1500)
-            actual = self.verdicts().get(NAME), self.now - END
-            if self.check(name, actual, (trial.verdict, trial.after)):
-                self.must(f"{name}: why", trial.reason in self.result(NAME)["reason"],
-                          self.result(NAME)["reason"])
-                os.unlink(self.path(f"out/{NAME}.json"))
-            self.run_judge(checker, 2000, 1900)
-            self.check(f"{name}: once", self.verdicts().get(NAME), trial.verdict)
+    def put_trial(self, row: Story) -> FakeChecker:
+        """Put the recorded segments of a row. Return a checker that knows what is on air."""
+        self.delete_all("segments", "out")
+        for interval in filter(None, row["recorded"].split(", ")):
+            self.put_segments(*map(int, interval.split("-")))
+        begin, _, end = row["on air"].removesuffix(" wrong").partition("-")
+        return FakeChecker({NAME: SentProgramme(int(begin), int(end), "wrong" not in row["on air"])}
+                           if begin else NEVER_SENT)
 
-    def test_waits_for_a_recorder_that_lags(self) -> None:
-        self.put_segments(0, 900)
-        self.lag = 9
-        with mock.patch.object(judging, "find_segments", self.list_recorded_segments):
-            self.run_judge(FakeChecker({}), 1500, END + MARGIN_SECONDS)
-        self.check("reason", self.result(NAME)["reason"], "no cue agrees")
+    def test_judges_each_programme_as_soon_as_its_result_is_certain(self) -> None:
+        for row in read_table(TRIALS):
+            checker, name = self.put_trial(row), row["case"]
+            with mock.patch.object(judging, "find_segments", self.find_recorded_segments):
+                self.run_judge(checker, until=1500)
+            self.check(name, (self.verdicts().get(NAME), self.now - END),
+                       (row["verdict"], int(row["after"])))
+            if reason := REASONS.get(name):
+                self.check(f"{name}: reason", self.result(NAME)["reason"], reason)
+
+    def test_a_judge_that_starts_long_after_a_programme_gives_the_same_verdict(self) -> None:
+        for row in read_table(TRIALS):
+            self.run_judge(self.put_trial(row), since=1900, until=2000)
+            self.check(row["case"], self.verdicts().get(NAME), row["verdict"])
+
+    def test_waits_for_a_recorder_that_lags_by_less_than_ten_seconds(self) -> None:
+        self.recorder_lag = 9
+        with mock.patch.object(judging, "find_segments", self.find_recorded_segments):
+            self.run_judge(FakeChecker(NEVER_SENT), since=LAST, until=1500)
+        self.check("not `not recorded`", self.result(NAME)["reason"], "no cue agrees")
 
     def test_judges_a_programme_at_most_five_times(self) -> None:
-        self.put_segments(0, 900)
-        checker = FakeChecker({})
-        self.run_judge(checker, 1500)
-        self.must("at most five times", len(checker.calls) <= 5, checker.calls)
+        checker = FakeChecker(NEVER_SENT)
+        self.run_judge(checker, until=1500)
+        self.must("calls", 1 < len(checker.calls) <= 5, checker.calls)
 
-    def test_retries_after_a_system_failure(self) -> None:
-        self.put_segments(0, 900)
-        left = [*range(20)]
-        self.run_judge(FakeChecker({NAME: SentProgramme(600, 660)},
-                                   lambda: bool(left and [left.pop()])),
-                       3000)
-        self.check("in the end it is judged", self.verdicts(), {NAME: "relative"})
+    def test_retries_after_system_failures(self) -> None:
+        failures = [FAILURE] * 20
+        checker = FakeChecker(ON_TIME, lambda _: failures.pop() if failures else None)
+        self.run_judge(checker, until=3000)
+        self.check("verdict after the last failure", self.verdicts(), {NAME: "relative"})
 
-    def test_writes_a_failure_once_the_segments_are_deleted(self) -> None:
-        self.put_segments(0, 900)
-        judge = self.run_judge(FakeChecker({}, lambda: True), 1500)
-        self.check("no result yet", self.verdicts(), {})
-        self.check("it is late", judge.monitor.late, [NAME])
+    def test_a_programme_that_is_not_judged_in_time_is_late(self) -> None:
+        judge = self.run_judge(FakeChecker(NEVER_SENT, lambda _: FAILURE), until=1500)
+        self.check("results, late", (self.verdicts(), judge.monitor.late), ({}, [NAME]))
+
+    def test_reports_a_system_failure_once_the_segments_are_deleted(self) -> None:
+        judge = self.run_judge(FakeChecker(NEVER_SENT, lambda _: FAILURE), until=1500)
         self.delete_all("segments")
         for now in range(1500, 1700, 5):
             judge.look(DAY + now)
@@ -196,111 +206,108 @@ class JudgedProgrammes(AirCase):
                    "2026-12-01T08:12:00Z; before that: the machine failed")
 
     def test_slow_failures_take_a_tenth_of_the_time(self) -> None:
-        self.put_segments(0, 900)
-        checker, clock = FakeChecker({}), [0.0]
+        clock = [0.0]
 
-        def fail(*_: object) -> Outcome:
-            clock[0] += 100
-            return Outcome(None, "it was not judged within 100 seconds")
+        def fail(_: Programme) -> Outcome:
+            clock[0] += 100  # seconds that each attempt takes
+            return FAILURE
 
-        checker.check = fail  # type: ignore
+        checker = FakeChecker(NEVER_SENT, fail)
         with mock.patch.object(time, "monotonic", lambda: clock[0]):
-            self.run_judge(checker, 700 + 10_000, 700)
-        self.check("tries", clock[0] / 100, 10)
+            self.run_judge(checker, since=700, until=700 + 10_000)
+        self.check("attempts of 100 s in 10,000 s", len(checker.calls), 10)
 
-    def test_waits_for_a_missing_subtitle_file(self) -> None:
-        self.put_segments(0, 900)
+    def test_a_programme_whose_file_is_missing_is_late_a_margin_after_its_window(self) -> None:
+        os.unlink(self.path("one.stl"))
+        last = BEGIN + MARGIN_SECONDS  # the window of a file without a length ends
+        judge = self.make_judge(FakeChecker(ON_TIME))
+        for now, late in ((last + MARGIN_SECONDS - 5, []), (last + MARGIN_SECONDS + 5, [NAME])):
+            judge.look(DAY + now)
+            self.check(f"late at {now}", judge.monitor.late, late)
+
+    def test_judges_a_programme_once_its_missing_file_is_there(self) -> None:
         os.rename(self.path("one.stl"), self.path("later.stl"))
-        checker = FakeChecker({NAME: SentProgramme(600, 660)})
-        judge = self.run_judge(checker, 720)
-        self.check("it is not late yet", judge.monitor.late, [])
-        judge.look(DAY + 725)
-        self.check("it is late", judge.monitor.late, [NAME])
+        checker = FakeChecker(ON_TIME)
+        self.run_judge(checker, until=725)
         os.rename(self.path("later.stl"), self.path("one.stl"))
-        self.run_judge(checker, 2100, 2000)
-        self.check("once it is there", self.verdicts(), {NAME: "relative"})
+        self.run_judge(checker, since=2000, until=2100)
+        self.check("results", self.verdicts(), {NAME: "relative"})
 
     def test_reads_few_segments_while_a_subtitle_file_is_missing(self) -> None:
         self.put_segments(0, 4000)
         os.unlink(self.path("one.stl"))
         with mock.patch.object(os, "stat", wraps=os.stat) as stat:
-            self.run_judge(FakeChecker({}), 4000, 3900)
+            self.run_judge(FakeChecker(NEVER_SENT), since=3900, until=4000)
         names = {os.path.basename(call.args[0]) for call in stat.call_args_list}
         count = len([name for name in names if parse_segment_begin(name)])
-        self.must("those of the window, and a few more", 12 <= count < 20, count)
+        self.must("the 12 of the window, and a few more", 12 <= count < 20, count)
 
-    def test_waits_until_a_subtitle_file_is_complete(self) -> None:
-        self.put_segments(0, 900)
+    def test_judges_a_programme_once_its_file_is_complete_for_a_minute(self) -> None:
         data = self.read("one.stl")
-        checker = FakeChecker({NAME: SentProgramme(600, 660)})
-        for size, at in ((0, 600), (1100, 700)):
+        checker = FakeChecker(ON_TIME)
+        for size, changed in ((0, 600), (1100, 700)):
             self.write("one.stl", data[:size])
-            os.utime(self.path("one.stl"), (DAY + at, DAY + at))
-            self.run_judge(checker, 1500)
+            os.utime(self.path("one.stl"), (DAY + changed, DAY + changed))
+            self.run_judge(checker, until=1500)
             self.check(f"{size} bytes", (self.verdicts(), checker.calls), ({}, []))
         self.write("one.stl", data)
         os.utime(self.path("one.stl"), (DAY + 2000, DAY + 2000))
-        self.run_judge(checker, 3000, 2000)
+        self.run_judge(checker, since=2000, until=3000)
         self.check("complete", self.verdicts(), {NAME: "relative"})
         self.must("when", 2060 <= self.now <= 2120, self.now)
 
     def test_judges_a_file_again_that_is_changed_meanwhile(self) -> None:
-        self.put_segments(0, 900)
-        checker = FakeChecker({NAME: SentProgramme(600, 660)})
-        real, left = checker.check, [1]
+        new_mtimes = [DAY + 601]
 
-        def check(*args: Any) -> Outcome:
-            if left:
-                os.utime(self.path("one.stl"), (DAY + 600 + left.pop(), DAY + 601))
-            return real(*args)
+        def change_file_once(_: Programme) -> None:
+            if new_mtimes:
+                os.utime(self.path("one.stl"), (DAY, new_mtimes.pop()))
 
-        checker.check = check  # type: ignore
-        judge = self.run_judge(checker, 671)
+        checker = FakeChecker(ON_TIME, change_file_once)
+        judge = self.run_judge(checker, until=671)
         self.check("no result yet", self.verdicts(), {})
         self.must("reason", judge.monitor.last_error.endswith("was changed while it was judged"),
                   judge.monitor.last_error)
-        self.run_judge(checker, 700, 672)
+        self.run_judge(checker, since=672, until=700)
         self.check("then", self.verdicts(), {NAME: "relative"})
 
+    def make_refusal(self, name: str) -> Outcome:
+        """Put a feed with a gap after the programme. Return a refusal because of a file's fault."""
+        self.delete_all("segments", "out")
+        self.put_segments(0, 670)
+        self.put_segments(680, 900)
+        return make_outcome(NAME, "refused", "refused 56 OutOfOrder block 2", **FILE_FAULTS[name])
+
     def test_a_refused_file_may_be_corrected_until_the_margin_has_passed(self) -> None:
-        self.put_segments(0, 900, [(670, 680)])  # a gap after the programme
-        fault = {"file": "stl", "severity": "error"}
-        rows: list[tuple[str, dict[str, Any]]] = [
-            ("its recording was not read", {"inputs": {"recording": None}}),
-            ("its recording was judged", {"faults": [fault]})]
-        for name, changes in rows:
-            refused = outcome(NAME, "refused", "refused 56 OutOfOrder block 2")
-            assert refused.result
-            refused.result.update(changes)
-            checker = FakeChecker({NAME: SentProgramme(600, 660)})
-            real, is_corrected = checker.check, False
-            checker.check = lambda *args: real(*args) if is_corrected else refused  # type: ignore
-            self.run_judge(checker, END + MARGIN_SECONDS + 10)
+        for name in FILE_FAULTS:
+            refusal = self.make_refusal(name)
+            self.run_judge(FakeChecker(ON_TIME, lambda _: refusal), until=LAST + 10)
             self.check(f"{name}: no result yet", self.verdicts(), {})
-            is_corrected = True
-            self.run_judge(checker, 800, self.now)
+            self.run_judge(FakeChecker(ON_TIME), since=self.now, until=800)
             self.check(f"{name}: corrected", self.verdicts(), {NAME: "relative"})
-            self.delete_all("out")
-            is_corrected = False
-            self.run_judge(checker, 1500)
-            self.check(f"{name}: not corrected", (self.verdicts(), self.now - END),
-                       ({NAME: "refused"}, 70))
-            self.delete_all("out")
+
+    def test_a_file_that_is_not_corrected_is_refused_ten_seconds_after_the_margin(self) -> None:
+        for name in FILE_FAULTS:
+            refusal = self.make_refusal(name)
+            self.run_judge(FakeChecker(ON_TIME, lambda _: refusal), until=1500)
+            self.check(name, (self.verdicts(), self.now), ({NAME: "refused"}, LAST + 10))
 
     def test_gives_up_a_programme_after_an_hour_of_later_feed(self) -> None:
+        self.delete_all("segments")
         with mock.patch.object(judging, "MIN_RECORDED_LATER", 3600.0):
-            judge = self.run_judge(FakeChecker({}), 9000)
+            judge = self.run_judge(FakeChecker(NEVER_SENT), until=9000)
             self.check("without segments", (self.verdicts(), judge.monitor.late), ({}, [NAME]))
             self.put_segment(730, 740, is_new=True)
-            self.put_segments(740, 4320)
-            self.run_judge(FakeChecker({}), 9000)
-            self.check("with almost an hour", self.verdicts(), {})
-            self.put_segments(4320, 4340)
-            self.run_judge(FakeChecker({}), 9000)
-        self.check("with an hour", self.verdicts(), {NAME: "not judged"})
+            self.put_segments(740, LAST + HOUR)
+            self.run_judge(FakeChecker(NEVER_SENT), until=9000)
+            self.check("after an hour less ten seconds", self.verdicts(), {})
+            self.put_segments(LAST + HOUR, LAST + HOUR + 20)
+            self.run_judge(FakeChecker(NEVER_SENT), until=9000)
+        self.check("after an hour", self.verdicts(), {NAME: "not judged"})
 
     def test_tries_again_at_once_after_the_clock_was_set_back(self) -> None:
-        judge = self.make_judge(FakeChecker({NAME: SentProgramme(600, 660)}))
+        self.delete_all("segments")
+        judge = self.make_judge(FakeChecker(ON_TIME))
         with mock.patch.object(judging, "MIN_RECORDED_LATER", 3600.0):
             judge.look(DAY + 3900)  # before the programme, with a clock that is ahead
             self.put_segments(0, 900)
@@ -309,93 +316,92 @@ class JudgedProgrammes(AirCase):
                 judge.look(DAY + now)
         self.check("results", self.verdicts(), {NAME: "relative"})
 
-    def test_nothing_is_final_while_the_clock_is_wrong(self) -> None:
-        self.put_segments(0, 900)
-        checker = FakeChecker({NAME: SentProgramme(600, 660)})
-        real = checker.check
+    def test_judges_nothing_while_the_clock_is_wrong(self) -> None:
+        checker = FakeChecker(ON_TIME)
         judge = self.make_judge(checker)
         judge.monitor.is_clock_wrong = True
         judge.look(DAY + 680)
-        self.check("wrong before", checker.calls, [])
+        self.check("calls", checker.calls, [])
 
-        def check(*args: Any) -> Outcome:
-            judge.monitor.is_clock_wrong = len(checker.calls) == 0
-            return real(*args)
+    def test_judges_again_if_the_clock_was_wrong_meanwhile(self) -> None:
 
-        checker.check = check  # type: ignore
-        judge.monitor.is_clock_wrong = False
+        def change_clock(_: Programme) -> None:
+            judge.monitor.is_clock_wrong = len(checker.calls) == 1
+
+        checker = FakeChecker(ON_TIME, change_clock)
+        judge = self.make_judge(checker)
         judge.look(DAY + 680)
-        self.check("wrong meanwhile", (self.verdicts(), checker.calls), ({}, [NAME]))
+        self.check("wrong", (self.verdicts(), checker.calls), ({}, [NAME]))
         judge.monitor.is_clock_wrong = False
         judge.look(DAY + 680)
         self.check("right", self.verdicts(), {NAME: "relative"})
 
     def test_judges_no_programme_if_the_clock_jumped_since_its_margin(self) -> None:
-        never_sent, file_refused = (outcome(NAME, "refused", "refused 72") for _ in range(2))
-        assert file_refused.result
-        file_refused.result["inputs"]["recording"] = None
-        right = outcome(NAME, "relative", "relative 1500 frames")
+        never_sent = make_outcome(NAME, "refused", "refused 72")
+        file_refused = make_outcome(NAME, "refused", "refused 72", inputs={"recording": None})
+        right = make_outcome(NAME, "relative", "relative 1500 frames")
         doubt = "the clock jumped by -120 s from the TDT at 2026-12-01T08:"
-        rows: dict[str, tuple[Outcome, int, str]] = {
-            "before the margin": (never_sent, 530, "refused 72"),
-            "as it begins": (never_sent, 540, f"{doubt}09:00Z: refused 72"),
-            "later": (never_sent, 1000, f"{doubt}16:40Z: refused 72"),
-            "later, and it seems right": (right, 1000, f"{doubt}16:40Z: relative 1500 frames"),
-            "later, and the file is refused": (file_refused, 1000, "refused 72")}
-        for name, (result, at, reason) in rows.items():
+        # The checker's outcome, the time of the jump, and the verdict and reason in the result
+        rows: dict[str, tuple[Outcome, int, str, str]] = {
+            "before the margin": (never_sent, 530, "refused", "refused 72"),
+            "as it begins": (never_sent, 540, "not judged", f"{doubt}09:00Z: refused 72"),
+            "later": (never_sent, 1000, "not judged", f"{doubt}16:40Z: refused 72"),
+            "later, and it seems right": (right, 1000, "not judged",
+                                          f"{doubt}16:40Z: relative 1500 frames"),
+            "later, and the file is refused": (file_refused, 1000, "refused", "refused 72")}
+        for name, (outcome, jump, verdict, reason) in rows.items():
             self.delete_all("segments", "out")
-            self.put_segments(min(at + 10, 550), 900)
-            self.put_clock_jump(-120, at)
-            checker = FakeChecker({})
-            checker.check = lambda *_: result  # type: ignore
-            self.run_judge(checker, 1500)
+            self.put_segments(min(jump + 10, 550), 900)
+            self.put_clock_jump(-120, jump)
+            self.run_judge(FakeChecker(NEVER_SENT, lambda _: outcome), until=1500)
             self.check(name, (self.verdicts()[NAME], self.result(NAME)["reason"]),
-                       ("not judged" if doubt in reason else result.verdict, reason))
+                       (verdict, reason))
 
     def test_gives_up_a_programme_that_waits_for_too_long(self) -> None:
-        window = Window(BEGIN, BEGIN + 60, 60, MARGIN_SECONDS, MARGIN_SECONDS)
+        window = Window(BEGIN, END, END - BEGIN, MARGIN_SECONDS, MARGIN_SECONDS)
         for name, (spans, deleted, clock, expected) in GIVEN_UP_CASES.items():
             later = [Segment("", 1, LAST + begin, LAST + end) for begin, end in spans]
             self.check(name, is_given_up(window, later, deleted, clock), expected)
 
     def test_a_programme_that_is_given_up_is_not_judged(self) -> None:
         for last, kind, reason in (
-                (outcome(NAME, "not judged", "no cue agrees"), "undecided", "no cue agrees"),
+                (make_outcome(NAME, "not judged", "no cue agrees"), "undecided", "no cue agrees"),
                 (Outcome(None, "no room"), "resource", "no room"),
-                (outcome(NAME, "refused", "refused never sent"), "input",
+                (make_outcome(NAME, "refused", "refused never sent"), "input",
                  "a line nearby has no subtitle file: refused never sent")):
             result = give_up(NAME, last).result or {}
             self.check(reason, [result[key] for key in (
                 "verdict", "not_judged_kind", "reason")], ["not judged", kind, reason])
 
     def test_a_clock_that_is_three_days_ahead_ends_a_line_only_after_an_hour(self) -> None:
+        self.delete_all("segments")
         os.unlink(self.path("one.stl"))
-        judge, minute = self.make_judge(FakeChecker({})), 0
-        # Minutes of polling, and whether the clock is ahead
+        judge, minute = self.make_judge(FakeChecker(NEVER_SENT)), 0
+        # Minutes of polling, whether the clock is ahead, and the number of results after that
         for minutes, is_ahead, count in ((1, True, 0), (90, False, 0), (1, True, 0), (1, False, 0),
                                          (60, True, 0), (1, True, 1)):
             for minute in range(minute, minute + minutes):
                 with mock.patch.object(time, "monotonic", lambda: 60.0 * minute):
                     judge.look(DAY + 60 * minute + 72 * HOUR * is_ahead)
             minute += 1
-            self.check(f"minute {minute}", len(self.verdicts()), count)
+            self.check(f"results at minute {minute}", len(self.verdicts()), count)
         self.check("reason", self.result(NAME)["reason"], f"{self.path('one.stl')} does not exist")
 
     def test_waits_for_the_subtitle_file_of_a_line_that_may_be_nearer(self) -> None:
-        self.put_segments(0, 900)
+        """one.stl is on air at 640, nearer to two.stl at 650 than to its own time, 600. So the
+        verdict of one.stl depends on whether two.stl, which is missing, has the same subtitles."""
         self.write_schedule("2026-12-01T08:10:00Z one.stl", "2026-12-01T08:10:50Z two.stl")
-        two = self.read("two.stl")
-        for name, data, early in (("the same subtitles", self.read("one.stl"), "not judged"),
-                                  ("others", two, "not judged"),
-                                  ("others, never sent so far", two, "refused")):
+        one, two = self.read("one.stl"), self.read("two.stl")
+        # Content of two.stl, and the verdict of one.stl while two.stl is missing, and after that
+        for name, data, early, late in (
+                ("the same subtitles", one, "not judged", "not judged"),
+                ("others", two, "not judged", "relative"),
+                ("others, never sent so far", two, "refused", "relative")):
             self.delete_all("out")
             os.unlink(self.path("two.stl"))
-            sent, checker = SentProgramme(640, 700), FakeChecker({})
-            real = checker.check
-            checker.sent = {NAME: sent}
-            checker.check = lambda item, *run: real(item, *run) if (  # type: ignore
-                item.begin + item.late >= DAY + sent.begin) else outcome(
-                    item.name, early, "it began later")._replace(is_finished=False)
+            checker = FakeChecker({NAME: SentProgramme(640, 700)}, lambda item: None if (
+                item.begin + item.late >= DAY + 640) else make_outcome(
+                    item.name, early, "it began later")._replace(is_finished=False))
             judge = self.make_judge(checker)
             for now in range(600, 5000, 50):
                 judge.look(DAY + now)
@@ -403,183 +409,170 @@ class JudgedProgrammes(AirCase):
             self.write("two.stl", data)
             for now in range(5000, 6000, 50):
                 judge.look(DAY + now)
-            self.check(name, self.verdicts().get(NAME),
-                       "relative" if data == two else "not judged")
+            self.check(name, self.verdicts().get(NAME), late)
 
     def test_an_airing_counts_for_the_nearest_line(self) -> None:
         for name, (lines, expected) in MARGINS.items():
             self.write_schedule(*(
                 f"2026-12-01T08:{int(begin) // 60:02}:{int(begin) % 60:02}Z {stl}.stl "
                 f"{' '.join(options)}" for begin, stl, *options in map(str.split, lines)))
-            judge = self.make_judge(FakeChecker({}))
+            judge = self.make_judge(FakeChecker(NEVER_SENT))
             judge.look(DAY)
             limited = [judge.limit_margins(item, judge.read_delivery(item, DAY), DAY)[0]
                        for item in judge.schedule.programmes]
             self.check(name, [(item.early, item.late) for item in limited], expected)
 
-    def test_gives_up_on_a_subtitle_file_once_its_segments_are_deleted(self) -> None:
+    def test_gives_up_on_a_missing_subtitle_file_once_its_segments_are_deleted(self) -> None:
+        self.delete_all("segments")
         os.unlink(self.path("one.stl"))
         self.put_segments(700, 2000)
-        self.run_judge(FakeChecker({}), 1000)
+        self.run_judge(FakeChecker(NEVER_SENT), until=1000)
         self.check("reason", self.result(NAME)["reason"], f"{self.path('one.stl')} does not exist")
 
     def test_judges_again_if_the_result_cannot_be_written(self) -> None:
-        self.put_segments(0, 900)
-        full = [3]
+        errors = [OSError(errno.ENOSPC, "No space left on device")] * 3
 
         def write(path: str, is_stored: bool) -> contextlib.AbstractContextManager[BinaryIO]:
-            full[0] -= 1
-            if full[0] >= 0:
-                raise OSError(28, "No space left on device")
+            if errors:
+                raise errors.pop()
             return open_result(path, is_stored)
 
         with mock.patch.object(judging, "open_result", write):
-            self.run_judge(FakeChecker({NAME: SentProgramme(600, 660)}), 900)
-        self.must("it was tried again", full[0] < 0, full)
-        self.check("in the end", self.verdicts(), {NAME: "relative"})
+            self.run_judge(FakeChecker(ON_TIME), until=900)
+        self.check("errors left, results", (errors, self.verdicts()), ([], {NAME: "relative"}))
 
     def test_a_damaged_schedule_loses_no_programme(self) -> None:
-        self.put_segments(0, 900)
-        checker, whole = FakeChecker({NAME: SentProgramme(600, 660)}), self.read("schedule")
-        for data in (b"", whole[:20], b"\xff\xfe\n", b"'\n", None):
+        checker, complete = FakeChecker(ON_TIME), self.read("schedule")
+        for data in (b"", complete[:20], b"\xff\xfe\n", b"'\n", None):
             if data is None:
                 os.unlink(self.path("schedule"))
             else:
                 self.write("schedule", data)
-            self.run_judge(checker, 700, 650)
+            self.run_judge(checker, since=650, until=700)
             self.check(f"{data!r}", self.verdicts(), {})
-        self.write("schedule", whole)
-        self.run_judge(checker, 700, 650)
+        self.write("schedule", complete)
+        self.run_judge(checker, since=650, until=700)
         self.check("once it is there again", self.verdicts(), {NAME: "relative"})
 
     def test_never_replaces_a_written_result(self) -> None:
-        self.put_segments(0, 900)
-        self.run_judge(FakeChecker({NAME: SentProgramme(600, 660)}), 700)
-        whole, path = self.read("schedule"), self.path(f"out/{NAME}.json")
+        self.run_judge(FakeChecker(ON_TIME), until=700)
+        complete, path = self.read("schedule"), self.path(f"out/{NAME}.json")
         before = os.stat(path).st_mtime_ns
-        for data in (b"", whole[:20] + b"\n", whole * 2):
+        for data in (b"", complete[:20] + b"\n", complete * 2):
             self.write("schedule", data)
-            self.must(f"{data!r}", not self.make_judge(FakeChecker({})).look(DAY + 5000))
+            self.must(f"{data!r}", not self.make_judge(FakeChecker(NEVER_SENT)).look(DAY + 5000))
         self.check("when it was written", os.stat(path).st_mtime_ns, before)
         self.check("results", self.verdicts(), {NAME: "relative"})
 
     def test_uses_the_last_schedule_while_there_is_none(self) -> None:
-        self.put_segments(0, 900)
-        judge = self.make_judge(FakeChecker({NAME: SentProgramme(600, 660)}))
+        judge = self.make_judge(FakeChecker(ON_TIME))
         judge.look(DAY + 600)
         os.unlink(self.path("schedule"))
         judge.look(DAY + 700)
         self.check("results", self.verdicts(), {NAME: "relative"})
-        self.check("alarms", judge.monitor.find_alarms()["schedule"], True)
+        self.check("alarm", judge.monitor.find_alarms()["schedule"], True)
         self.write_schedule("2026-12-01T08:10:00Z one.stl")
         judge.look(DAY + 705)
-        self.check("it is there again", judge.monitor.find_alarms()["schedule"], False)
+        self.check("alarm if it is there again", judge.monitor.find_alarms()["schedule"], False)
 
     def test_judges_two_pages_on_the_same_segments(self) -> None:
         self.write_schedule("2026-12-01T08:10:00Z one.stl",
                             "2026-12-01T08:10:00Z two.stl --page 889")
-        self.put_segments(0, 900)
-        judge = self.make_judge(FakeChecker({NAME: SentProgramme(600, 660),
-                                             PAGE_NAME: SentProgramme(600, 660, False)}))
+        judge = self.make_judge(FakeChecker({
+            **ON_TIME, PAGE_NAME: SentProgramme(BEGIN, END, is_correct=False)}))
         while judge.look(DAY + 700):
             pass
         self.check("results", self.verdicts(), {NAME: "relative", PAGE_NAME: "refused"})
 
     def test_a_restart_of_the_recorder_is_a_gap(self) -> None:
-        for begin in (630, 625):  # then the clock was set back
+        for begin in (630, 625):  # the second after the clock was set back
             self.delete_all("segments", "out")
             self.put_segments(0, 900)
             os.rename(self.path(f"segments/{make_segment_name(DAY + 630)}"),
-                      self.path(f"segments/{make_segment_name(DAY + begin, True)}"))
-            self.run_judge(FakeChecker({NAME: SentProgramme(600, 660)}), 1000)
+                      self.path(f"segments/{make_segment_name(DAY + begin, is_new=True)}"))
+            self.run_judge(FakeChecker(ON_TIME), until=1000)
             self.check("reason", self.result(NAME)["reason"],
                        f"not recorded: 2026-12-01T08:10:{begin - 600}Z to 2026-12-01T08:10:30Z; of "
                        "the rest: refused 74")
 
     def test_ignores_an_end_before_the_last_subtitle(self) -> None:
         self.write_schedule("2026-12-01T08:10:00Z/2026-12-01T08:10:01Z one.stl")
-        self.put_segments(0, 900)
-        self.run_judge(FakeChecker({NAME: SentProgramme(600, 660)}), 1000)
-        self.check("when it was judged", self.now - END, 10)
+        self.run_judge(FakeChecker(ON_TIME), until=1000)
+        self.check("when it was judged", self.now, END + 10)
 
     def test_a_bug_affects_no_other_programme(self) -> None:
         self.write_schedule("2026-12-01T08:10:00Z one.stl", "2026-12-01T08:10:00Z two.stl")
-        self.put_segments(0, 900)
-        checker = FakeChecker({OTHER_NAME: SentProgramme(600, 660)})
-        real = checker.check
-        no_outcomes = dict[str, Outcome]()
-        checker.check = lambda *args: (  # type: ignore
-            no_outcomes["no"] if args[0].name == NAME else real(*args))
-        self.run_judge(checker, 800)
+
+        def fail(programme: Programme) -> None:
+            if programme.name == NAME:
+                raise KeyError(NAME)
+
+        self.run_judge(FakeChecker({OTHER_NAME: SentProgramme(BEGIN, END)}, fail), until=800)
         self.check("results", self.verdicts(), {OTHER_NAME: "relative"})
 
     def test_writes_the_page_and_the_list_before_the_result(self) -> None:
-        self.put_segments(0, 900)
-        checker, written = FakeChecker({}), list[str]()
+        # Only results of judged programmes have a request.
+        judged, written = make_outcome(NAME, "relative", "relative", request={}), list[str]()
+        checker = FakeChecker(NEVER_SENT, lambda _: judged)
         checker.work = self.path("work")
         os.mkdir(checker.work)
         for ending in ("html", "json", "txt"):
             self.write(f"work/{NAME}.{ending}", b'{"verdict": "relative"}')
-        relative_outcome = outcome(NAME, "relative", "relative")
-        assert relative_outcome.result
-        relative_outcome.result["request"] = {}  # only results of judged programmes have a request
-        checker.check = lambda *_: relative_outcome  # type: ignore
 
         def write(path: str, is_stored: bool) -> contextlib.AbstractContextManager[BinaryIO]:
             written.append(f"{os.path.splitext(path)[1]} {is_stored}")
             return open_result(path, is_stored)
 
         with mock.patch.object(judging, "open_result", write):
-            self.run_judge(checker, 700)
-        self.check("written and stored", written, [".html True", ".txt True", ".json True"])
+            self.run_judge(checker, until=700)
+        self.check("endings, is_stored", written, [".html True", ".txt True", ".json True"])
 
     def test_calls_the_command_once_for_each_result(self) -> None:
-        self.put_segments(0, 900)
         command = self.write_program(
             "hook", f'#!/bin/sh\necho "$*" >>{self.path("calls")}\nexit 7\n')
-        judge = self.run_judge(FakeChecker({NAME: SentProgramme(600, 660)}), 800, BEGIN,
-                               "--on-result", command)
+        judge = self.run_judge(FakeChecker(ON_TIME), until=800, options=["--on-result", command])
         judge.look(DAY + 900)
         self.check("calls", self.read("calls").decode(),
                    f"{self.path('out')}/{NAME}.json relative\n")
 
     def test_kills_a_command_that_hangs_with_its_children(self) -> None:
-        self.put_segments(0, 900)
         command = self.write_program("hook", f"#!/bin/sh\nsleep 60 &\n"
                                      f"echo $! >{self.path('child')}\nwait\n")
         begin = time.monotonic()
         with mock.patch.object(judging, "HOOK_SECONDS", 0.5):
-            self.run_judge(FakeChecker({NAME: SentProgramme(600, 660)}), 800, BEGIN,
-                           "--on-result", command)
+            self.run_judge(FakeChecker(ON_TIME), until=800, options=["--on-result", command])
         child = self.read("child").decode().strip()
         is_gone = wait_until(lambda: not os.path.exists(f"/proc/{child}/exe"))
         self.must("the child ends before its 60 seconds are over",
                   is_gone and time.monotonic() < begin + 55, time.monotonic() - begin)
 
 
-ALARM_CASES: dict[str, tuple[dict[str, Any], list[str]]] = {
-    "all is well": ({}, []),
-    "no byte": ({"last_byte": DAY - 11}, ["silence"]),
-    "a clock": ({"is_clock_wrong": True}, ["clock"]),
-    "segments were deleted": ({"is_deleted_early": True}, ["disk"]),
-    "a full disk": ({"free": {"segments": 5, "results": 1 << 40}}, ["disk"]),
-    "no room for the recorder": ({"has_note": True}, ["disk"]),
-    "a bug": ({"has_bug": True}, ["bug"]),
-    "no header": ({"headers": {(0, 0x88): DAY - 601}}, ["page 888"]),
-    "a header just now": ({"headers": {(0, 0x88): DAY - 599}}, []),
-    "it has just begun": ({"headers": {(0, 0x88): 0.0}, "oldest": DAY - 599}, []),
-    "a page never seen": ({"headers": {(0, 0x88): 0.0}}, ["page 888"]),
-    "two pages": ({"headers": {(0, 0x88): DAY - 601, (0, 0x89): DAY}}, ["page 888"]),
-    "a page of a programme on air": ({"headers": {(0, 0x88): 0.0, (0, 0x89): 0.0},
-                                      "pages_on_air": {(0, 0x88)}}, ["page 888", "page 889"]),
-    "a result is late": ({"late": ["one"]}, ["late"]),
-    "a fault in the schedule": ({"schedule_faults": ["line 3: what?"]}, ["schedule"])}
-WARNINGS = {"no header": ["page 888"], "a page never seen": ["page 888"], "two pages": ["page 888"],
-            "a page of a programme on air": ["page 889"], "a fault in the schedule": ["schedule"]}
+# Attributes that differ from those of a feed without faults, the active alarms, and those of them
+# that are only warnings
+ALARM_CASES: dict[str, tuple[dict[str, Any], list[str], list[str]]] = {
+    "all is well": ({}, [], []),
+    "no byte for 11 seconds": ({"last_byte": DAY - 11}, ["silence"], []),
+    "a wrong clock": ({"is_clock_wrong": True}, ["clock"], []),
+    "segments were deleted": ({"is_deleted_early": True}, ["disk"], []),
+    "a full disk": ({"free": {"segments": 5, "results": 1 << 40}}, ["disk"], []),
+    "no room for the recorder": ({"has_note": True}, ["disk"], []),
+    "a bug": ({"has_bug": True}, ["bug"], []),
+    "no header for 601 seconds": ({"headers": {PAGE: DAY - 601}}, ["page 888"], ["page 888"]),
+    "no header for 599 seconds": ({"headers": {PAGE: DAY - 599}}, [], []),
+    "recorded for 599 seconds": ({"headers": {PAGE: 0.0}, "oldest": DAY - 599}, [], []),
+    "a page never seen": ({"headers": {PAGE: 0.0}}, ["page 888"], ["page 888"]),
+    "the first of two pages": ({"headers": {PAGE: DAY - 601, OTHER_PAGE: DAY}}, ["page 888"],
+                               ["page 888"]),
+    "a page of a programme on air": ({"headers": {PAGE: 0.0, OTHER_PAGE: 0.0},
+                                      "pages_on_air": {PAGE}}, ["page 888", "page 889"],
+                                     ["page 889"]),
+    "a result is late": ({"late": ["one"]}, ["late"], []),
+    "a fault in the schedule": ({"schedule_faults": ["line 3: what?"]}, ["schedule"],
+                                ["schedule"])}
 
 
-# The begin and the end of a segment besides five correct segments; whether the clock is wrong 60
-# seconds after the first, and the time of the last byte.
+# A segment's begin and last write, in seconds after DAY; and at the time 60, whether the clock is
+# wrong, and the time of the last byte. Five correct segments, from 0 to 50, are also there.
 CLOCK_CASES = {
     "right": (50, 60, (False, 60)),
     "a name an hour ahead": (3650, 60, (True, 60)),
@@ -598,8 +591,8 @@ CLOCK_STEPS = {
     "the step corrects the clock": (-300, [300], False),
     "the TDT is another time": (3600, [-300], False)}
 
-# Differences of the clock from the TDT before and after each jump, the newest difference, and
-# whether the clock is wrong hours later
+# Seconds by which the clock differs from the TDT before and after each jump, and from the newest TDT;
+# and whether the clock is wrong hours later
 JUMP_CASES: dict[str, tuple[list[tuple[float, float]], float, bool]] = {
     "no jump": ([], 600, False),
     "the TDT is still right": ([(0, -300)], -300, True),
@@ -613,8 +606,8 @@ JUMP_CASES: dict[str, tuple[list[tuple[float, float]], float, bool]] = {
     "it agrees on both sides": ([(-20, 20)], 60, False),
     "back to what almost agreed": ([(30, -300), (-300, 31)], 31, False)}
 
-# The begin and the last write of segments, whether the clock is wrong at the last write, and the
-# number of segments that are used.
+# The begin and the last write of each segment, whether the clock is wrong at the latest write, and
+# the number of segments that are used
 LONG_SEGMENTS = {
     "half an hour each": ([(0, 1800), (1800, 3600), (3600, 4800)], False, 3),
     "after a pause": ([(0, 1800), (2000, 3600), (3600, 4800)], False, 3),
@@ -623,40 +616,49 @@ LONG_SEGMENTS = {
 
 
 class State(AirCase):
+    """The monitor of `air judge`. Times are seconds after DAY."""
+
+    def look(self, now: float, monitor: Monitor | None = None, segments: str = "segments",
+             pages: Collection[Page] = (), needed: float = 0) -> Monitor:
+        """Let a monitor, by default a new one, look for segments and for headers of pages. Return
+        it. Segments after the time `needed` must not have been deleted."""
+        monitor = monitor or Monitor()
+        monitor.look(self.path(segments), self.path("out"), DAY + now, self.bench.program, pages,
+                     DAY + needed)
+        return monitor
+
     def test_raises_each_alarm(self) -> None:
-        for name, (values, expected) in ALARM_CASES.items():
+        for name, (changes, alarms, warnings) in ALARM_CASES.items():
             monitor = Monitor()
             monitor.now, monitor.oldest, monitor.last_byte = DAY, DAY - 9999, DAY - 9
             monitor.free = {"segments": 1 << 40, "results": 1 << 40}
-            vars(monitor).update(values)
+            vars(monitor).update(changes)
             state = json.loads(json.dumps(monitor.make_contents()))
-            self.check(name, (state["alarms"], state["warnings"]),
-                       (expected, WARNINGS.get(name, [])))
+            self.check(name, (state["alarms"], state["warnings"]), (alarms, warnings))
 
-    def test_reports_segments_and_disks(self) -> None:
+    def test_reports_the_number_and_times_of_segments(self) -> None:
         self.put_segments(0, 50)
-        monitor, out = Monitor(), self.path("out")
-        monitor.look(self.path("segments"), out, DAY + 60, "/bin/true", [], DAY)
+        monitor = self.look(60)
         self.check("segments", (monitor.segments, monitor.last_byte, monitor.oldest),
                    (5, DAY + 50, DAY))
-        monitor.look(self.path("nothing"), out, DAY + 60, "/bin/true", [], DAY)
-        self.check("without a folder", (monitor.segments, monitor.free["segments"]), (0, 0))
 
-    def test_reports_the_headers_of_pages(self) -> None:
-        self.put_segment(0, 10, read_example_file("recording.ts"))
+    def test_reports_no_segments_and_no_room_without_a_folder(self) -> None:
+        monitor = self.look(60, segments="nothing")
+        self.check("segments", (monitor.segments, monitor.free["segments"]), (0, 0))
+
+    def test_reports_the_last_headers_of_pages_in_recent_segments(self) -> None:
+        self.put_segment(0, 10, read_example_file("recording.ts"))  # with page 888, without 889
         monitor = Monitor()
         for now, header in ((5000, 0.0), (100, DAY + 10)):  # the clock is set back
-            monitor.look(self.path("segments"), self.path("out"), DAY + now, self.bench.program,
-                         [(0, 0x88), (0, 0x89)], DAY)
-            self.check(f"headers, {now}", monitor.headers, {(0, 0x88): header, (0, 0x89): 0.0})
+            self.look(now, monitor, pages=[PAGE, OTHER_PAGE])
+            self.check(f"headers, {now}", monitor.headers, {PAGE: header, OTHER_PAGE: 0.0})
 
     def test_compares_the_clock_with_segments(self) -> None:
-        for name, (begin, end, expected) in CLOCK_CASES.items():
+        for name, (begin, write, expected) in CLOCK_CASES.items():
             self.delete_all("segments")
             self.put_segments(0, 50)
-            os.utime(self.put_segment(begin, begin + 1), (DAY + end, DAY + end))
-            monitor = Monitor()
-            monitor.look(self.path("segments"), self.path("out"), DAY + 60, "/bin/true", [], DAY)
+            os.utime(self.put_segment(begin, begin + 1), (DAY + write, DAY + write))
+            monitor = self.look(60)
             self.check(name, (monitor.is_clock_wrong, monitor.last_byte - DAY), expected)
 
     def test_raises_the_alarm_while_the_clock_may_be_wrong(self) -> None:
@@ -664,13 +666,12 @@ class State(AirCase):
             self.delete_all("segments")
             for number, step in enumerate(steps):
                 self.put_clock_jump(step, 1500 * number, difference + sum(steps[:number]))
-            first = Monitor()
-            for now in (20, HOUR, HOUR + 1, 6300):
+            first, last_step = Monitor(), 1500 * (len(steps) - 1)
+            for seconds in (20, HOUR, HOUR + 1, 6300):
                 for monitor in (first, Monitor()):
-                    monitor.look(self.path("segments"), self.path("out"),
-                                 DAY + 1500 * (len(steps) - 1) + now, "/bin/true", [], DAY)
-                    self.check(f"{name}, {now} s later, {monitor is first}",
-                               monitor.is_clock_wrong, now <= HOUR or is_wrong_later)
+                    self.look(last_step + seconds, monitor)
+                    self.check(f"{name}, {seconds} s later, {monitor is first}",
+                               monitor.is_clock_wrong, seconds <= HOUR or is_wrong_later)
 
     def test_knows_from_jumps_and_the_newest_tdt_whether_the_clock_is_wrong(self) -> None:
         self.check_rows(is_clock_wrong, {
@@ -680,18 +681,17 @@ class State(AirCase):
     def test_uses_long_segments_that_do_not_overlap(self) -> None:
         for name, (times, is_wrong, count) in LONG_SEGMENTS.items():
             self.delete_all("segments")
-            for begin, end in times:
-                self.put_segment(begin, end)
-            monitor, now = Monitor(), DAY + max(end for _, end in times)
-            monitor.look(self.path("segments"), self.path("out"), now, "/bin/true", [], DAY)
-            self.check(name, (monitor.is_clock_wrong, len(find_segments(
-                self.path("segments"), DAY, now))), (is_wrong, count))
+            for begin, write in times:
+                self.put_segment(begin, write)
+            now = max(write for _, write in times)
+            self.check(name, (self.look(now).is_clock_wrong, len(find_segments(
+                self.path("segments"), DAY, DAY + now))), (is_wrong, count))
 
     def test_reports_segments_that_are_deleted_early(self) -> None:
+        # Whether the name of the oldest segment, which begins at 10, reports a possible loss; the
+        # time from which segments are needed; and whether some of them were deleted
         for is_new, needed, expected in ((False, 5, True), (False, 10, False), (True, 5, False)):
             self.delete_all("segments")
             self.put_segment(10, 20, is_new=is_new)
-            monitor = Monitor()
-            monitor.look(self.path("segments"), self.path("out"), DAY + 60, "/bin/true", [],
-                         DAY + needed)
-            self.check(f"{is_new}, {needed}", monitor.is_deleted_early, expected)
+            self.check(f"{is_new}, {needed}", self.look(60, needed=needed).is_deleted_early,
+                       expected)

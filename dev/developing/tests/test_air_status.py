@@ -8,7 +8,7 @@ import json
 import os
 import re
 import time
-from typing import Callable
+from typing import Callable, Sequence
 from unittest import mock
 
 from subtitles.air import judge, main as air_main
@@ -17,52 +17,55 @@ from subtitles.cli import batch, main as qc_main
 from subtitles.cli.single import now as date
 from subtitles.cli.state import BUG_LOG, State, write_state
 from subtitles.common.command_line import Stop, run_main
-from .bench import Case, get_tool_path
+from .bench import Case
 
-STATE = {"alarms": [], "warnings": ["schedule", "page 888"],
-         "free_bytes": {"segments": 5, "results": 7}, "last_byte": None,
-         "last_header": {"888": None}, "waiting": 0, "late": [], "segments": 1, "last_result": ""}
+# A state of `air judge` without alarms. Its alarms `schedule` and `page 888` are only warnings.
+STATE: dict[str, object] = {
+    "alarms": [], "warnings": ["schedule", "page 888"],
+    "free_bytes": {"segments": 5, "results": 7}, "last_byte": None,
+    "last_header": {"888": None}, "waiting": 0, "late": [], "segments": 1, "last_result": ""}
+OK, WARNING, CRITICAL, UNKNOWN = range(4)  # statuses of Nagios
+# Members that differ from STATE, which was written now, and the exit status of `air status`
+STATUS_CASES: dict[str, tuple[dict[str, object], int]] = {
+    "no alarm": ({}, OK),
+    "a warning": ({"alarms": ["schedule"]}, WARNING),
+    "two warnings": ({"alarms": ["schedule", "page 888"]}, WARNING),
+    "an alarm": ({"alarms": ["silence"]}, CRITICAL),
+    "another alarm": ({"alarms": ["clock"]}, CRITICAL),
+    "a warning and an alarm": ({"alarms": ["schedule", "page 889"]}, CRITICAL),
+    "written long ago": ({"date": "2020-11-29T20:15:00Z"}, CRITICAL),
+    "without a date": ({"date": None}, CRITICAL),
+    "invalid alarms": ({"alarms": None}, UNKNOWN),
+    "invalid free bytes": ({"free_bytes": 5}, UNKNOWN)}
 
 
 class Status(Case):
-    def status(self, *arguments: str, **state: object) -> tuple[int, str]:
-        text = json.dumps({**STATE, "date": date(time.time()), **state})
-        os.makedirs(self.path("news"), exist_ok=True)
-        self.write("news/state.json", text.encode())
-        process = self.call([get_tool_path("air"), "status", self.path("news"), *arguments])
-        return process.status, " ".join(process.told)
-
-    def test_prints_the_statuses_of_nagios(self) -> None:
-        rows: tuple[tuple[int, dict[str, object]], ...] = (
-            (0, {}), (1, {"alarms": ["schedule"]}), (2, {"alarms": ["silence"]}),
-            (1, {"alarms": ["schedule", "page 888"]}), (2, {"alarms": ["schedule", "page 889"]}),
-            (2, {"alarms": ["clock"]}),
-            (2, {"date": "2026-11-29T20:15:00Z"}), (2, {"date": None}), (3, {"alarms": None}),
-            (3, {"free_bytes": 5}))
-        for status, state in rows:
-            self.check(f"{state}", self.status(**state)[0], status)
+    def test_ends_with_the_status_of_nagios(self) -> None:
+        for name, (changes, status) in STATUS_CASES.items():
+            state: dict[str, object] = {**STATE, "date": date(time.time()), **changes}
+            self.write("state.json", json.dumps(state).encode())
+            self.check(name, self.tool("air", "status", self.folder).status, status)
 
     def test_a_watched_folder_has_no_metrics_of_a_feed(self) -> None:
+        """The state of `qc --watch` is from 1970, with 5 free bytes and a refused film."""
         state = State()
         state.look_at_folders(0.0, results=self.folder)
         state.free, state.waiting = {"results": 5}, 2
         state.add_result("film", "refused", "refused: 72 RowMissing")
         write_state(self.folder, state.make_contents())
-        process = self.call([get_tool_path("air"), "status", self.folder, "--metrics",
-                             self.path("metrics")])
-        name = os.path.basename(self.folder)
-        self.check("line", re.sub("[0-9]{9,}", "1", process.out.decode()),
-                   f"SUBTTX CRITICAL: {name}: no news for 1 s, disk; last result: film: refused: "
-                   "72 RowMissing|age=1s waiting=2 late=0 free_results=5B\n")
-        self.check("metrics", [line.replace(f'feed="{name}"', "") for line in
-                               self.read("metrics").decode().splitlines()
-                               if not line.startswith("# ")], [
+        process = self.tool("air", "status", self.folder, "--metrics", self.path("metrics"))
+        feed = os.path.basename(self.folder)
+        self.check("line", re.sub("[0-9]{9,}", "AGE", process.out.decode()),
+                   f"SUBTTX CRITICAL: {feed}: no news for AGE s, disk; last result: film: refused: "
+                   "72 RowMissing|age=AGEs waiting=2 late=0 free_results=5B\n")
+        lines = self.read("metrics").decode().replace(f'feed="{feed}"', "").splitlines()
+        self.check("metrics", [line for line in lines if not line.startswith("# ")], [
             'subttx_air_alarm{,alarm="disk"} 1',
             'subttx_air_alarm{,alarm="bug"} 0', 'subttx_air_free_bytes{,folder="results"} 5',
             "subttx_air_waiting{} 2", "subttx_air_late{} 0",
             'subttx_air_results_total{,verdict="refused"} 1', "subttx_air_status{} 2"])
 
-    def test_gives_each_feed_its_own_name(self) -> None:
+    def test_names_a_feed_by_its_folder_unless_two_have_the_same_name(self) -> None:
         self.check_rows(name_feeds, {
             "channels": ((["/a/news/results", "/a/film/results/"],), ["news", "film"]),
             "watched folders": ((["/a/out"],), ["out"]),
@@ -70,14 +73,18 @@ class Status(Case):
 
 
 class Bugs(Case):
+    """`air record`, `air judge` and `qc --watch`, each of which an exception ends."""
+
     def setUp(self) -> None:
         super().setUp()
         for name in ("in", "segments", "out"):
             os.mkdir(self.path(name))
         self.write("schedule", b"")
 
-    def run_services(self, error: Exception) -> None:
-        """Run each service until it fails with `error`. Check the status and the alarm."""
+    def check_services(self, error: Exception, status: int, has_alarm: Sequence[bool]) -> None:
+        """Run each service until a function that it calls raises `error`. Check its exit status,
+        and whether the alarm `bug` is active a second, almost a day and more than a day later. If
+        it ever is, check that bug.log has the message."""
         options = ["-o", self.path("out"), "-p", "/bin/true"]
         services: dict[str, tuple[object, str, Callable[[], int], str]] = {
             "record": (air_main, "record", lambda: air_main.main(
@@ -86,27 +93,24 @@ class Bugs(Case):
                 "", ["judge", self.path("schedule"), self.path("segments"), *options]), "out"),
             "--watch": (batch, "find_folder_pairs", lambda: qc_main.main(
                 "", "tools/qc", ["--watch", self.path("in"), *options]), "out")}
-        has_bug, now = isinstance(error, KeyError), time.time()
+        now = time.time()
         for name, (module, function, service, folder) in services.items():
-            path = os.path.join(self.path(folder), BUG_LOG)
             with mock.patch.object(module, function, side_effect=error), \
                     mock.patch("signal.signal"), contextlib.redirect_stderr(io.StringIO()) as told:
-                status = run_main(lambda words: service(), [])
+                self.check(f"{name}: status", run_main(lambda words: service(), []), status)
             state, alarms = State(), list[bool]()
-            for later in (1, 86_390, 86_500):
-                state.look_at_folders(now + later, results=self.path(folder))
+            for seconds in (1, 86_400 - 10, 86_400 + 100):
+                state.look_at_folders(now + seconds, results=self.path(folder))
                 alarms.append(state.find_alarms()["bug"])
-            self.check(f"{name}: status, alarms", (status, alarms),
-                       (70, [True, True, False]) if has_bug else (2, [False] * 3))
-            if has_bug:
-                with open(path, encoding="utf-8") as file:
-                    text = file.read()
-                self.must(f"{name}: message", text.partition("  ")[2] and
-                          text.partition("  ")[2] in told.getvalue(), (text, told.getvalue()))
-                os.unlink(path)
+            self.check(f"{name}: alarms", alarms, [*has_alarm])
+            if any(has_alarm):
+                text = self.read(f"{folder}/{BUG_LOG}").decode()
+                _, _, message = text.partition("  ")  # without the date
+                self.must(f"{name}: message", message and message in told.getvalue(), text)
+                os.unlink(self.path(f"{folder}/{BUG_LOG}"))
 
     def test_a_bug_in_a_service_is_an_alarm_for_a_day(self) -> None:
-        self.run_services(KeyError("x"))
+        self.check_services(KeyError("x"), status=70, has_alarm=[True, True, False])
 
     def test_a_missing_file_is_no_bug(self) -> None:
-        self.run_services(Stop("there is no such file"))
+        self.check_services(Stop("there is no such file"), status=2, has_alarm=[False] * 3)

@@ -14,7 +14,7 @@ from subtitles.common.times import (
     format_origin, format_program_time, parse_frame, restore_times)
 from subtitles.formats.midnight import find_day_begin, move_times
 from subtitles.formats.stl import GSI, TCP_PLACE, get_subtitle_times, read_stored_subtitles
-from .air import AirCase, DAY, LENGTH
+from .air import AirCase, DAY, SEGMENT_SECONDS
 from .bench import Case
 from .judged import JudgedPair, judge_files
 from .streams import multiplex_frames
@@ -249,11 +249,12 @@ class OnAir(AirCase, MidnightCase):
             self.write_programme(programme)
             later = make_pes_packet(TICKS * 225, [HEADER, CLOSING])  # after the last subtitle
             stream = multiplex_frames([*packets(self.read("film.pes")), later], begin=CLOCK -
-                                      TICKS * 700, count=5 * LENGTH * 25, rounds=1)
+                                      TICKS * 700, count=5 * SEGMENT_SECONDS * 25, rounds=1)
             self.delete_all("segments", "out")
             judge = Judge(self.args("-p", self.bench.program), "tools/qc")
-            for now in range(0, 5 * LENGTH, LENGTH):
-                self.put_segment(now, now + LENGTH, b"".join(itertools.islice(stream, LENGTH * 25)))
-                judge.look(DAY + now + LENGTH)
+            for now in range(0, 50, SEGMENT_SECONDS):
+                self.put_segment(now, now + SEGMENT_SECONDS,
+                                 b"".join(itertools.islice(stream, 250)))
+                judge.look(DAY + now + SEGMENT_SECONDS)
             self.check(name, self.result("20261201T080020Z-film")["sentence"][:len(sentence)],
                        sentence)
