@@ -591,8 +591,8 @@ CLOCK_STEPS = {
     "the step corrects the clock": (-300, [300], False),
     "the TDT is another time": (3600, [-300], False)}
 
-# Seconds by which the clock differs from the TDT before and after each jump, and from the newest TDT;
-# and whether the clock is wrong hours later
+# Seconds by which the clock differs from the TDT before and after each jump, and at last; and
+# whether the clock is wrong hours later
 JUMP_CASES: dict[str, tuple[list[tuple[float, float]], float, bool]] = {
     "no jump": ([], 600, False),
     "the TDT is still right": ([(0, -300)], -300, True),
