@@ -7,7 +7,7 @@ import os
 import subprocess
 import sys
 import time
-from typing import Iterator, NamedTuple
+from typing import Iterator
 from unittest import mock
 
 from subtitles.air import check, main
@@ -15,75 +15,69 @@ from subtitles.air.check import Checker, Outcome
 from subtitles.air.decision import decide
 from subtitles.air.segments import UnbrokenRun, find_segments, find_unbroken_runs, make_segment_name
 from subtitles.cli.single import hold_lock
+from subtitles.common.times import FRAMES_A_SECOND
 from .air import AirCase, DAY
 from .bench import SECONDS, get_tool_path
-from .streams import multiplex_frames
 from .programmes import BEGIN, LASTS, SECOND, repeat_last_page, make_programme, wait_until
+from .stories import read_table
+from .streams import multiplex_frames
 from .transmissions import packets, write_subtitle_file
 
 LEAD_SECONDS, TAIL_SECONDS = 4, 6  # length of the feed before and after the programme, in seconds
 ALL = LEAD_SECONDS + LASTS + TAIL_SECONDS
-
-
-class RecordingCase(NamedTuple):
-    """A test case. `recorded` and `air` are in seconds of the feed."""
-
-    recorded: tuple[int, int]
-    is_wrong: bool
-    air: int
-    margin: int
-    verdict: str
-    is_final: bool
-    reason: str
-
-
+MISSING_PES = slice(4, 6)  # PES packets that a wrong feed lacks
+# In seconds of a feed, which has the programme from 4 to 16 and, if it is repeated, from 26 to 38:
+# what is recorded, the scheduled air time, and the margin. Then whether the feed lacks MISSING_PES,
+# the verdict, and whether later segments can't change it.
+AIR_CASES = """
+case                            | recorded | air | margin | feed  | verdict    | is final
+right                           | 0-22     | 0   | 60     | right | relative   | True
+wrong                           | 0-22     | 0   | 60     | wrong | refused    | True
+it has not ended                | 0-10     | 0   | 60     | right | refused    | False
+it has not begun                | 0-3      | 0   | 60     | right | not judged | False
+its beginning is missing        | 8-22     | 0   | 60     | right | not judged | False
+it begins within the margin     | 0-22     | 0   | 5      | right | relative   | True
+it is repeated after the margin | 0-44     | 0   | 5      | right | relative   | True
+it begins later                 | 0-22     | 0   | 2      | right | not judged | False
+the same, wrong                 | 0-22     | 0   | 2      | wrong | not judged | False
+it begins earlier               | 0-22     | 8   | 2      | right | not judged | False
+"""
 NO_BEGINNING = "the first subtitle was expected before the first recorded PES packet of the page"
-AIR_CASES = {
-    "right": RecordingCase((0, ALL), False, 0, 60, "relative", True, "relative"),
-    "wrong": RecordingCase((0, ALL), True, 0, 60, "refused", True, "refused 72"),
-    "it has not ended": RecordingCase((0, LEAD_SECONDS + 6), False, 0, 60, "refused", False,
-                                      "refused"),
-    "it has not begun": RecordingCase((0, LEAD_SECONDS - 1), False, 0, 60, "not judged", False, ""),
-    "its beginning is missing": RecordingCase((LEAD_SECONDS + 4, ALL), False, 0, 60,
-                                              "not judged", False, NO_BEGINNING),
-    "it begins within the margin": RecordingCase((0, ALL), False, 0, 5, "relative", True,
-                                                 "relative"),
-    "it is repeated after the margin": RecordingCase((0, 2 * ALL), False, 0, 5, "relative", True,
-                                                     "relative"),
-    "it begins later": RecordingCase((0, ALL), False, 0, 2, "not judged", False,
-                                     "the programme did not begin within 2 s of "
-                                     "2026-12-01T08:00:00Z, but later"),
-    "the same, wrong": RecordingCase((0, ALL), True, 0, 2, "not judged", False,
-                                     "the programme did not begin within"),
-    "it begins earlier": RecordingCase((0, ALL), False, LEAD_SECONDS + 4, 2, "not judged", False,
-                                       NO_BEGINNING),
-}
+LATER = "the programme did not begin within 2 s of 2026-12-01T08:00:00Z, but later"
+# The beginnings of the reasons
+REASONS = {
+    "right": "relative", "wrong": "refused 72", "it has not ended": "refused",
+    "it has not begun": "has no header of page 888", "its beginning is missing": NO_BEGINNING,
+    "it begins within the margin": "relative", "it is repeated after the margin": "relative",
+    "it begins later": LATER, "the same, wrong": LATER, "it begins earlier": NO_BEGINNING}
 
 
-def sleep_and_return() -> int:
+def sleep_and_return_7() -> int:
     time.sleep(1)
     return 7
 
 
 class Feeds(AirCase):
-    """A test case with a feed that transmits one programme."""
+    """A feed that transmits one.stl, which has four subtitles, after LEAD_SECONDS."""
 
-    def feed(self, is_wrong: bool = False) -> list[bytes]:
+    def make_feed(self, is_wrong: bool = False) -> list[bytes]:
+        """Return the TS packets of each frame."""
         programme = make_programme(self, "one", 1_000_000, "Alpha Beta Gamma Delta",
                                    BEGIN + SECOND * LEAD_SECONDS)
         pes = packets(programme + repeat_last_page(programme, BEGIN
                                                    + SECOND * (LEAD_SECONDS + LASTS), TAIL_SECONDS))
         if is_wrong:
-            del pes[4:6]
-        return [*multiplex_frames(pes, BEGIN, ALL * 25, 1)]
+            del pes[MISSING_PES]
+        return [*multiplex_frames(pes, BEGIN, ALL * FRAMES_A_SECOND, rounds=1)]
 
 
 class Checks(Feeds):
-    def judged(self, frames: list[bytes], begin: int = 0, air: int = 0, margin: int = 60,
-               program: str = "") -> Outcome:
-        """Judge frames of the feed, recorded from second `begin` on."""
+    def check_frames(self, frames: list[bytes], begin: int = 0, air: int = 0, margin: int = 60,
+                     program: str = "") -> Outcome:
+        """Judge frames that are recorded from second `begin` of a feed on. The programme may begin
+        up to `margin` seconds before and after second `air`."""
         self.delete_all("segments", "out")
-        self.put_segment(begin, begin + len(frames) / 25, b"".join(frames))
+        self.put_segment(begin, begin + len(frames) / FRAMES_A_SECOND, b"".join(frames))
         self.write_schedule("2026-12-01T08:00:00Z one.stl")
         item, = self.read_schedule().programmes
         item = item._replace(begin=DAY + air, early=margin, late=margin)
@@ -96,56 +90,60 @@ class Checks(Feeds):
         return result
 
     def test_names_three_gaps_and_counts_the_others(self) -> None:
-        for count, words in ((1, "a"), (3, "a, b, c"), (4, "a, b, c and 1 more"),
-                             (6, "a, b, c and 3 more")):
-            outcome = decide("one", [], "abcdef"[:count], True)
-            self.check(f"{count}", outcome and outcome.reason, f"not recorded: {words}")
+        for gaps, text in (("a", "a"), ("abc", "a, b, c"), ("abcd", "a, b, c and 1 more"),
+                           ("abcdef", "a, b, c and 3 more")):
+            outcome = decide("one", [], gaps, has_passed=True)
+            self.check(gaps, outcome and outcome.reason, f"not recorded: {text}")
 
     def test_each_recording_gets_its_verdict(self) -> None:
-        feeds = [2 * self.feed(is_wrong) for is_wrong in (False, True)]
-        for name, trial in AIR_CASES.items():
-            first, last = trial.recorded
-            result = self.judged(feeds[trial.is_wrong][first * 25:last * 25], first, trial.air,
-                                 trial.margin)
-            self.check(name, (result.verdict, result.is_final), (trial.verdict, trial.is_final))
-            self.must(f"{name}: why", result.reason.startswith(trial.reason), result.reason)
+        feeds = {"right": 2 * self.make_feed(), "wrong": 2 * self.make_feed(is_wrong=True)}
+        for row in read_table(AIR_CASES):
+            name, (first, last) = row["case"], map(int, row["recorded"].split("-"))
+            result = self.check_frames(
+                feeds[row["feed"]][first * FRAMES_A_SECOND:last * FRAMES_A_SECOND], first,
+                int(row["air"]), int(row["margin"]))
+            self.check(name, (result.verdict, str(result.is_final)),
+                       (row["verdict"], row["is final"]))
+            _, _, reason = result.reason.rpartition("/recording.ts ")  # without the path
+            self.must(f"{name}: reason", reason.startswith(REASONS[name]), reason)
 
     def test_a_result_notes_the_margin_of_its_air_time(self) -> None:
         for is_wrong in (False, True):
-            result = self.judged(self.feed(is_wrong)).result
+            result = self.check_frames(self.make_feed(is_wrong)).result
             self.must(f"{is_wrong}", result and "begun within 60 s of 2026-12-01T08:00:00Z" in
                       result["notes"], result)
 
     def test_a_killed_program_gives_no_result(self) -> None:
-        outcome = self.judged(self.feed(),
-                              program=self.make_program_with_exception("check*", "kill -9 $$"))
+        program = self.make_program_with_exception("check*", "kill -9 $$")
+        outcome = self.check_frames(self.make_feed(), program=program)
         self.check("result", outcome.result, None)
 
-    def test_refuses_an_invalid_subtitle_file_for_any_transmission(self) -> None:
-        frames = self.feed()
+    def test_a_refusal_because_of_an_invalid_subtitle_file_is_not_final(self) -> None:
+        frames = self.make_feed()
         write_subtitle_file(self, [(100, 100, b"Never")])
-        result = self.judged(frames[:50])
-        self.check("it", (result.verdict, result.is_final), ("refused", False))
+        result = self.check_frames(frames[:50])
+        self.check("verdict, is_final", (result.verdict, result.is_final), ("refused", False))
 
     def test_stops_a_check_that_takes_too_long(self) -> None:
         program = self.make_program_with_exception("check*", "sleep 60")
         with mock.patch.object(check, "MIN_SECONDS", 0.1):
-            outcome = self.judged(self.feed(), program=program)
-        self.must("it", outcome.result is None and "not judged within" in outcome.reason, outcome)
+            outcome = self.check_frames(self.make_feed(), program=program)
+        self.must("outcome", outcome.result is None and "not judged within" in outcome.reason,
+                  outcome)
 
     def test_reports_while_a_programme_is_judged(self) -> None:
         calls = list[int]()
         with mock.patch.object(check, "REPORT_SECONDS", 0.05):
-            status, _ = check.run_forked(sleep_and_return, 60, lambda: calls.append(1))
-        self.must("reports", status == 7 and len(calls) > 3, (status, calls))
+            status, _ = check.run_forked(sleep_and_return_7, 60, lambda: calls.append(1))
+        self.must("status, reports", status == 7 and len(calls) > 3, (status, calls))
 
     def test_copies_nothing_to_a_full_disk(self) -> None:
         with mock.patch.object(check, "SPARE_BYTES", 1 << 60):
-            outcome = self.judged(self.feed())
-        self.must("no room", outcome.result is None and outcome.reason.startswith("no room"),
+            outcome = self.check_frames(self.make_feed())
+        self.must("outcome", outcome.result is None and outcome.reason.startswith("no room"),
                   outcome)
 
-    def test_a_truncated_segment_gives_no_result(self) -> None:
+    def test_a_segment_that_is_truncated_meanwhile_gives_no_result(self) -> None:
         real = UnbrokenRun.read
 
         def read(stretch: UnbrokenRun, begin: float, end: float) -> Iterator[bytes]:
@@ -153,17 +151,35 @@ class Checks(Feeds):
             return real(stretch, begin, end)
 
         with mock.patch.object(UnbrokenRun, "read", read):
-            outcome = self.judged(self.feed())
-        self.must("it", outcome.result is None and outcome.reason.endswith("became shorter"),
+            outcome = self.check_frames(self.make_feed())
+        self.must("outcome", outcome.result is None and outcome.reason.endswith("became shorter"),
                   outcome)
 
 
 class Calls(Feeds):
-    def record(self, frames: list[bytes], *args: str) -> None:
-        process = self.call([get_tool_path("air"), "record", self.path("segments"), "--free",
-                             "0", *args],
-                            b"".join(frames))
+    def write_schedule_line(self, begin: float) -> None:
+        date = datetime.datetime.fromtimestamp(begin, datetime.timezone.utc)
+        self.write_schedule(f"{date:%Y-%m-%dT%H:%M:%SZ} one.stl")
+
+    def make_judge_command(self, *args: str) -> list[str]:
+        return [get_tool_path("air"), "judge", self.path("schedule"), self.path("segments"), "-o",
+                self.path("out"), "-p", self.bench.program, *args]
+
+    def judge_recorded_feed(self, is_wrong: bool) -> None:
+        """Record a feed, let its segments begin 200 seconds ago, and judge one.stl, which is
+        scheduled 120 seconds ago, with a margin of 110 seconds."""
+        now = time.time()
+        process = self.tool("air", "record", self.path("segments"), "--free", "0",
+                            data=b"".join(self.make_feed(is_wrong)))
         self.check("record", (process.status, process.told), (0, []))
+        self.write_schedule_line(now - 120)
+        names = sorted(name for name in os.listdir(self.path("segments")) if name.endswith(".ts"))
+        for number, name in enumerate(names):
+            path = self.path(f"segments/{make_segment_name(now - 200 + number)}")
+            os.rename(self.path(f"segments/{name}"), path)
+            os.utime(path, (now, now))
+        process = self.call(self.make_judge_command("--once", "--margin", "110"))
+        self.check("judge", (process.status, process.told), (0, []))
 
     def test_records_a_file(self) -> None:
         self.write("feed.ts", b"feed")
@@ -173,43 +189,24 @@ class Calls(Feeds):
         self.check("segments", (process.status, [self.read(f"segments/{name}") for name in names]),
                    (0, [b"feed"]))
 
-    def write_schedule_line(self, begin: float, *options: str) -> None:
-        date = datetime.datetime.fromtimestamp(begin, datetime.timezone.utc)
-        self.write_schedule(" ".join([f"{date:%Y-%m-%dT%H:%M:%SZ}", "one.stl", *options]))
-
-    def judge_command(self, *args: str) -> list[str]:
-        return [get_tool_path("air"), "judge", self.path("schedule"), self.path("segments"), "-o",
-                self.path("out"), "-p", self.bench.program, *args]
-
-    def rename_segments(self, begin: float, end: float) -> None:
-        """Rename the segments so that the first begins at `begin`. Set their mtimes to `end`."""
-        names = sorted(name for name in os.listdir(self.path("segments")) if name.endswith(".ts"))
-        for number, name in enumerate(names):
-            path = self.path(f"segments/{make_segment_name(begin + number)}")
-            os.rename(self.path(f"segments/{name}"), path)
-            os.utime(path, (end, end))
-
-    def test_judges_a_recording_and_deletes_old_work_folders(self) -> None:
+    def test_judges_a_recorded_feed(self) -> None:
         for is_wrong, verdict in ((False, "relative"), (True, "refused")):
             self.delete_all("segments", "out")
-            os.makedirs(self.path("out/.work-of-an-earlier-call"))
-            self.write("out/.work-of-an-earlier-call/other.json", b"{}")
-            for name in (".subttx-of-an-earlier-call", "a.subttx-b", "a.work-b"):
-                self.write(f"out/{name}", b"")
-            begin = time.time()
-            self.record(self.feed(is_wrong))
-            self.write_schedule_line(begin - 120)
-            self.rename_segments(begin - 200, begin)
-            process = self.call(self.judge_command("--once", "--margin", "110"))
-            self.check(f"{verdict}: the call", (process.status, process.told), (0, []))
-            self.check(f"{verdict}: results", [*self.verdicts().values()], [verdict])
-            endings = {os.path.splitext(name.lstrip("."))[1] for name in
-                       os.listdir(self.path("out"))}
-            self.check(f"{verdict}: files", endings, {".json", ".html", ".txt", ".subttx-b",
-                                                      ".work-b"})
+            self.judge_recorded_feed(is_wrong)
+            self.check("verdicts", [*self.verdicts().values()], [verdict])
+
+    def test_deletes_only_the_temporary_files_of_earlier_calls(self) -> None:
+        os.makedirs(self.path("out/.work-of-an-earlier-call"))
+        self.write("out/.work-of-an-earlier-call/other.json", b"{}")
+        for name in (".subttx-of-an-earlier-call", "a.subttx-b", "a.work-b"):
+            self.write(f"out/{name}", b"")
+        self.judge_recorded_feed(is_wrong=False)
+        endings = [os.path.splitext(name)[1] for name in os.listdir(self.path("out"))]
+        self.check("endings", sorted(endings), [".html", ".json", ".subttx-b", ".txt", ".work-b"])
 
     def test_writes_one_result_although_the_judge_is_killed(self) -> None:
-        frames = self.feed()
+        """The judge is killed before the programme, in it and after it."""
+        frames = self.make_feed()
         recorder = self.start(subprocess.PIPE, "record", self.path("segments"), "--length", "2",
                               "--free", "0")
         assert recorder.stdin
@@ -218,7 +215,7 @@ class Calls(Feeds):
         self.write_schedule_line(begin + LEAD_SECONDS - 1)
         judge = self.start_judge()
         for number, frame in enumerate(frames):
-            time.sleep(max(begin + number / 25 - time.time(), 0))
+            time.sleep(max(begin + number / FRAMES_A_SECOND - time.time(), 0))
             os.write(recorder.stdin.fileno(), frame)
             if number in (60, 200, 420):
                 judge.kill()
@@ -238,11 +235,11 @@ class Calls(Feeds):
                                 stdout=subprocess.DEVNULL, stderr=subprocess.DEVNULL)
 
     def start_judge(self) -> subprocess.Popen[bytes]:
-        return self.start(subprocess.DEVNULL, *self.judge_command(
+        return self.start(subprocess.DEVNULL, *self.make_judge_command(
             "--margin", "120", "--pause", "60", "--every-seconds", "1")[1:])
 
     def test_reports_wrong_arguments_in_one_line(self) -> None:
-        rows: dict[str, tuple[int, str]] = {
+        rows: dict[str, tuple[int, str]] = {  # arguments, exit status and message
             "": (64, "the first argument must be record, judge or status"),
             "watch": (64, "the first argument must be record, judge or status"),
             # A service tries this again: the folder may be on a disk that is mounted later.
@@ -263,6 +260,7 @@ class Calls(Feeds):
 
     def test_refuses_a_folder_that_another_call_writes(self) -> None:
         self.write("schedule", b"")
+        # The name of the lock that another call holds, its folder, and the call
         for name, folder, line in (("recorder", "segments", "air record segments"),
                                    ("state", "out", "air judge schedule segments -o out"),
                                    ("state", "out", "qc --watch segments -o out")):
@@ -274,5 +272,5 @@ class Calls(Feeds):
         with hold_lock(self.path("new"), "state", ""):
             name, = os.listdir(self.path("new"))
             os.unlink(self.path(f"new/{name}"))
-            self.write(f"new/{name}", b"")
+            self.write(f"new/{name}", b"")  # by another call
         self.check("locks", os.listdir(self.path("new")), [name])
