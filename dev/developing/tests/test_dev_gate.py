@@ -8,6 +8,7 @@ import shutil
 import subprocess
 import unittest
 from random import Random
+from typing import Sequence
 
 from developing import read_counts
 from developing.every_place.carried_laws import LAW_CHECKS, make_random_packets
@@ -17,25 +18,32 @@ from developing.every_place.trying import get_status
 from subtitles.common.program import TOP, read
 from subtitles.results.files import read_result
 from . import runner, table
-from .bench import Case, get_tool_path, read_example_file
-
+from .bench import Case, CompletedCall, get_tool_path, read_example_file
 
 EVAL_COMMAND = re.compile(r"^\s*(?:[^#]*[;&|(]\s*)?(?:eval|exec\s+sh\s+-c)\b")
 
 
 class Scripts(Case):
     def test_no_script_evaluates_its_arguments(self) -> None:
-        names = subprocess.run(["git", "-C", TOP, "ls-files"], stdout=subprocess.PIPE, check=False)
+        names = subprocess.run(["git", "-C", TOP, "ls-files"], stdout=subprocess.PIPE, check=True)
         for name in names.stdout.decode().split("\n"):
             path = os.path.join(TOP, name)
             text = os.path.isfile(path) and read(path) or ""
             is_script = text.startswith("#!") and "sh" in text.split("\n", 1)[0]
             if is_script or name.endswith((".sh", ".bash", ".md")):
-                result = [line for line in text.split("\n") if EVAL_COMMAND.match(line)]
-                self.must(name, not result, result)
+                self.check(name, list(filter(EVAL_COMMAND.match, text.split("\n"))), [])
+
+    def test_finds_a_line_that_evaluates_its_arguments(self) -> None:
+        for line, is_found in (('eval "$@"', True), ("cd in && exec sh -c \"$1\"", True),
+                               ('exec "$@"', False), ("# Call eval.", False)):
+            self.check(line, EVAL_COMMAND.match(line) is not None, is_found)
 
 
 class JobScripts(Case):
+    """A list of six pairs, each of which is a job of a queue. The files in `in` are correct except
+    bad.pes. Two of their names contain commands, which create the file `hit` if a shell executes
+    them. Lines 5 and 6 have options that a list may not have."""
+
     LINES = ["in/one.stl in/one.pes", "'in/a b; touch hit.stl' in/one.pes --page 888",
              "in/$(touch${IFS}hit).stl in/one.pes", "in/one.stl in/bad.pes",
              "in/one.stl in/one.pes -p /bin/true", "-one.stl in/one.pes"]
@@ -56,88 +64,110 @@ class JobScripts(Case):
                                             f"'{self.bench.program}'\n")
         self.env = {**os.environ, "PATH": f"{self.path('bin')}:{os.environ['PATH']}"}
 
-    def check_results(self, name: str) -> None:
+    def call_shell(self, command: Sequence[str], **variables: str) -> CompletedCall:
+        """Run a shell that finds subttx-qc, with more environment variables."""
+        return self.call(command, env={**self.env, **variables})
+
+    def check_results(self) -> None:
         """Check that each line of the list has a result, and that none of its text was executed."""
         os.makedirs(self.path("out"), exist_ok=True)
-        result = {path.removesuffix(".json"): (read_result(self.path(f"out/{path}")) or
-                                               {})["verdict"]
-                  for path in os.listdir(self.path("out")) if path.endswith(".json")}
-        self.must(name, result == self.EXPECTED_VERDICTS
-                  and not os.path.exists(self.path("hit"))
-                  and "index.html" not in os.listdir(self.path("out")), result)
+        names = os.listdir(self.path("out"))
+        results = {name.removesuffix(".json"): read_result(self.path(f"out/{name}")) or {}
+                   for name in names if name.endswith(".json")}
+        self.check("verdicts", {name: result["verdict"] for name, result in results.items()},
+                   self.EXPECTED_VERDICTS)
+        self.check("has the file of a command", os.path.exists(self.path("hit")), False)
+        self.check("has an overview", "index.html" in names, False)
 
     def test_runs_each_line_as_a_job_of_slurm(self) -> None:
-        script = os.path.join(TOP, "docs", "manual", "judge.sh")
-        ended = [self.call(["bash", script], env={**self.env, "SLURM_ARRAY_TASK_ID": f"{number}"})
-                 for number in range(1, 8)]
-        self.must("statuses", [process.status for process in ended] == [0, 0, 0, 0, 1, 1, 1], ended)
-        self.check_results("results")
-        shutil.rmtree(self.path("out"))
+        statuses = [self.call_shell(["bash", SLURM_SCRIPT], SLURM_ARRAY_TASK_ID=f"{line}").status
+                    for line in range(1, 8)]  # the list has no line 7
+        self.check("statuses", statuses, [0, 0, 0, 0, 1, 1, 1])
+        self.check_results()
+
+    def test_a_job_of_slurm_without_one_number_judges_nothing(self) -> None:
         for number in ("", "1 2", "1 --line 2"):
-            process = self.call(["bash", script], env={**self.env, "SLURM_ARRAY_TASK_ID": number})
-            self.check(f"index {number!r}", (process.status, os.path.exists(self.path("out"))),
+            process = self.call_shell(["bash", SLURM_SCRIPT], SLURM_ARRAY_TASK_ID=number)
+            self.check(f"{number!r}", (process.status, os.path.exists(self.path("out"))),
                        (1, False))
-        # Slurm drops each job without a message if there is no folder for its output.
-        shutil.copy(script, self.path("judge.sh"))
-        command = self.read_command("mkdir -p log")
+
+    def test_the_command_for_slurm_makes_a_folder_and_a_job_for_each_line(self) -> None:
+        """Slurm drops each job without a message if there is no folder `log` for its output."""
         self.write_program("bin/sbatch", 'cd log && echo "$@" >../called\n')
-        self.call(["bash", "-c", command], env=self.env)
+        self.call_shell(["bash", "-c", read_command("mkdir -p log")])
         self.check("the manual's command", self.read("called"), b"--array=1-6%20 judge.sh\n")
-        os.unlink(self.path("bin/sbatch"))
+
+    def test_runs_each_line_as_a_job_of_an_installed_slurm(self) -> None:
         if not shutil.which("sbatch") or self.call(["sinfo"]).status:
             self.skipTest("an array of Slurm, since no node of it is here")
-        self.call(["bash", "-c", command.replace("sbatch", "sbatch --wait")], env=self.env)
-        self.check_results("an array")
-
-    def read_command(self, beginning: str) -> str:
-        """Return the command of the manual's page about many machines that begins so."""
-        manual = read(os.path.join(TOP, "docs", "manual", "many-pairs.md")) or ""
-        return " ".join(re.findall(f"`({beginning}[^`]*)`", manual)[0].split())
+        shutil.copy(SLURM_SCRIPT, self.path("judge.sh"))
+        command = read_command("mkdir -p log").replace("sbatch", "sbatch --wait")
+        self.call_shell(["bash", "-c", command])
+        self.check_results()
 
     def test_runs_each_line_as_an_index_of_kubernetes(self) -> None:
-        command = self.read_command("subttx-qc --batch list --line")
-        statuses = [self.call(["sh", "-c", command], env={
-            **self.env, "JOB_COMPLETION_INDEX": f"{index}"}).status for index in range(6)]
+        command = read_command("subttx-qc --batch list --line")
+        statuses = [self.call_shell(["sh", "-c", command], JOB_COMPLETION_INDEX=f"{index}").status
+                    for index in range(len(self.LINES))]
         self.check("statuses", statuses, [0, 0, 0, 0, 64, 64])
-        self.check_results("results")
+        self.check_results()
 
-    def test_runs_each_line_by_gnu_parallel_again_if_not_judged(self) -> None:
+    def test_gnu_parallel_runs_a_line_again_only_if_it_was_not_judged(self) -> None:
         if not shutil.which("parallel"):
             self.skipTest("GNU parallel, which is not here")
-        command = self.read_command("seq ")
+        command = read_command("seq ")
         self.write("hosts", b":\n")
         command = command.replace("parallel", "parallel --sshloginfile hosts --workdir .")
-        env = {**self.env, "PARALLEL_HOME": self.path("home")}
-        process = self.call(["bash", "-c", command], env=env)
-        self.check_results(f"results: {process}")
-        times = {name: os.stat(self.path(f"out/{name}.json")).st_mtime_ns
-                 for name in self.EXPECTED_VERDICTS}
+        self.call_shell(["bash", "-c", command], PARALLEL_HOME=self.path("home"))
+        self.check_results()
+        times = self.read_result_times()
         self.write("list", "".join(f"{line}\n" for line in [
             *self.LINES[:4], self.LINES[0], self.LINES[5]]).encode())
-        self.call(["bash", "-c", command], env=env)
-        self.must("again", os.path.exists(self.path("out/one~3.json")) and times["one"] == os.stat(
-            self.path("out/one.json")).st_mtime_ns and times["line 6"] != os.stat(
-                self.path("out/line 6.json")).st_mtime_ns)
+        self.call_shell(["bash", "-c", command], PARALLEL_HOME=self.path("home"))
+        new_times = self.read_result_times()
+        self.check("results", [name for name in new_times if new_times[name] != times.get(name)],
+                   ["line 6", "one~3"])
+
+    def read_result_times(self) -> dict[str, int]:
+        """Return the mtime of each JSON result in nanoseconds."""
+        return {name.removesuffix(".json"): os.stat(self.path(f"out/{name}")).st_mtime_ns
+                for name in sorted(os.listdir(self.path("out"))) if name.endswith(".json")}
+
+
+SLURM_SCRIPT = os.path.join(TOP, "docs", "manual", "judge.sh")
+
+
+def read_command(beginning: str) -> str:
+    """Return the command of the manual's page about many machines that begins so."""
+    manual = read(os.path.join(TOP, "docs", "manual", "many-pairs.md")) or ""
+    return " ".join(re.findall(f"`({beginning}[^`]*)`", manual)[0].split())
+
+
+# What a script prints and its exit status, and the counts of passed and failed checks, or `None` if
+# these can't be trusted
+COUNT_CASES: dict[str, tuple[str, int, tuple[int, int] | None]] = {
+    "all passed": ("7 passed, 0 failed\n", 0, (7, 0)),
+    "two failed": ("a\n7 passed, 2 failed\n", 1, (7, 2)),
+    "two failed, and a signal": ("7 passed, 2 failed\n", -9, (7, 2)),
+    "two failed, and status 0": ("7 passed, 2 failed\n", 0, None),
+    "none failed, and status 1": ("7 passed, 0 failed\n", 1, None),
+    "none failed, and a signal": ("7 passed, 0 failed\n", -9, None),
+    "not the last line": ("7 passed, 0 failed\nmore\n", 0, None),
+    "no line end": ("7 passed, 0 failed", 0, None),
+    "not a complete line": ("of 7 passed, 0 failed\n", 0, None),
+    "nothing": ("", 0, None),
+    "two lines": ("1 passed, 1 failed\n7 passed, 0 failed\n", 0, (7, 0))}
 
 
 class Counts(unittest.TestCase):
     def test_uses_the_last_line_only_if_the_status_agrees(self) -> None:
-        for printed, status, expected in (
-                ("7 passed, 0 failed\n", 0, (7, 0)), ("a\n7 passed, 2 failed\n", 1, (7, 2)),
-                ("7 passed, 2 failed\n", -9, (7, 2)), ("7 passed, 2 failed\n", 0, None),
-                ("7 passed, 0 failed\n", 1, None), ("7 passed, 0 failed\n", -9, None),
-                ("7 passed, 0 failed\nmore\n", 0, None), ("7 passed, 0 failed", 0, None),
-                ("of 7 passed, 0 failed\n", 0, None), ("", 0, None),
-                ("1 passed, 1 failed\n7 passed, 0 failed\n", 0, (7, 0))):
-            with self.subTest(said=printed, status=status):
+        for name, (printed, status, expected) in COUNT_CASES.items():
+            with self.subTest(name):
                 self.assertEqual(read_counts(printed, status), expected)
 
 
-SEEDS = 150
-
-
 class LastLines(unittest.TestCase):
-    def test_gives_each_last_line_its_status(self) -> None:
+    def test_the_last_line_of_the_program_implies_its_status(self) -> None:
         for line, status in (
                 ("accepted 51 frames 2 transmissions", 0), ("written 2 transmissions", 0),
                 ("written 3 pes 1 gaps", 0), ("2 pes", 0), ("blank", 0), ("heard no", 0),
@@ -149,55 +179,73 @@ class LastLines(unittest.TestCase):
 
 
 class RecordingProperties(unittest.TestCase):
-    def test_checks_the_properties_of_extracted_packets(self) -> None:
-        for name, law in LAW_CHECKS.items():
-            for seed in range(SEEDS):
-                with self.subTest(name, seed=seed):
-                    self.assertIsNone(law(seed))
+    """Random recordings of dev/check-every-place, one for each of 150 seeds."""
 
-    def test_losses_are_shorter_than_a_counter_cycle(self) -> None:
-        most = 0
-        for seed in range(SEEDS):
+    SEEDS = range(150)
+
+    def test_checks_the_properties_of_extracted_packets(self) -> None:
+        for name, find_violation in LAW_CHECKS.items():
+            for seed in self.SEEDS:
+                with self.subTest(name, seed=seed):
+                    self.assertIsNone(find_violation(seed))
+
+    def test_the_longest_loss_is_as_long_as_continuity_counters_can_show(self) -> None:
+        longest = 0  # number of TS packets in a row without an intact copy
+        for seed in self.SEEDS:
             chance = Random(seed)
-            sent = multiplex(chance, make_random_packets(chance) * 3, 257, False)
+            sent = multiplex(chance, make_random_packets(chance) * 3, 257, has_jumps=False)
             kept = {item.number for item in drop_random_units(chance, sent) if not item.is_wrong}
-            row = 0
+            lost = 0
             for number in sorted({item.number for item in sent if item.number is not None}):
-                row = 0 if number in kept else row + 1
-                most = max(most, row)
-        self.assertEqual(most, MAX_UNSEEN_PACKETS - 1)
+                lost = 0 if number in kept else lost + 1
+                longest = max(longest, lost)
+        self.assertEqual(longest, MAX_UNSEEN_PACKETS - 1)
 
 
 class SelectedTests(Case):
+    """The arguments of dev/check-tools, which dev/vectors/tests.tsv maps to test classes."""
+
+    def list_classes(self, *names: str) -> set[str]:
+        """Return the classes of the tests that check-tools runs for these arguments."""
+        return {runner.get_test_name(item).rpartition(".")[0] for item in runner.find_tests(names)}
+
     def test_finds_a_module_by_any_of_its_names(self) -> None:
-        for name, expected in (
+        for name, module in (
                 ("stream/layout.py", "stream/layout.py"), ("stream.layout", "stream/layout.py"),
                 ("tools/subtitles/stream/layout.py", "stream/layout.py"),
                 ("subtitles.stream.layout", "stream/layout.py"), ("tools/qc", "qc"),
                 ("dev/dist", "dev/dist"), ("air/judge.py", "air/judge.py")):
-            self.must(name, table.get_module_path(name) == expected, table.get_module_path(name))
+            self.check(name, table.get_module_path(name), module)
 
-    def test_has_tests_for_each_module_and_script(self) -> None:
-        known, top = table.rows(), os.path.join(TOP, "tools", "subtitles")
-        modules = {os.path.relpath(path, top) for path in glob.glob(
-            os.path.join(top, "**", "*.py"), recursive=True)}
-        named = {item for item in modules if not item.endswith("__init__.py")}
-        self.must("modules", {item for item in known if item.endswith(".py")} == named,
-                  {item for item in known if item.endswith(".py")} ^ named)
-        everything = runner.find_tests([])
-        classes = {runner.get_test_name(item).rpartition(".")[0] for item in everything}
-        for module, tests in known.items():
-            self.must(module, tests and {*tests} <= classes, {*tests} - classes)
-        self.check("classes without a row", sorted(classes - set[str]().union(*known.values())), [])
-        for name, test in (("stream.layout", "test_stream_layouts."),
-                           ("tools/qc", "test_cli_earlier_results.")):
-            self.must(name, any(test in item for item in table.list_tests_of(name)))
-            self.must(f"{name}: those alone", {runner.get_test_name(item).rpartition(".")[0]
-                                               for item in runner.find_tests([name])} ==
-                      {*table.list_tests_of(name)})
-        self.must("by name", all("test_dev_gate" in item.id()
-                                 for item in runner.find_tests(["test_dev_gate."])))
-        self.must("no module", not table.list_tests_of("subtitles.none"))
+    def test_the_table_has_a_row_for_each_module_of_the_tools(self) -> None:
+        folder = os.path.join(TOP, "tools", "subtitles")
+        modules = {os.path.relpath(path, folder) for path in glob.glob(
+            os.path.join(folder, "**", "*.py"), recursive=True)}
+        self.check("rows", {row for row in table.rows() if row.endswith(".py")},
+                   {item for item in modules if not item.endswith("__init__.py")})
+
+    def test_each_row_of_the_table_has_existing_classes(self) -> None:
+        classes = self.list_classes()
+        for row, tests in table.rows().items():
+            self.must(row, tests and {*tests} <= classes, {*tests} - classes)
+
+    def test_each_class_is_in_a_row_of_the_table(self) -> None:
+        self.check("classes without a row", self.list_classes() - {
+            name for tests in table.rows().values() for name in tests}, set())
+
+    def test_runs_only_the_classes_in_the_row_of_a_module_or_script(self) -> None:
+        for name, module in (("stream.layout", "test_stream_layouts."),
+                             ("tools/qc", "test_cli_earlier_results.")):
+            listed = table.list_tests_of(name)
+            self.must(f"{name}: {module}", any(module in item for item in listed), listed)
+            self.check(name, self.list_classes(name), {*listed})
+
+    def test_runs_the_tests_whose_names_contain_an_argument(self) -> None:
+        self.check("modules", {name.partition(".")[0] for name in self.list_classes(
+            "test_dev_gate.")}, {"test_dev_gate"})
+
+    def test_an_unknown_module_has_no_tests(self) -> None:
+        self.check("tests", table.list_tests_of("subtitles.none"), [])
 
     def test_a_new_table_keeps_the_rows_of_documents_and_scripts(self) -> None:
         kinds = {type(item) for item in runner.find_tests([])}
