@@ -15,30 +15,34 @@ from ..proved import ProvedProgram, compute_digest, parse_proved, format_proved
 from ..trial import ANOTHER_USER, Trial
 from .bench import Case, CompletedCall, SECONDS
 
-PACKET = ["packet", "00"]
+PACKET = ["packet", "00"]  # a command of ./subttx that reads no file
 SOURCE = os.path.join("crates", "ttx_packet", "src", "parity.rt")
 VERSION = "a toolchain"
 # A script that replaces `rt`, prints its version and proves nothing.
 TOOLCHAIN = f'#!/bin/sh\n[ "$1" = version ] && echo {VERSION!r}\n'
-LINE = "logic=proved functions=7"
-NEITHER, PASSED, FAILED = (b"\n%d passed, %d failed\n" % it for it in ((0, 0), (1, 0), (0, 1)))
+LINE = "logic=proved functions=7"  # the prover's line about a crate
+# Last lines of dev/release --compare
+NOT_COMPARED, SAME, DIFFERENT = (b"\n%d passed, %d failed\n" % it for it in (
+    (0, 0), (1, 0), (0, 1)))
 NEEDED_PATHS = ["subttx", "crates.txt", "HANDLES", "tools", "dev", "crates"]
+COPIED_SOURCES = {"lib.rt", "parity.rt", "Lib.antt"}  # names of sources that a copy has
+OMITTED = {"out", "must-fail", "release-edits", "__pycache__", "vectors", "transcripts"}
+USAGE_FAULT = b"usage 0 Words\n"  # what the program prints about wrong arguments
+HELP_REQUESTS = [["--help"], ["-h"], ["help"], ["help", "check"], ["check", "--help"],
+                 ["-h", "survey"]]
 
 
-COPIED_FILES = {"lib.rt", "parity.rt", "Lib.antt"}  # names of files that are copied with a crate
-
-
-def left_out(folder: str, names: list[str]) -> set[str]:
+def list_omitted_names(folder: str, names: list[str]) -> set[str]:
     """Return the names in a folder that a copy omits: most sources, tests and output files."""
     if os.path.basename(folder) in ("src", "specs", "proofs"):
-        return set(names) - COPIED_FILES
-    here = {"tests", "every_place"} if os.path.basename(folder) == "developing" else set()
-    return set(names) & (here | {"out", "must-fail", "release-edits", "__pycache__", "vectors",
-                                 "transcripts"})
+        return set(names) - COPIED_SOURCES
+    tests = {"tests", "every_place"} if os.path.basename(folder) == "developing" else set()
+    return set(names) & (tests | OMITTED)
 
 
 class Clone:
-    """A copy of the repository in a test's folder, with a program and its file PROVED in dist/."""
+    """A copy of the repository in a test's folder. In dist/ it has the program under test, and a
+    file PROVED that names this program and the copied sources."""
 
     def __init__(self, case: Case) -> None:
         self.case, self.top = case, case.path("clone")
@@ -46,7 +50,7 @@ class Clone:
         for name in NEEDED_PATHS:
             here, there = os.path.join(TOP, name), self.path(name)
             if os.path.isdir(here):
-                shutil.copytree(here, there, ignore=left_out)
+                shutil.copytree(here, there, ignore=list_omitted_names)
             else:
                 shutil.copy(here, there)
         share_compiled(self.path("tools"))
@@ -73,27 +77,24 @@ class Clone:
         with open(self.path(name), "w", encoding="utf-8") as file:
             file.write(text)
 
-    def add_to(self, name: str, text: str) -> None:
-        with open(self.path(name), "a", encoding="utf-8") as file:
-            file.write(text)
-
     def build(self) -> None:
         """Copy the program to the place at which the toolchain builds it."""
         folder = self.path("crates", "subttx", "out")
         os.makedirs(folder)
         shutil.copy(self.case.bench.program, os.path.join(folder, "subttx"))
 
-    def give(self, name: str, text: str) -> None:
+    def write_command(self, name: str, text: str) -> None:
         """Write a script to the folder that contains `rt`."""
         os.makedirs(self.path("bin"), exist_ok=True)
         self.case.write_program(self.path("bin", name), text)
 
     def write_toolchain(self, text: str = TOOLCHAIN) -> str:
         """Write the script `rt`. Return a PATH that contains its folder."""
-        self.give("rt", text)
+        self.write_command("rt", text)
         return os.pathsep.join([self.path("bin"), remove_rt_from_path()])
 
     def call(self, command: list[str], path: str, user: int | None = None) -> CompletedCall:
+        """Run a command with a value of PATH."""
         process = subprocess.run(command, cwd=self.case.folder, env={**os.environ, "PATH": path},
                                  user=user, stdin=subprocess.DEVNULL, stdout=subprocess.PIPE,
                                  stderr=subprocess.PIPE, timeout=SECONDS, check=False)
@@ -140,88 +141,102 @@ def make_log(clone: Clone, kept: Iterable[str] = ()) -> str:
 
 
 class Clones(Case):
-    def test_runs_the_stored_program_in_any_folder(self) -> None:
-        clone = Clone(self)
-        clone.check_runs("at first")
-        clone.check_runs("again, with the choice kept")
-        os.symlink(clone.path("subttx"), self.path("link"))
-        clone.check_runs("through a link", clone.run(*PACKET, script=self.path("link")))
-        self.must("its path", clone.tool("program") == [clone.path("dist", "subttx")])
+    """./subttx, tools/program and dev/release in a copy of the repository. Unless a test gives one,
+    there is no toolchain, so nothing can be proved."""
 
-    def test_prints_help_without_arguments(self) -> None:
-        clone = Clone(self)
-        text = clone.run("--help").out
-        none, lines = clone.run(), text.decode().splitlines()
-        self.must("no words", none.status == 2 and none.out == b"usage 0 Words\n"
-                  and lines[0] == "usage: subttx COMMAND FILES [options]"
-                  and none.told[:len(lines)] == lines
-                  and none.told[len(lines):] == [
-                      "subttx: give a command (subttx --help lists the commands)"], none)
-        helping = [["--help"], ["-h"], ["help"], ["help", "check"], ["check", "--help"],
-                   ["-h", "survey"]]
-        for words in helping:
-            self.must(f"{words}", clone.run(*words) == CompletedCall(0, text, []))
+    def setUp(self) -> None:
+        super().setUp()
+        self.clone = Clone(self)
+
+    def add_to_source(self) -> None:
+        """Change a source, so that dist/ has the program of other sources."""
+        with open(self.clone.path(SOURCE), "a", encoding="utf-8") as file:
+            file.write("// changed\n")
+
+    def check_usage_fault(self, *args: str) -> None:
+        """Check that ./subttx rejects its arguments, with one message."""
+        process = self.clone.run(*args)
+        self.must(f"{args}", (process.status, process.out) == (2, USAGE_FAULT)
+                  and len(process.told) == 1 and process.told[0].startswith("subttx: "), process)
+
+    def test_runs_the_program_in_dist(self) -> None:
+        self.clone.check_runs("at first")
+        self.clone.check_runs("again, with the choice kept")
+        self.check("its path", self.clone.tool("program"), [self.clone.path("dist", "subttx")])
+
+    def test_runs_the_program_through_a_link(self) -> None:
+        os.symlink(self.clone.path("subttx"), self.path("link"))
+        self.clone.check_runs("a link", self.clone.run(*PACKET, script=self.path("link")))
+
+    def test_prints_the_same_help_with_and_without_a_program(self) -> None:
+        text = self.clone.run("--help").out
+        self.must("usage", text.startswith(b"usage: subttx COMMAND FILES [options]\n"), text)
+        for words in HELP_REQUESTS:
+            self.check(f"{words}", self.clone.run(*words), CompletedCall(0, text, []))
+        os.remove(self.clone.path("dist", "PROVED"))
+        for words in HELP_REQUESTS:
+            process = self.clone.run(*words)
+            self.check(f"{words}, no program", (process.status, process.out), (0, text))
+
+    def test_prints_the_help_as_errors_without_arguments(self) -> None:
+        lines = self.clone.run("--help").out.decode().splitlines()
+        self.check("process", self.clone.run(), CompletedCall(2, USAGE_FAULT, [
+            *lines, "subttx: give a command (subttx --help lists the commands)"]))
+
+    def test_prints_no_help_for_wrong_arguments(self) -> None:
         for words in [["check"], ["chec"], ["help", "me", "please"], ["help", "me"],
                       ["check", "a.stl", "b.pes", "-h"],
                       ["check", "a.stl", "b.pes", "--page", "-h"]]:
-            process = clone.run(*words)
-            self.must(f"{words}", (process.status, process.out) == (2, b"usage 0 Words\n")
-                      and len(process.told) == 1 and process.told[0].startswith("subttx: "),
-                      process)
-        os.remove(clone.path("dist", "PROVED"))
-        for words in helping:
-            process = clone.run(*words)
-            self.must(f"{words} without a program", (process.status, process.out) == (0, text),
-                      process)
+            self.check_usage_fault(*words)
 
     def test_prints_the_version(self) -> None:
-        clone = Clone(self)
         text = f"subttx {(read(os.path.join(TOP, 'VERSION')) or '').strip()}\n".encode()
         for word in ("--version", "-V"):
-            self.must(word, clone.run(word) == CompletedCall(0, text, []))
-            process = clone.run(word, "check")
-            self.must(f"{word} check", (process.status, process.out) == (2, b"usage 0 Words\n"),
-                      process)
+            self.check(word, self.clone.run(word), CompletedCall(0, text, []))
+            self.check_usage_fault(word, "check")
 
     def test_scripts_without_a_built_program_begin_no_proof(self) -> None:
-        clone = Clone(self)
-        os.remove(clone.path("dist", "PROVED"))
-        path = clone.write_toolchain(f"#!/bin/sh\ntouch '{self.path('called')}'\nexit 1\n")
+        os.remove(self.clone.path("dist", "PROVED"))
+        path = self.clone.write_toolchain(f"#!/bin/sh\ntouch '{self.path('called')}'\nexit 1\n")
         for command in (["tools/check-program"], ["dev/make-examples", "."]):
-            process = clone.call([clone.path(command[0]), *command[1:]], path)
+            process = self.clone.call([self.clone.path(command[0]), *command[1:]], path)
             self.check(f"{command}: status, calls the prover",
                        (process.status, os.path.exists(self.path("called"))), (2, False))
 
     def test_detects_a_damaged_program(self) -> None:
-        clone = Clone(self)
-        clone.check_runs("whole")
-        with open(clone.path("dist", "subttx"), "r+b") as file:
+        self.clone.check_runs("intact")
+        with open(self.clone.path("dist", "subttx"), "r+b") as file:
             file.seek(-100, os.SEEK_END)
             byte = file.read(1)[0]
             file.seek(-1, os.SEEK_CUR)
             file.write(bytes([byte ^ 1]))
-        clone.check_failure("one byte", "dist/subttx is damaged")
-        os.remove(clone.path("dist", "subttx"))
-        clone.check_failure("no file", "dist/subttx is not an executable program")
+        self.clone.check_failure("one bit", "dist/subttx is damaged")
+
+    def test_reports_a_missing_program(self) -> None:
+        os.remove(self.clone.path("dist", "subttx"))
+        self.clone.check_failure("no file", "dist/subttx is not an executable program")
 
     def test_detects_changed_sources(self) -> None:
-        clone = Clone(self)
         for name in (SOURCE, *(os.path.join("crates", "sub_listing", part, "Lib.antt")
                                for part in ("specs", "proofs")), "crates.txt"):
-            clone.check_runs("as it is")
-            text = read(clone.path(name)) or ""
-            clone.write(name, text.replace("subttx:", "subttx: sub_laws", 1)
-                        if name == "crates.txt" else text + "// changed\n")
-            clone.check_failure(name, "dist/subttx was built from other sources")
-            clone.write(name, text)
-        clone.add_to(SOURCE, "// changed\n")
-        clone.put("dist", self.bench.program)
-        clone.check_runs("with a program of its own")
-        os.rename(clone.path(SOURCE), clone.path(SOURCE + "2"))
-        clone.check_failure("another name", "dist/subttx was built from other sources")
+            self.clone.check_runs("as it is")
+            text = read(self.clone.path(name)) or ""
+            self.clone.write(name, text.replace("subttx:", "subttx: sub_laws", 1)
+                             if name == "crates.txt" else text + "// changed\n")
+            self.clone.check_failure(name, "dist/subttx was built from other sources")
+            self.clone.write(name, text)
+
+    def test_detects_a_renamed_source(self) -> None:
+        os.rename(self.clone.path(SOURCE), self.clone.path(SOURCE + "2"))
+        self.clone.check_failure("another name", "dist/subttx was built from other sources")
+
+    def test_runs_the_program_of_changed_sources_once_it_is_in_dist(self) -> None:
+        self.add_to_source()
+        self.clone.put("dist", self.bench.program)
+        self.clone.check_runs("changed sources")
 
     def test_runs_in_a_read_only_clone(self) -> None:
-        clone, user = Clone(self), None if os.geteuid() else ANOTHER_USER
+        clone, user = self.clone, None if os.geteuid() else ANOTHER_USER
         if user and not Trial.can_run(["test", "-x", clone.path("subttx")], user=user):
             self.skipTest("a read-only clone, since no other user can read it")
         subprocess.run(["chmod", "-R", "a-w", clone.top], check=True)
@@ -230,86 +245,88 @@ class Clones(Case):
         self.must("nothing was written", not os.path.exists(clone.path("out")))
 
     def test_reports_a_program_for_another_machine(self) -> None:
-        clone = Clone(self)
         for name, text in (("no program of this machine", "\x7fELF\x02 and no more"),
                            ("another answer", "#!/bin/sh\necho nothing\n"),
                            ("it ends by a signal", "#!/bin/sh\nkill -ILL $$\n")):
-            clone.write("other", text)
-            clone.put("dist", clone.path("other"))
-            clone.check_failure(name, "dist/subttx does not run here")
+            self.clone.write("other", text)
+            self.clone.put("dist", self.clone.path("other"))
+            self.clone.check_failure(name, "dist/subttx does not run here")
 
-    def test_follows_the_script_of_a_repository(self) -> None:
-        clone = Clone(self)
-        clone.write("other", "\x7fELF")
+    def test_replaces_the_script_of_a_repository_with_its_program(self) -> None:
+        self.clone.write("other", "\x7fELF")
         for name, path, program in (
-                ("the script", clone.path("subttx"), clone.path("dist", "subttx")),
-                ("a program beside it", clone.path("other"), clone.path("other")),
+                ("the script", self.clone.path("subttx"), self.clone.path("dist", "subttx")),
+                ("a program next to it", self.clone.path("other"), self.clone.path("other")),
                 ("a script elsewhere", self.write("alone", b"#!/bin/sh\n"), self.path("alone"))):
-            result = resolve_script(path)
-            self.must(name, os.path.realpath(result) == os.path.realpath(program), result)
+            self.check(name, os.path.realpath(resolve_script(path)), os.path.realpath(program))
 
     def test_prefers_a_program_that_was_built_here(self) -> None:
-        clone = Clone(self)
-        stored = clone.path("crates", "subttx", "stdout")
-        clone.check_runs("there is none yet")
-        clone.write("other", f"#!/bin/sh\n[ $2 = 00 ] && exec echo built\ncat {stored}\n")
-        clone.put("out", clone.path("other"))
-        process = clone.run(*PACKET)
-        self.must("out/", (process.status, process.out, process.told) == (0, b"built\n", []),
-                  process)
-        clone.add_to(SOURCE, "// changed\n")
-        clone.put("dist", self.bench.program)
-        clone.check_runs("dist/, where out/ is older")
+        stored = self.clone.path("crates", "subttx", "stdout")
+        self.clone.check_runs("there is none yet")
+        self.clone.write("other", f"#!/bin/sh\n[ $2 = 00 ] && exec echo built\ncat {stored}\n")
+        self.clone.put("out", self.clone.path("other"))
+        self.check("out/", self.clone.run(*PACKET), CompletedCall(0, b"built\n", []))
+        self.add_to_source()
+        self.clone.put("dist", self.bench.program)
+        self.clone.check_runs("dist/, where out/ is older")
 
-    def test_releases_only_a_proved_program(self) -> None:
-        clone = Clone(self)
-        clone.build()
-        os.remove(clone.path("dist", "PROVED"))
-        first, *others = clone.crates
-        clone.write("log", make_log(clone, kept=[first]))
-        process = clone.release("--note", clone.path("log"))
-        self.must("a log is noted", process.status == 0 and not process.told, process)
-        process = clone.release("--keep")
-        self.must("a crate without a line is told", first.encode() in process.out, process)
-        process = clone.release()
-        self.must("and refused", process.status == 2 and first in process.told[0], process)
-        clone.write("log", make_log(clone, kept=others))
-        clone.release("--note", clone.path("log"))
-        process = clone.release("--compare")
-        self.must("no dist/ yet", process.status == 0 and process.out.endswith(NEITHER), process)
-        process = clone.release()
-        self.must("taken", process.status == 0, process)
-        reported = parse_proved(read(clone.path("dist", "PROVED")))
-        self.must("each crate's own line", reported.crates == {
-            name: (digest, f"{LINE} of={name}") for name, digest in clone.crates.items()}, reported)
-        process = clone.release("--compare")
-        self.must("the same bytes", process.status == 0 and process.out.endswith(PASSED), process)
-        shutil.rmtree(clone.path("out"))
-        clone.check_runs("it runs")
+    def note_log(self, kept: Iterable[str]) -> CompletedCall:
+        """Let dev/release store the prover's lines about all crates but `kept`."""
+        self.clone.write("log", make_log(self.clone, kept))
+        return self.clone.release("--note", self.clone.path("log"))
+
+    def test_does_not_release_a_program_without_the_line_of_each_crate(self) -> None:
+        self.clone.build()
+        os.remove(self.clone.path("dist", "PROVED"))
+        first, *_ = self.clone.crates
+        process = self.note_log(kept=[first])
+        self.check("--note", (process.status, process.told), (0, []))
+        process = self.clone.release("--keep")
+        self.must("--keep reports the crate", first.encode() in process.out, process)
+        process = self.clone.release()
+        self.must("refused", process.status == 2 and first in process.told[0], process)
+        process = self.clone.release("--compare")
+        self.must("no dist/ yet", process.status == 0 and process.out.endswith(NOT_COMPARED),
+                  process)
+
+    def test_releases_a_program_with_the_line_of_each_crate_from_two_logs(self) -> None:
+        self.clone.build()
+        os.remove(self.clone.path("dist", "PROVED"))
+        first, *others = self.clone.crates
+        self.note_log(kept=[first])
+        self.clone.release("--keep")
+        self.note_log(kept=others)
+        self.check("status", self.clone.release().status, 0)
+        self.check("lines", parse_proved(read(self.clone.path("dist", "PROVED"))).crates, {
+            name: (digest, f"{LINE} of={name}") for name, digest in self.clone.crates.items()})
+        process = self.clone.release("--compare")
+        self.must("the same bytes", process.status == 0 and process.out.endswith(SAME), process)
+        shutil.rmtree(self.clone.path("out"))
+        self.clone.check_runs("dist/")
 
     def test_release_keeps_lines_of_unchanged_sources(self) -> None:
-        clone = Clone(self)
-        clone.build()
-        clone.add_to(SOURCE, "// changed\n")
-        clone.write("log", make_log(clone, kept=clone.crates))
-        clone.release("--note", clone.path("log"))
-        process = clone.release("--keep")
-        reported = parse_proved(read(clone.path("out", "PROVED"))).crates
-        self.must("all but one", set(clone.crates) - set(reported) == {"ttx_packet"}, reported)
-        process = clone.release("--compare")
-        self.must("other sources are told", process.status == 0 and b"other sources" in process.out,
+        self.clone.build()
+        self.add_to_source()
+        self.note_log(kept=self.clone.crates)
+        self.clone.release("--keep")
+        reported = parse_proved(read(self.clone.path("out", "PROVED"))).crates
+        self.check("without a line", {*self.clone.crates} - {*reported}, {"ttx_packet"})
+        process = self.clone.release("--compare")
+        self.must("reports other sources", process.status == 0 and b"other sources" in process.out,
                   process)
 
-    def test_compare_reports_different_programs(self) -> None:
-        clone = Clone(self)
-        shutil.copy(clone.path("dist", "subttx"), self.path("other"))
+    def test_compare_fails_if_dist_and_out_have_different_programs(self) -> None:
+        shutil.copy(self.clone.path("dist", "subttx"), self.path("other"))
         with open(self.path("other"), "ab") as file:
             file.write(b"\0")
-        clone.put("out", self.path("other"))
-        process = clone.release("--compare")
-        self.must("other bytes", process.status == 1 and process.out.endswith(FAILED), process)
-        shutil.copy(self.path("other"), clone.path("dist", "subttx"))
-        process = clone.release("--compare")
+        self.clone.put("out", self.path("other"))
+        process = self.clone.release("--compare")
+        self.must("other bytes", process.status == 1 and process.out.endswith(DIFFERENT), process)
+
+    def test_compare_fails_if_the_program_in_dist_is_damaged(self) -> None:
+        with open(self.clone.path("dist", "subttx"), "ab") as file:
+            file.write(b"\0")
+        process = self.clone.release("--compare")
         self.must("damage", process.status == 1 and b"is not the program" in process.out, process)
 
 
@@ -331,11 +348,11 @@ LINKER = """#!/bin/sh
 [ "$5" = -o ] && cp 'PROGRAM' "$6"
 """
 PROVED_PROGRESS = re.compile(r"subttx: (\w+) proved after \d+ s, (\d+) of \d+ crates left")
-SLEEP_COMMAND = "echo $$ >>'PIDS'; exec sleep 600"
 
 
 class BareClone(Clone):
-    """A copy of the repository with a fake toolchain and without the file PROVED."""
+    """A copy of the repository without the file PROVED, and with a fake toolchain. Its prover runs
+    the shell command `first` for each crate, and proves all crates but `fails`."""
 
     def __init__(self, case: Case, fails: str = "", first: str = "") -> None:
         super().__init__(case)
@@ -343,50 +360,55 @@ class BareClone(Clone):
         self.environment = self.write_toolchain(TOOLCHAIN)
         self.called = case.path("called")
         self.write_prover(fails, first)
-        self.give("rattle-link", LINKER.replace("PROGRAM", case.bench.program))
+        self.write_command("rattle-link", LINKER.replace("PROGRAM", case.bench.program))
 
     def write_prover(self, fails: str = "", first: str = "", line: str = LINE) -> None:
         text = PROVER.replace("FIRST", first).replace("FAILS", fails).replace("LINE", line)
-        self.give("rattle", text.replace("CALLED", self.called))
+        self.write_command("rattle", text.replace("CALLED", self.called))
 
     def start(self) -> CompletedCall:
         return self.call([self.path("subttx"), *PACKET], self.environment)
 
     def prove(self, *args: str) -> list[str]:
+        """Call tools/prove. Return the crates for which it calls the prover."""
         self.write(self.called, "")
         self.call([self.path("tools", "prove"), *args], self.environment)
         return (read(self.called) or "").split()
 
-    def has_cleared(self) -> bool:
-        return not os.path.exists(self.path("out", "proving"))
+    def check_nothing_is_left(self) -> None:
+        """Check that there is no program in out/, and no folder in which one is proved."""
+        self.case.check("left", [name for name in ("subttx", "proving")
+                                 if os.path.exists(self.path("out", name))], [])
 
 
 class ProvingClones(Case):
+    """./subttx and tools/prove in a copy of the repository with a fake toolchain."""
+
     def test_proves_and_runs_the_program(self) -> None:
         clone = BareClone(self)
         process = clone.start()
+        self.check("output", process.out, self.call([self.bench.program, *PACKET]).out)
         reported = [PROVED_PROGRESS.fullmatch(line) for line in process.told[1:]]
-        self.must("it runs", process.out == self.call([self.bench.program, *PACKET]).out, process)
-        self.must("each crate is told", {it[1] for it in reported if it} == set(clone.crates)
-                  and [int(it[2]) for it in reported
-                       if it] == [*reversed(range(len(clone.crates)))],
-                  process)
-        kept = parse_proved(read(clone.path("out", "PROVED")))
-        self.must("what is kept", kept.program == compute_digest(self.bench.program)
-                  and kept.sources == clone.tool("sources")[0], kept)
-        self.must("with its lines", kept.crates == {
-            name: (digest, LINE) for name, digest in clone.crates.items()}, kept)
-        self.must("nothing else is left", clone.has_cleared())
+        progress = {it[1]: int(it[2]) for it in reported if it}
+        self.check("reported crates", {*progress}, {*clone.crates})
+        self.check("crates left", [*progress.values()], [*reversed(range(len(clone.crates)))])
+        self.must("no temporary folder", not os.path.exists(clone.path("out", "proving")))
         clone.check_runs("again, without the toolchain")
+
+    def test_stores_what_was_proved(self) -> None:
+        clone = BareClone(self)
+        clone.start()
+        self.check("PROVED", parse_proved(read(clone.path("out", "PROVED"))), ProvedProgram(
+            clone.tool("sources")[0], compute_digest(self.bench.program), VERSION,
+            {name: (digest, LINE) for name, digest in clone.crates.items()}))
 
     def test_reports_a_crate_that_is_not_proved(self) -> None:
         clone = BareClone(self, fails="ttx_page")
         process = clone.start()
-        self.must("status 2", process.status == 2 and not process.out, process)
+        self.check("status, output", (process.status, process.out), (2, b""))
         self.must("its messages", "a goal is open" in process.told and LINE not in process.told
                   and process.told[-1].startswith("subttx: ttx_page was not proved"), process)
-        self.must("nothing is left", clone.has_cleared()
-                  and not os.path.exists(clone.path("out", "subttx")))
+        clone.check_nothing_is_left()
 
     def test_refuses_a_line_with_unproved_functions(self) -> None:
         clone = BareClone(self)
@@ -396,33 +418,34 @@ class ProvingClones(Case):
             process = clone.start()
             self.must(name, process.status == 2 and "was not proved" in process.told[-1], process)
 
-    def test_proves_only_changed_crates(self) -> None:
+    def test_proves_only_changed_crates_and_those_that_use_them(self) -> None:
         clone = BareClone(self)
-        self.must("all at first", sorted(clone.prove()) == sorted(clone.crates))
-        self.must("then none", not clone.prove())
-        clone.add_to(os.path.join("crates", "sub_check", "src", "lib.rt"), "// changed\n")
-        proved = clone.prove()
-        self.must("those above a change", proved == [
-            "sub_check", "sub_answer", "sub_headline", "subttx"], proved)
-        self.must("all", sorted(clone.prove("--anew")) == sorted(clone.crates))
+        self.check("all at first", sorted(clone.prove()), sorted(clone.crates))
+        self.check("then none", clone.prove(), [])
+        path = os.path.join("crates", "sub_check", "src", "lib.rt")
+        clone.write(path, (read(clone.path(path)) or "") + "// changed\n")
+        self.check("after a change", clone.prove(), [
+            "sub_check", "sub_answer", "sub_headline", "subttx"])
+        self.check("all with --anew", sorted(clone.prove("--anew")), sorted(clone.crates))
 
     def test_reports_a_source_that_changes_meanwhile(self) -> None:
         clone = BareClone(self, first=f"echo '// changed' >>'{self.path('clone')}/{SOURCE}'")
         process = clone.start()
-        self.must("it is told", process.status == 2
+        self.must("status, message", process.status == 2
                   and any("were changed" in it for it in process.told), process)
-        self.must("nothing is left", not os.path.exists(clone.path("out", "subttx")))
+        clone.check_nothing_is_left()
 
     def test_stops_the_toolchain_after_an_interrupt(self) -> None:
         pids = self.path("pids")
-        clone = BareClone(self, first=SLEEP_COMMAND.replace("PIDS", pids))
+        clone = BareClone(self, first=f"echo $$ >>'{pids}'; exec sleep 600")
         running = subprocess.Popen([clone.path("tools", "prove")], stdin=subprocess.DEVNULL,
                                    stderr=subprocess.DEVNULL,
                                    env={**os.environ, "PATH": clone.environment})
         while not read(pids) and running.poll() is None:
             time.sleep(0.05)
         running.send_signal(signal.SIGTERM)
-        self.must("status 130", running.wait(SECONDS) == 130, running.returncode)
-        self.must("nothing runs on", not any(os.path.exists(f"/proc/{pid}")
-                                             for pid in (read(pids) or "").split()))
-        self.must("nothing is left", clone.has_cleared())
+        self.check("status", running.wait(SECONDS), 130)
+        started = (read(pids) or "").split()
+        self.must("nothing runs on", started and not any(
+            os.path.exists(f"/proc/{pid}") for pid in started), started)
+        clone.check_nothing_is_left()

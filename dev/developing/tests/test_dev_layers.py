@@ -4,6 +4,7 @@ from __future__ import annotations
 import ast
 import contextlib
 import fcntl
+import glob
 import os
 import shutil
 import subprocess
@@ -64,7 +65,7 @@ def list_wrong_imports(name: str, names: Iterator[str]) -> list[str]:
     return result
 
 
-def wraps(text: str) -> list[int]:
+def list_wrapping_lines(text: str) -> list[int]:
     """Return the numbers of lines that compute modulo CLOCK instead of calling `wrap_pts`."""
     return [node.lineno for node in ast.walk(ast.parse(text))
             if isinstance(node, ast.BinOp) and isinstance(node.op, (ast.Mod, ast.FloorDiv))
@@ -96,6 +97,7 @@ def list_long_lines(text: str) -> list[int]:
 
 
 def find_cycle(imports: dict[str, set[str]]) -> list[str]:
+    """Return modules of which each imports the next, and the last the first, or an empty list."""
     clear: set[str] = set()
 
     def walk(name: str, way: list[str]) -> list[str]:
@@ -111,103 +113,97 @@ def find_cycle(imports: dict[str, set[str]]) -> list[str]:
     return next(filter(None, (walk(name, []) for name in sorted(imports))), [])
 
 
+# A module, a text in it, and whether the module may import what the text imports
+IMPORT_CASES = [
+    ("subtitles.judging.pair", "from ..report.page import document", False),
+    ("subtitles.judging.pair", "from .. import report", False),
+    ("subtitles.judging.pair", "def f():\n    from ..cli import main", False),
+    ("subtitles.judging.pair", "if TYPE_CHECKING:\n    import subtitles.cli.main", False),
+    ("subtitles.judging.pair", "from ..common.command_line import Stop\nfrom .part import Part",
+     True),
+    ("subtitles.cli.single", "from ..report.page import overview", True),
+    ("subtitles.common.command_line", "from developing import TOOLS", False),
+    ("subtitles.common.command_line", "from ..stream import survey", False),
+    # The second implementation may import only what SHARED_MODULES names.
+    ("developing.every_place.known", "from subtitles.formats.listing import parse_fault_line",
+     False),
+    ("developing.every_place.known", "from subtitles.formats.teletext import OPTIONS", False),
+    ("developing.every_place.known", "from subtitles.common.times import CLOCK", True)]
+# The modules that each module imports, and those of a cycle
+CYCLE_CASES: list[tuple[dict[str, set[str]], list[str]]] = [
+    ({"a": set()}, []), ({"a": {"b"}, "b": set()}, []), ({"a": {"a"}}, ["a"]),
+    ({"a": {"b"}, "b": {"a"}}, ["a", "b"]),
+    ({"a": {"b", "c"}, "b": set(), "c": {"d"}, "d": {"c"}}, ["c", "d"])]
+
+
 class Imports(Case):
+    """The Python modules and scripts in tools/, dev/ and bench/."""
+
     def test_packages_import_only_lower_packages(self) -> None:
         paths = [path for folder in PACKAGES for path in modules(folder)]
         self.must("modules", len(paths) > 50, len(paths))
         for path in paths:
             name = get_module_name(path)
             names = list_imports(read(path) or "", name, path.endswith("__init__.py"))
-            wrong = list_wrong_imports(name, names)
-            self.must(name, not wrong, wrong)
+            self.check(name, list_wrong_imports(name, names), [])
+
+    def test_finds_wrong_imports(self) -> None:
+        for name, text, is_right in IMPORT_CASES:
+            wrong = list_wrong_imports(name, list_imports(text, name, is_package=False))
+            self.must(f"{name}: {text}", (not wrong) == is_right, wrong)
 
     def test_modules_run_on_python_3_9(self) -> None:
-        for path in modules(os.path.join(TOOLS, "subtitles")):
+        for path in modules(PACKAGES[0]):
             self.check(get_module_name(path), list_newer_lines(read(path) or ""), [])
+
+    def test_finds_lines_that_python_3_9_rejects(self) -> None:
         for line in ("at = bisect.bisect_left(a, b, key=c)", "dataclass(slots=True)",
                      "for a in zip(b, c, strict=True): pass", "Page = Rows | None"):
             self.check(line, list_newer_lines(line), [1])
         self.check("annotations",
                    list_newer_lines("a: int | None = 3\ndef b() -> int | None: pass"), [])
 
-    def test_finds_wrong_imports(self) -> None:
-        for name, text, is_right in [
-                ("subtitles.judging.pair", "from ..report.page import document", False),
-                ("subtitles.judging.pair", "from .. import report", False),
-                ("subtitles.judging.pair", "def f():\n    from ..cli import main", False),
-                ("subtitles.judging.pair",
-                 "if TYPE_CHECKING:\n    import subtitles.cli.main", False),
-                ("subtitles.judging.pair",
-                 "from ..common.command_line import Stop\nfrom .part import Part", True),
-                ("subtitles.cli.single", "from ..report.page import overview", True),
-                ("subtitles.common.command_line", "from developing import TOOLS", False),
-                ("subtitles.common.command_line", "from ..stream import survey", False),
-                # The second implementation may import only what SHARED_MODULES names.
-                ("developing.every_place.known",
-                 "from subtitles.formats.listing import parse_fault_line", False),
-                ("developing.every_place.known", "from subtitles.formats.teletext import OPTIONS",
-                 False),
-                ("developing.every_place.known", "from subtitles.common.times import CLOCK", True)]:
-            wrong = list_wrong_imports(name, list_imports(text, name, False))
-            self.must(f"{name}: {text}", (not wrong) == is_right, wrong)
-
     def test_modules_have_no_import_cycle(self) -> None:
-        for imports, expected in (({"a": set[str]()}, []), ({"a": {"b"}, "b": set[str]()}, []),
-                                  ({"a": {"a"}}, ["a"]), ({"a": {"b"}, "b": {"a"}}, ["a", "b"]),
-                                  ({"a": {"b", "c"}, "b": set[str](), "c": {"d"}, "d": {"c"}},
-                                   ["c", "d"])):
-            self.must(f"{imports}", find_cycle(imports) == expected)
-        texts = {}
-        for path in modules(PACKAGES[0]):
-            if not path.endswith("__init__.py"):
-                texts[get_module_name(path)] = read(path) or ""
-        result = find_cycle({
-            name: {other for other in texts.keys() & {*list_imports(text, name, False)}
-                   if name != MAIN}
-            for name, text in texts.items()})
-        self.must("tools", not result, result)
+        texts = {get_module_name(path): read(path) or "" for path in modules(PACKAGES[0])
+                 if not path.endswith("__init__.py")}
+        self.check("cycle", find_cycle({
+            name: texts.keys() & {*list_imports(text, name, is_package=False)}
+            for name, text in texts.items() if name != MAIN} | {MAIN: set()}), [])
+
+    def test_finds_an_import_cycle(self) -> None:
+        for imports, expected in CYCLE_CASES:
+            self.check(f"{imports}", find_cycle(imports), expected)
 
     def test_lines_have_at_most_100_columns(self) -> None:
-        self.must("what is found", list_long_lines("a" * 100 + "\n" + "ä" * 101 + "\n") == [2])
         for path in [*(path for folder in PACKAGES for path in modules(folder)), *scripts()]:
             if not path.endswith(TABLE_FILE):
-                result = list_long_lines(read(path) or "")
-                self.must(path, not result, result)
+                self.check(path, list_long_lines(read(path) or ""), [])
+
+    def test_finds_long_lines(self) -> None:
+        self.check("lines", list_long_lines("a" * 100 + "\n" + "ä" * 101 + "\n"), [2])
 
     def test_only_one_module_wraps_pts(self) -> None:
-        self.must("what is found", wraps("a = 1\nb = (a - 2) % CLOCK") == [2])
-        for path in modules(PACKAGES[0]):
-            result = wraps(read(path) or "")
-            is_home = get_module_name(path) == "subtitles.common.times"
-            self.must(get_module_name(path), bool(result) == is_home, result)
+        names = [get_module_name(path) for path in modules(PACKAGES[0])
+                 if list_wrapping_lines(read(path) or "")]
+        self.check("modules", names, ["subtitles.common.times"])
+
+    def test_finds_lines_that_wrap_pts(self) -> None:
+        self.check("lines", list_wrapping_lines("a = 1\nb = (a - 2) % CLOCK"), [2])
 
 
 TOOLS, DEV, BENCH = (os.path.join(TOP, name) for name in ("tools", "dev", "bench"))
 PACKAGES = [os.path.join(TOOLS, "subtitles"), os.path.join(DEV, "developing")]
 
 
-def is_python(path: str) -> bool:
-    if not os.path.isfile(path):
-        return False
-    with open(path, "rb") as file:
-        return file.readline().endswith(b"python3\n")
-
-
 def modules(folder: str) -> list[str]:
-    result: list[str] = []
-    for name in sorted(os.listdir(folder)):
-        path = os.path.join(folder, name)
-        if os.path.isdir(path):
-            result += modules(path)
-        elif name.endswith(".py"):
-            result.append(path)
-    return result
+    return sorted(glob.glob(os.path.join(folder, "**", "*.py"), recursive=True))
 
 
 def scripts() -> list[str]:
+    """Return the paths of the Python scripts in the folders, not in those within them."""
     paths = (os.path.join(folder, name) for folder in (TOOLS, DEV, BENCH)
              for name in sorted(os.listdir(folder)))
-    return list(filter(is_python, paths))
+    return [path for path in paths if (read(path) or "").partition("\n")[0].endswith("python3")]
 
 
 @contextlib.contextmanager
@@ -227,7 +223,7 @@ def open_mypy_cache(case: Case) -> Iterator[str]:
 
 
 class Hints(Case):
-    def test_mypy_accepts_all_modules(self) -> None:
+    def test_mypy_accepts_the_type_hints_of_all_modules_and_scripts(self) -> None:
         mypy = shutil.which("mypy")
         if mypy is None and "CI" not in os.environ:
             self.skipTest("type hints, since there is no mypy")

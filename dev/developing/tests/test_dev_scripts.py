@@ -20,6 +20,7 @@ from subtitles.common.program import TOP, read
 from .bench import Case, get_tool_path, import_script
 from .failures import MAX_LINES_PRINTED
 from .runner import Counts
+from .test_dev_gate import COUNT_CASES
 
 GATE = os.path.join(TOP, ".ci", "run")
 # The stages of the gate in their order: the script, and the counts in its last line.
@@ -28,8 +29,8 @@ STAGES = {"dev/edits": "1 passed, 0 failed", "dev/graph": "20 passed, 0 failed",
           "dev/release": "50000 passed, 0 failed"}
 ALL_PASSED = "54321 passed, 0 failed"
 
-# What a stage prints as its last line and its status, the last line of the gate, and the stages
-# that run. The first three stages stop the gate if they fail.
+# What a stage prints as its last line, and its status, if they differ from STAGES; the last line of
+# the gate, its status, and the stages that run. The first three stages stop the gate if they fail.
 GATE_CASES: dict[str, tuple[dict[str, tuple[str, int]], str, int, list[str]]] = {
     "all stages pass": ({}, ALL_PASSED, 0, list(STAGES)),
     "the edits fail": ({"dev/edits": ("1 passed, 2 failed", 1)}, "321 passed, 2 failed", 1,
@@ -52,7 +53,8 @@ GATE_CASES: dict[str, tuple[dict[str, tuple[str, int]], str, int, list[str]]] = 
 
 
 def make_stage(name: str, line: str, status: int) -> str:
-    """Return a shell script that notes its name, prints two lines and ends with a status."""
+    """Return a shell script that adds its name to the file $STAGES, prints two lines and ends with
+    a status."""
     # dev/release is also called to store lines and to keep the program, which is no stage.
     condition = '[ "$1" = --compare ] || exit 0\n' if name == "dev/release" else ""
     return (f'#!/bin/sh\n{condition}echo {name} >>"$STAGES"\necho "first line of {name}"\n'
@@ -60,7 +62,9 @@ def make_stage(name: str, line: str, status: int) -> str:
 
 
 class Gate(Case):
-    def test_counts_what_each_stage_prints(self) -> None:
+    """A copy of .ci/run, whose stages are scripts that only print what STAGES or a row says."""
+
+    def test_adds_the_counts_of_its_stages_and_stops_if_one_of_the_first_three_fails(self) -> None:
         for name, (changes, last, status, expected_stages) in GATE_CASES.items():
             folder = name.replace(" ", "-").replace("/", "")
             for part in (".ci", "bin", "dev", "tools"):
@@ -74,11 +78,10 @@ class Gate(Case):
                    "STAGES": self.path(f"{folder}/stages")}
             env.pop("CI", None)
             process = self.call(["bash", self.path(f"{folder}/.ci/run")], env=env)
-            with self.subTest(name):
-                self.check("last line", process.out.decode().splitlines()[-1], last)
-                self.check("status", process.status, status)
-                self.check("stages", self.read(f"{folder}/stages").decode().split(),
-                           expected_stages)
+            self.check(f"{name}: last line", process.out.decode().splitlines()[-1], last)
+            self.check(f"{name}: status", process.status, status)
+            self.check(f"{name}: stages", self.read(f"{folder}/stages").decode().split(),
+                       expected_stages)
 
 
 EDIT = "sub_packets/must-fail/check_accepts_another_packet_of_a_row"
@@ -86,7 +89,7 @@ OTHER_EDIT = "sub_packets/must-fail/check_accepts_a_header_that_does_not_erase_t
 REFUSED = ("note: src/packet_rules.rt:5:1: it is not proved that a (`returns`)\n"
            "fn sub_packets::packet_rules::row: not proved\nlogic=not-proved\n")
 
-# What the prover prints, its status, and what dev/edits says about the edit.
+# What the prover prints about EDIT, its status, and the last line and status of dev/edits
 EDIT_CASES = {
     "not proved": (REFUSED, 1, "1 refused, 0 not refused", 0),
     "proved": ("logic=proved functions=3\n", 0, "0 refused, 1 not refused", 1),
@@ -99,19 +102,20 @@ EDIT_CASES = {
 
 
 class Edits(Case):
+    """dev/edits with a script in place of the prover `rt`."""
+
     def test_counts_only_edits_that_the_prover_refused(self) -> None:
         for name, (output, status, last, expected_status) in EDIT_CASES.items():
             self.write("output", output.encode())
             rt = self.write_program("rt", f"#!/bin/sh\ncat '{self.path('output')}'\n"
                                           f"exit {status}\n")
             process = self.call([get_tool_path("edits"), EDIT], env={**os.environ, "RT": rt})
-            with self.subTest(name):
-                self.check("last line", process.out.decode().splitlines()[-1], last)
-                self.check("status", process.status, expected_status)
-
+            self.check(f"{name}: last line", process.out.decode().splitlines()[-1], last)
+            self.check(f"{name}: status", process.status, expected_status)
 
     def test_fails_if_one_of_two_edits_is_not_refused(self) -> None:
         self.write("output", REFUSED.encode())
+        # The first call refuses its edit; the other, for which `mkdir` fails, does not.
         rt = self.write_program("rt", "#!/bin/sh\ncd '{0}'\nmkdir called 2>/dev/null || exit 0\n"
                                       "cat output\nexit 1\n".format(self.folder))
         process = self.call([get_tool_path("edits"), EDIT, OTHER_EDIT],
@@ -120,7 +124,8 @@ class Edits(Case):
                    (1, "1 refused, 1 not refused"))
 
 
-# The command, its output, and each status (`None` after a time limit) that agrees with it.
+# A command in a document, its output, and each status that agrees with it; `None` is the status of
+# a command that exceeded a time limit
 STATUS_CASES: dict[str, tuple[str, str, list[int | None]]] = {
     "an answer": ("./subttx show a", "3 subtitles\n", [0]),
     "a refusal": ("./subttx check a b", "refused 45 Lost pes 1\n", [1]),
@@ -145,13 +150,14 @@ class FailedScripts(Case):
     def test_check_manual_compares_output_and_status(self) -> None:
         script = import_script("check-manual")
         os.mkdir(self.path("copy"))
-        for name, command, expected in (
+        # The manual says that the command prints `accepted`. The counts are passed and failed.
+        for name, command, counts in (
                 ("right", "echo accepted", (1, 0)), ("another output", "echo refused", (0, 1)),
                 ("another status", "echo accepted; exit 1", (0, 1))):
             path = self.write("a.md", f"```\n$ {command}\naccepted\n```\n".encode())
-            self.check(name, script.run(path, self.path("copy"))[:2], expected)
+            self.check(name, script.run(path, self.path("copy"))[:2], counts)
 
-    def test_check_live_counts_the_failures_of_each_feed(self) -> None:
+    def test_check_live_adds_the_counts_of_both_routes_of_a_feed(self) -> None:
         script = import_script("check-live")
         feed = script.Feed("a", [], [], ())
         for counts, expected in (([(2, 0), (1, 0)], ("3 passed, 0 failed", 0)),
@@ -170,20 +176,21 @@ class FailedScripts(Case):
 
     def test_bench_measures_no_command_that_failed(self) -> None:
         script = self.import_bench()
-        for does, is_measured in (("exit 0", True), ("exit 1", True), ("exit 2", False),
-                                  ("kill -9 $$", False)):
-            try:
-                self.check(does, script.milliseconds(["sh", "-c", does]) > 0, is_measured)
-            except SystemExit:
-                self.check(does, False, is_measured)
+        for command, is_measured in (("exit 0", True), ("exit 1", True), ("exit 2", False),
+                                     ("kill -9 $$", False)):
+            time = 0.0
+            with contextlib.suppress(SystemExit):
+                time = script.milliseconds(["sh", "-c", command])
+            self.check(command, time > 0, is_measured)
 
     def test_bench_prints_megabytes_a_second_and_the_ratio_to_cat(self) -> None:
         script = self.import_bench()
         bench = script.Bench("program", None, self.folder)
         path = self.write("day.pes", bytes(1_000_000))
+        milliseconds = unittest.mock.Mock(side_effect=[[10.0], [40.0]])  # of `cat` and `check`
         with unittest.mock.patch.multiple(
-                script, least=unittest.mock.Mock(side_effect=[[10.0], [40.0]]),
-                peak=lambda _: "7 MB"), contextlib.redirect_stdout(io.StringIO()) as out, \
+                script, least=milliseconds, peak=lambda _: "7 MB"), \
+                contextlib.redirect_stdout(io.StringIO()) as out, \
                 unittest.mock.patch.object(script.shutil, "which", lambda _: None):
             bench.row("day: cat PES", path, ["cat", path])
             bench.row("day: check", path, ["program", "check"])
@@ -192,7 +199,7 @@ class FailedScripts(Case):
 
 
 class FailedChecks(Case):
-    def test_shows_what_was_expected_and_found_in_few_lines(self) -> None:
+    def test_a_failed_check_prints_expected_and_found_values_in_few_lines(self) -> None:
         def fail(case: Case) -> None:
             case.check("a number", 1 + 1, 3)
             case.must("two conditions", case.folder == "" and len(case.folder) > 1, "no folder")
@@ -209,7 +216,7 @@ class FailedChecks(Case):
                    ["  false:    len(case.folder) > 1", "  found:    'no folder'"])
         self.check("lines", len(many.splitlines()), MAX_LINES_PRINTED)
 
-    def test_a_failed_check_gives_status_1(self) -> None:
+    def test_check_tools_and_check_survey_fail_with_a_wrong_program(self) -> None:
         other = self.write_program("other", "#!/bin/sh\necho another program\n")
         for name, *words in (["check-tools", "test_stream_survey.Lines"],
                              ["check-survey", "--count", "1"]):
@@ -218,25 +225,25 @@ class FailedChecks(Case):
             self.check(f"{name}: {last}", (process.status, last.endswith(", 0 failed")),
                        (1, False))
 
-    def test_check_readme_accepts_only_commands_with_a_verdict(self) -> None:
+    def test_check_readme_accepts_only_commands_with_the_status_of_a_verdict(self) -> None:
         for status in (0, 1, 2, 3, 64, 70):
             steps = import_script("check-readme").CloneCommands(self.folder)
             with contextlib.redirect_stdout(io.StringIO()):
                 steps.check_command(f"exit {status}", "out")
             self.check(f"status {status}", steps.failed == 0, status in (0, 1, 3))
 
-    def test_check_survey_compares_the_status(self) -> None:
+    def test_check_survey_compares_the_status_as_the_last_line(self) -> None:
         program = self.write_program("other", "#!/bin/sh\nexit 3\n")
         self.check("lines", import_script("check-survey").printed(
             program, make_random_recording(1)), ["status 3"])
 
-    def test_check_tools_says_at_once_what_it_runs(self) -> None:
-        name = "test_dev_gate.Counts"
+    def test_check_tools_prints_first_what_it_runs_and_last_its_counts(self) -> None:
+        name = "test_dev_gate.Counts"  # has one test with a check for each row
         process = self.tool("check-tools", "--jobs", "3", "-p", self.bench.program, name)
         first, *_, last = process.out.decode().splitlines()
         self.check("status", process.status, 0)
         self.check("first line", first, f"running 1 test, 3 at a time, of {self.bench.program}")
-        self.check("last line", last, "11 passed, 0 failed")
+        self.check("last line", last, f"{len(COUNT_CASES)} passed, 0 failed")
 
 
 class NewMachines(Case):
@@ -248,7 +255,7 @@ class NewMachines(Case):
         self.check("status, message", (process.status, process.told),
                    (2, ["install-test-tools: needs root: use sudo"]))
 
-    def test_check_program_says_what_it_runs_and_last_what_was_skipped(self) -> None:
+    def test_check_program_prints_first_what_it_runs_and_last_what_was_skipped(self) -> None:
         script = import_script("check-program")
         self.patch_script(script, 0, "skipped: units, since it is night\n2 passed, 0 failed\n")
         with contextlib.redirect_stdout(io.StringIO()) as out:
@@ -268,7 +275,7 @@ class NewMachines(Case):
             self.check("last line", out.getvalue().splitlines()[-1], "1 passed, 1 failed")
 
     def patch_script(self, script: Any, status: int, printed: str) -> None:
-        """Let check-program run a script that prints a text, and compare no examples."""
+        """Let check-program run one script, which prints a text, and count one correct example."""
         process = subprocess.CompletedProcess([], status, printed)
         for name, value in {"SCRIPTS": ["check-live"], "run": lambda *_: process,
                             "compare_examples": lambda _: (1, 0)}.items():
@@ -276,7 +283,7 @@ class NewMachines(Case):
             patch.start()
             self.addCleanup(patch.stop)
 
-    def test_the_first_screen_of_readme_has_both_commands(self) -> None:
+    def test_the_first_24_lines_of_readme_have_the_first_commands_and_the_licence(self) -> None:
         lines = (read(os.path.join(TOP, "README.md")) or "").splitlines()
         screen = " ".join(" ".join(lines[:24]).split())
         for text in ("apt-get install git python3", "tools/qc MY.stl MY.ts", "tools/check-program",
@@ -284,17 +291,22 @@ class NewMachines(Case):
             self.must(text, text in screen)
 
 
+CRATE_LINES = {name: (digest, "logic=proved functions=1")
+               for name, digest in list_crate_sums().items()}
+
+
+def omit_crate(name: str) -> Crates:
+    return {crate: line for crate, line in CRATE_LINES.items() if crate != name}
+
+
 class ReleasedLines(unittest.TestCase):
     def test_finds_each_crate_without_the_prover_line_of_its_sources(self) -> None:
-        sums = list_crate_sums()
-        names = list(sums)
-        lines = {name: (digest, "logic=proved functions=1") for name, digest in sums.items()}
-        first, last = names[0], names[-1]
+        first, *others, last = CRATE_LINES
         cases: dict[str, tuple[Crates, list[str]]] = {
-            "all crates": (lines, []), "no crates": ({}, names),
-            "the first is missing": ({n: v for n, v in lines.items() if n != first}, [first]),
-            "the last is missing": ({n: v for n, v in lines.items() if n != last}, [last]),
-            "other sources": ({**lines, last: ("0", "logic=proved functions=1")}, [last])}
+            "all crates": (CRATE_LINES, []), "no crates": ({}, [first, *others, last]),
+            "the first is missing": (omit_crate(first), [first]),
+            "the last is missing": (omit_crate(last), [last]),
+            "other sources": ({**CRATE_LINES, last: ("0", "logic=proved functions=1")}, [last])}
         for case, (crates, expected) in cases.items():
             with self.subTest(case):
                 proved = ProvedProgram(None, None, None, crates)
@@ -305,11 +317,9 @@ class ReleasedArchives(Case):
     def test_needs_the_prover_line_of_each_crate(self) -> None:
         dist = import_script("dist")
         program = self.write_program("subttx", "")
-        crates = {name: (digest, "logic=proved functions=1")
-                  for name, digest in list_crate_sums().items()}
-        for name in ("", *list(crates)[:1], *list(crates)[-1:]):
-            lines = {crate: line for crate, line in crates.items() if crate != name}
-            self.write("PROVED", format_proved(ProvedProgram(None, None, None, lines)).encode())
+        for name in ("", *list(CRATE_LINES)[:1], *list(CRATE_LINES)[-1:]):
+            proved = ProvedProgram(None, None, None, omit_crate(name))
+            self.write("PROVED", format_proved(proved).encode())
             with unittest.mock.patch.object(dist, "find_built_program", lambda: program), \
                     self.subTest(f"without {name or 'nothing'}"):
                 if name:
