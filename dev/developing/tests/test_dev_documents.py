@@ -28,8 +28,8 @@ from ..definitions import Library
 from ..looks import find_browser
 from ..promises import find_unknown_clauses, list_index_rows, list_indexed_clauses
 from ..sizes import KINDS, count_lines, add_sizes
-from .bench import Case, import_script
-
+from .bench import Case, CompletedCall, get_example_path, import_script, read_example_file
+from .test_dev_layers import ORDER
 
 NAMES = ["*.md", "docs/*.md", "docs/manual/*.md", "examples/*.md"]
 LINK = re.compile(r"\]\(([^)\s]*)\)")
@@ -37,12 +37,14 @@ HEADING = re.compile(r"^#+ (.*)$", re.M)
 ANCHOR = re.compile(r'<a id="([^"]+)"></a>')
 BLOCK = re.compile(r"^```(\w*)\n(.*?)^```$", re.M | re.S)
 CODE = re.compile(r"`[^`\n]*`")
+PNG_SIGNATURE = b"\x89PNG\r\n\x1a\n"
 
 
 def list_document_texts() -> Iterator[tuple[str, str]]:
+    """Yield the path of each document, relative to the repository, and its text."""
     for form in NAMES:
         for path in sorted(glob.glob(os.path.join(TOP, form))):
-            yield path, read(path) or ""
+            yield os.path.relpath(path, TOP), read(path) or ""
 
 
 def list_anchors(text: str) -> set[str]:
@@ -52,75 +54,67 @@ def list_anchors(text: str) -> set[str]:
                                      for result in HEADING.findall(text))}
 
 
-def sources() -> str:
-    paths = [*glob.glob(os.path.join(TOP, "crates", "*", "specs", "**", "*.antt"), recursive=True),
-             *glob.glob(os.path.join(TOP, "crates", "*", "src", "**", "*.rt"), recursive=True)]
-    return "\n".join(read(path) or "" for path in sorted(paths))
-
-
 class AllDocuments(Case):
+    """The documents of NAMES."""
+
     def test_links_have_existing_targets(self) -> None:
         count = 0
         for path, text in list_document_texts():
             for target in LINK.findall(CODE.sub("", BLOCK.sub("", text))):
-                if ":" in target:
+                if ":" in target:  # the target is not in the repository
                     continue
                 count += 1
                 name, _, heading = target.partition("#")
-                there = os.path.join(os.path.dirname(path), name) if name else path
-                self.must(f"{os.path.relpath(path, TOP)}: {target}", os.path.exists(there) and (
+                there = os.path.join(TOP, os.path.dirname(path), name) if name else \
+                    os.path.join(TOP, path)
+                self.must(f"{path}: {target}", os.path.exists(there) and (
                     not heading or heading in list_anchors(read(there) or "")))
         self.must("links", count > 100, count)
 
-    def test_quoted_blocks_are_in_the_sources(self) -> None:
-        code, count = sources(), 0
-        for path, text in list_document_texts():
-            for kind, block in BLOCK.findall(text):
-                where = f"{os.path.relpath(path, TOP)}: {block[:60]!r}"
-                if kind == "antt":
-                    count += 1
-                    self.must(where, block in code)
-                elif kind == "diff":
-                    count += 1
-                    changed = re.search(r"^--- a/(.*)$", block, re.M)
-                    old = (read(os.path.join(TOP, changed[1])) if changed else None) or ""
-                    missing = re.findall(r"^-(?!-- )(.*)$", block, re.M)
-                    self.must(where, bool(missing) and all(
-                        old.count(line + "\n") == 1 for line in missing), missing)
-        self.must("blocks", count > 2, count)
+    def test_lines_that_a_quoted_difference_removes_are_once_in_its_file(self) -> None:
+        blocks = [(path, block) for path, text in list_document_texts()
+                  for kind, block in BLOCK.findall(text) if kind == "diff"]
+        self.must("blocks", len(blocks) > 2, blocks)
+        for path, block in blocks:
+            changed = re.search(r"^--- a/(.*)$", block, re.M)
+            old = read_document(changed[1]) if changed else ""
+            removed = re.findall(r"^-(?!-- )(.*)$", block, re.M)
+            self.must(f"{path}: {block[:60]!r}", removed and all(
+                old.count(line + "\n") == 1 for line in removed), removed)
+
+    def call_make_picture(self, *args: str) -> CompletedCall:
+        return self.tool("make-picture", "-p", self.bench.program, *args)
 
     def test_make_picture_detects_an_old_picture(self) -> None:
-        tool = [os.path.join(TOP, "dev", "make-picture"), "-p", self.bench.program]
-        result = self.write("old.png", b"\x89PNG\r\n\x1a\n")
-        process = self.call([*tool, "--compare", result])
-        self.must("an old one", process.status == 1 and b"is not of today's report" in process.out,
-                  process)
+        process = self.call_make_picture("--compare", self.write("old.png", PNG_SIGNATURE))
+        self.must("status, message", process.status == 1
+                  and b"is not of today's report" in process.out, process)
+
+    def test_make_picture_makes_a_picture_that_it_accepts(self) -> None:
         if not find_browser():
             self.skipTest("the picture of README, since there is no browser")
-        process = self.call([*tool, result])
-        self.must("made", process.status == 0, process)
-        with open(result, "rb") as file:
-            head = file.read(24)
-        self.must("PNG", head[:8] == b"\x89PNG\r\n\x1a\n"
-                  and struct.unpack(">II", head[16:]) == (1000, 800), head)
-        self.must("a new one", self.call([*tool, "--compare", result]).status == 0)
+        path = self.path("new.png")
+        self.check("made", self.call_make_picture(path).status, 0)
+        head = self.read("new.png")[:24]
+        self.check("signature, width, height", (head[:8], struct.unpack(">II", head[16:])),
+                   (PNG_SIGNATURE, (1000, 800)))
+        self.check("--compare", self.call_make_picture("--compare", path).status, 0)
 
 
 class GeneratedFiles(Case):
-    def test_generated_files_are_up_to_date(self) -> None:
+    def test_dev_make_pages_would_change_no_file(self) -> None:
         for name, text in pages.make_pages().items():
-            self.must(f"dev/make-pages: {name}", read(os.path.join(TOP, name)) == text)
+            self.must(name, read(os.path.join(TOP, name)) == text)
 
-    def test_the_table_has_each_option_of_the_program(self) -> None:
-        known = {option.name for option in pages.parse_options(read(os.path.join(TOP, pages.TABLE))
-                                                               or "")}
+    def test_the_table_of_options_has_the_options_of_the_program(self) -> None:
+        known = {option.name for option in pages.parse_options(read_document(pages.TABLE))}
         self.must("options", {"--page", "--within", "--pes", "--receiver"} < known, known)
 
 
 class GeneratedParts(unittest.TestCase):
     """Facts of the generator that none of the generated files shows."""
 
-    def test_requires_commands_in_the_usage_text(self) -> None:
+    def test_rejects_a_usage_text_without_commands(self) -> None:
         with self.assertRaises(Stop):
             pages.parse_commands("usage: none")
 
@@ -129,22 +123,24 @@ class GeneratedParts(unittest.TestCase):
             option, = pages.parse_options(f"| `--kind K` | `check` | {cell} | `a` |\n")
             self.assertEqual(option.list_choices(), values)
 
-    def test_inserts_generated_parts_between_markers(self) -> None:
-        text = "a\n# made: one\nold\n# end\nb\n# made: other\nkept\n# end\n"
-        self.assertEqual(pages.replace_parts(text, {"one": "new\n"}), text.replace("old", "new"))
+    TEXT = "a\n# made: one\nold\n# end\nb\n# made: other\nkept\n# end\n"
+
+    def test_replaces_the_text_between_the_markers_of_a_part(self) -> None:
+        self.assertEqual(pages.replace_parts(self.TEXT, {"one": "new\n"}),
+                         self.TEXT.replace("old", "new"))
+
+    def test_rejects_a_text_without_the_markers_of_a_part(self) -> None:
         with self.assertRaises(Stop):
-            pages.replace_parts(text, {"two": ""})
+            pages.replace_parts(self.TEXT, {"two": ""})
 
 
 # Folders whose scripts CONTRIBUTING.md lists, and the heading of each list.
 FOLDERS = [("tools", "Tools"), ("dev", "For developers of this repository")]
-PACKAGES = [*(os.path.join("tools", "subtitles", name)
-              for name in ("common", "formats", "request", "stream", "clock", "recording",
-                           "judging", "results", "report", "cli", "air", "reading")),
-            os.path.join("dev", "developing"), os.path.join("dev", "developing", "every_place")]
+PACKAGES = [*(f"tools/subtitles/{name}" for name in ORDER), "dev/developing",
+            "dev/developing/every_place"]
 SCRIPT = re.compile(r"`([a-z][\w.-]*/?)`")
 LINE = re.compile(r"^([a-z_]+) +\S", re.M)  # line of the module list in __init__.py
-# Words of each promise in the index of clauses, and the clauses that state it
+# Words of each promise in the index docs/CLAUSES.md, and the clauses that state it
 PROMISE_WORDS = [
     ("the main theorem](HEADLINE.md#in-one-law)", r"subttx/run_in_memory|sub_headline/.*"),
     ("accepts exactly the transmissions", r"sub_check/check_files\..*"),
@@ -174,54 +170,48 @@ PROMISE_WORDS = [
     ("opens only files", r"sub_files/open\..*|sub_answer/(open_and_answer\..*|law_of_files_.*)")]
 
 
-def list_folder_entries(folder: str) -> list[str]:
+def list_folder_entries(name: str) -> list[str]:
     """Return the names in a folder. Remove the extension of modules, and add a slash to folders."""
-    return sorted(name.removesuffix(".py") + "/" * os.path.isdir(os.path.join(folder, name))
-                  for name in os.listdir(folder) if not name.startswith("__"))
+    folder = os.path.join(TOP, name)
+    return sorted(entry.removesuffix(".py") + "/" * os.path.isdir(os.path.join(folder, entry))
+                  for entry in os.listdir(folder) if not entry.startswith("__"))
 
 
 class ModuleLists(Case):
+    """Lists of scripts, modules, clauses and crates in documents and docstrings."""
+
     def test_contributing_lists_all_scripts(self) -> None:
-        contributing = read(os.path.join(TOP, "CONTRIBUTING.md")) or ""
         for name, heading in FOLDERS:
-            section = contributing.partition(f"## {heading}\n")[2].partition("\n## ")[0]
-            rows = [row for row in SCRIPT.findall(section)
+            section = read_document("CONTRIBUTING.md").partition(f"## {heading}\n")[2]
+            rows = [row for row in SCRIPT.findall(section.partition("\n## ")[0])
                     if row[-1] != "/" or not os.path.exists(os.path.join(TOP, row))]
-            wanted = [entry for entry in list_folder_entries(os.path.join(TOP, name))
-                      if entry not in ("subtitles/", "developing/")]
-            self.must(name, sorted(rows) == sorted(wanted), set(rows) ^ set(wanted))
+            self.check(name, sorted(rows), [entry for entry in list_folder_entries(name)
+                                            if entry not in ("subtitles/", "developing/")])
 
     def test_the_tools_list_their_packages(self) -> None:
-        folder = os.path.join(TOP, "tools", "subtitles")
-        listed = (read(os.path.join(folder, "__init__.py")) or "").partition("To find")[0]
-        rows = re.findall(r"^([a-z]+)  +\S", listed, re.M)
-        wanted = [one.rstrip("/") for one in list_folder_entries(folder)]
-        self.must("packages", sorted(rows) == wanted, set(rows) ^ set(wanted))
+        listed, _, _ = read_document("tools/subtitles/__init__.py").partition("To find")
+        self.check("packages", sorted(re.findall(r"^([a-z]+)  +\S", listed, re.M)),
+                   [entry.rstrip("/") for entry in list_folder_entries("tools/subtitles")])
 
     def test_each_package_lists_its_modules(self) -> None:
         for name in PACKAGES:
-            folder = os.path.join(TOP, name)
-            rows = LINE.findall((read(os.path.join(folder, "__init__.py")) or "").split('"""')[1])
-            expected = [entry.rstrip("/") for entry in list_folder_entries(folder)
-                        if "." not in entry and "-" not in entry]
-            self.must(name, sorted(rows) == expected, set(rows) ^ set(expected))
+            _, docstring, *_ = read_document(f"{name}/__init__.py").split('"""')
+            self.check(name, sorted(LINE.findall(docstring)), [
+                entry.rstrip("/") for entry in list_folder_entries(name)
+                if "." not in entry and "-" not in entry])
 
-    def test_class_names_are_unique(self) -> None:
-        places = collections.defaultdict[str, list[str]](list)
-        for folder, _, names in os.walk(os.path.join(TOP, "tools", "subtitles")):
-            for name in names if not folder.endswith("__pycache__") else ():
-                text = read(os.path.join(folder, name)) or ""
-                for result in re.findall(r"^class (\w+)", text, re.M):
-                    places[result].append(name)
-        several = {name: files for name, files in places.items() if len(files) > 1}
-        self.must("names of classes", len(places) > 100 and not several, several)
+    def test_class_names_of_the_tools_are_unique(self) -> None:
+        names = [name for path in glob.glob(os.path.join(TOP, "tools", "subtitles", "*", "*.py"))
+                 for name in re.findall(r"^class (\w+)", read(path) or "", re.M)]
+        self.must("classes", len(names) > 100, names)
+        self.check("several", [name for name, count in collections.Counter(names).items()
+                               if count > 1], [])
 
-    def test_the_index_names_existing_clauses(self) -> None:
-        text = read(os.path.join(TOP, "docs", "CLAUSES.md")) or ""
-        unknown = find_unknown_clauses(text, Library(TOP))
-        self.must("docs/CLAUSES.md", not unknown, unknown)
-        self.must("rows", "sub_check/check_files.accepted" in list_indexed_clauses(text)
-                  and len(list_indexed_clauses(text)) > 60, len(list_indexed_clauses(text)))
+    def test_the_index_names_only_existing_clauses(self) -> None:
+        text = read_document("docs/CLAUSES.md")
+        self.check("unknown", find_unknown_clauses(text, Library(TOP)), [])
+        listed = list_indexed_clauses(text)
+        self.must("rows", "sub_check/check_files.accepted" in listed and len(listed) > 60, listed)
 
     def test_each_clause_is_in_the_row_of_its_promise(self) -> None:
         for promise, clauses in list_index_rows(read_document("docs/CLAUSES.md")):
@@ -229,25 +219,24 @@ class ModuleLists(Case):
                 words = [words for words, form in PROMISE_WORDS if re.fullmatch(form, clause)]
                 self.must(clause, any(item in promise for item in words), (words, promise))
 
-    def test_a_reading_list_describes_each_crate(self) -> None:
-        about = import_script("reading-list").read_first_paragraph
+    def test_a_reading_list_describes_each_crate_in_a_sentence(self) -> None:
+        read_first_paragraph = import_script("reading-list").read_first_paragraph
         for crate in Library(TOP).crates:
-            self.must(crate, about(crate).endswith("."), about(crate))
-        self.must("none", about("nowhere") == "")
+            text = read_first_paragraph(crate)
+            self.must(crate, text.endswith("."), text)
+        self.check("an unknown crate", read_first_paragraph("nowhere"), "")
 
-    def test_stated_sizes_are_right_to_a_tenth(self) -> None:
-        text = read(os.path.join(TOP, "docs", "ASSURANCE.md")) or ""
-        _, _, reported = text.partition("The crates contain ")
-        numbers = [int(item.replace(",", ""))
-                   for item in re.findall(r"\d+,\d+", reported)[:len(KINDS)]]
+    def test_stated_numbers_of_lines_are_right_to_a_tenth(self) -> None:
+        _, _, text = read_document("docs/ASSURANCE.md").partition("The crates contain ")
+        stated = [int(number.replace(",", "")) for number in re.findall(r"\d+,\d+", text)]
         counts = add_sizes(count_lines(TOP))
-        self.must("sizes", len(numbers) == len(KINDS) and all(
-            abs(number - counts[kind]) * 10 < counts[kind]
-            for number, kind in zip(numbers, KINDS)), (numbers, counts))
+        self.must("numbers", len(stated) >= len(KINDS), stated)
+        for kind, number in zip(KINDS, stated):
+            self.must(kind, abs(number - counts[kind]) * 10 < counts[kind], (number, counts[kind]))
 
 
 STORED_FILE = "dev/bodies-to-read.txt"
-# First lines of functions and impls in STORED_FILE. They make system calls that have no contract.
+# Beginnings of the functions and impls in STORED_FILE, which make system calls without a contract
 HELD = [
     "fn main(rt: HostRuntime)",
     "fn run_with_system(rt: &HostRuntime, closed_stream: LookupResult)",
@@ -316,18 +305,19 @@ OTHER_OPTIONS = {"--forked", "--now", "--sshloginfile", "--workdir", "--joblog",
 
 
 class StatedFacts(Case):
+    """Tables and sentences of documents, which are compared with values of the tools."""
+
     def test_documents_state_the_values_of_the_tools(self) -> None:
         for name, words, value in STATED:
             text = " ".join(read_document(os.path.normpath(f"docs/{name}")).split())
-            stated = words.format(value)
-            self.check(f"docs/{name} states: {stated}", stated in text, True)
+            self.must(f"docs/{name} states: {words.format(value)}", words.format(value) in text)
 
     def test_a_fault_has_the_same_fields_in_the_manual_and_in_its_sentence(self) -> None:
         for number, row in read_meanings().items():
             if clause := FAULT_CLAUSES.get(number):
                 self.check(f"{number}", {*FIELD.findall(row.meaning)}, {*FIELD.findall(clause)})
 
-    def test_tables_have_each_status(self) -> None:
+    def test_tables_have_each_verdict_and_kind_of_error_with_its_status(self) -> None:
         kinds = {kind: STATUSES_BY_KIND.get(kind, OTHER_STATUS) for kind in KIND_NAMES}
         tables: dict[str, tuple[str, str, dict[str, int]]] = {
             "verdicts of qc": ("qc", r"^\| `([a-z ]+)` \|.*\| (\d)[^|]*\|$", STATUSES),
@@ -337,33 +327,42 @@ class StatedFacts(Case):
             rows = re.findall(pattern, read_document(f"docs/manual/{page}.md"), re.M)
             self.check(name, {word: int(status) for word, status in rows}, statuses)
 
-    def test_each_fault_has_a_row_with_its_anchor(self) -> None:
-        rows = re.findall(r'^\| (\d+) \| <a id="n(\d+)"></a>',
+    def test_the_table_of_refusals_has_each_fault(self) -> None:
+        self.check("numbers", sorted(map(int, self.list_fault_rows())),
+                   sorted(FAULT_NUMBERS - {3, 4}))
+
+    @staticmethod
+    def list_fault_rows() -> list[str]:
+        """Return the numbers of the rows of faults in files, which begin with an anchor."""
+        return re.findall(r'^\| (\d+) \| <a id="n\d+"></a>',
                           read_document("docs/manual/refusals.md"), re.M)
-        for number, anchor in rows:
-            self.check(f"fault {number}", anchor, number)
-        numbers = {int(number) for number, _ in rows}
-        self.check("numbers", sorted(numbers), sorted(FAULT_NUMBERS - {3, 4}))
+
+    def test_the_anchor_of_a_fault_has_its_number(self) -> None:
         text = read_document("docs/manual/refusals.md")
-        for anchor, number in re.findall(r'<a id="n(\d+)"></a>(\d+)', text):
-            self.check(f"fault {number}", anchor, number)
-        arguments = {int(number) for number in re.findall(
-            r'<a id="n(\d+)">', text.partition("## Arguments")[2].partition("\n## ")[0])}
+        pairs = [*re.findall(r'^\| (\d+) \| <a id="n(\d+)"></a>', text, re.M),
+                 *re.findall(r'<a id="n(\d+)"></a>(\d+)', text)]
+        self.check("different", [pair for pair in pairs if pair[0] != pair[1]], [])
+        self.must("anchors", len(pairs) > len(FAULT_NUMBERS), pairs)
+
+    def test_the_man_page_lists_each_fault(self) -> None:
+        text = read_document("docs/manual/refusals.md")
+        arguments = re.findall(
+            r'<a id="n(\d+)">', text.partition("## Arguments")[2].partition("\n## ")[0])
         page = read_document("docs/subttx.1").partition("what to do about it:")[2]
         groups = re.findall(r"^(\d[\d, to]*) [A-Z]", page.partition('.SH "EXIT')[0], re.M)
-        listed = [item for group in groups for item in group.split(", ")]
-        self.check("the man page", sorted(number for item in listed for number in range(
-            int(item.split(" to ")[0]), int(item.split(" to ")[-1]) + 1)), sorted(
-                {*numbers, *arguments, 3, 4, 26, 29, 41, 42, 58, 90, 91}))
+        ranges = [item.split(" to ") for group in groups for item in group.split(", ")]
+        self.check("numbers", sorted(number for first, *last in ranges for number in range(
+            int(first), int((last or [first])[0]) + 1)), sorted({
+                *map(int, self.list_fault_rows() + arguments), 3, 4, 26, 29, 41, 42, 58, 90, 91}))
 
-    def test_the_alarm_file_waives_the_faults_that_can_wait(self) -> None:
+    def test_the_alarm_file_of_the_manual_waives_the_faults_marked_as_next(self) -> None:
         listed = re.findall(r"`(\d+) warning`", read_document("docs/MANUAL.md").partition(
             "into the file `alarm`")[2].partition("\n\n")[0])
         waiting = re.findall(r'^\| (\d+) \| <a id="n\d+"></a>next:',
                              read_document("docs/manual/refusals.md"), re.M)
         self.check("faults", listed, waiting)
 
-    def test_the_table_of_national_options_is_right(self) -> None:
+    def test_the_manual_has_the_region_bits_and_characters_of_each_national_option(self) -> None:
         rows = re.findall(r"^\| `(\w+)` \| (\d{4}) \| (\d{3}) \| [^|]+ \| ([^|]+) \|$",
                           read_document("docs/manual/subtitle-files.md"), re.M)
         self.check("options", [row[0] for row in rows], [*OPTION_WORDS])
@@ -374,7 +373,7 @@ class StatedFacts(Case):
                                                   in enumerate(bits)), shown.replace(" ", "")),
                        (option.region, option.bits, sent))
 
-    def test_readme_lists_languages_as_the_table_does(self) -> None:
+    def test_readme_lists_languages_by_whether_the_manual_misses_letters_of_them(self) -> None:
         rows = re.findall(r"^\| ([A-Z][^|]+) \| (?:`[^|]+`|the one[^|]+|none) \| ([^|]+) \|$",
                           read_document("docs/manual/subtitle-files.md"), re.M)
         complete = {name: letters == "none" for names, letters in rows
@@ -386,7 +385,7 @@ class StatedFacts(Case):
             for name in re.split(", | and ", names):
                 self.check(name, complete.get(name), expected)
 
-    def test_the_chapter_names_each_alarm(self) -> None:
+    def test_the_manual_of_air_lists_each_alarm(self) -> None:
         monitor = Monitor()
         monitor.now, monitor.free, monitor.headers = 1e9, {"results": 0}, {(0, 0x88): 0.0}
         monitor.late, monitor.schedule_faults, monitor.is_clock_wrong = ["one"], ["line 1"], True
@@ -395,7 +394,7 @@ class StatedFacts(Case):
         self.check("alarms", sorted(re.findall("^  - `([a-z][a-z 8]*)`:", item, re.M)),
                    sorted(monitor.find_alarms()))
 
-    def test_each_mentioned_option_exists(self) -> None:
+    def test_each_option_in_a_document_is_in_a_tool_or_source(self) -> None:
         forms = ("tools/*", "dev/*", "bench/*", "tools/subtitles/*/*.py", "crates/*/src/*.rt")
         known = {*OTHER_OPTIONS}
         for path in (path for form in forms for path in glob.glob(os.path.join(TOP, form))):
@@ -406,7 +405,7 @@ class StatedFacts(Case):
             if not path.endswith("CHANGELOG.md"):
                 quoted = "\n".join(CODE.findall(BLOCK.sub("", text)))
                 unknown = {*OPTION_NAME.findall(quoted)} - known
-                self.check(os.path.relpath(path, TOP), unknown, set())
+                self.check(path, unknown, set())
 
 
 FACTS = os.path.join(TOP, "dev", "vectors", "facts")  # a table for each document
@@ -418,7 +417,7 @@ def read_words(name: str) -> str:
 
 
 def find_most_similar(words: str, text: str) -> str:
-    """Return `words` if the text has them, otherwise those of its words that are most like them."""
+    """Return `words` if the text contains them, otherwise the part of the text most like them."""
     if words in text:
         return words
     common = difflib.SequenceMatcher(None, text, words, autojunk=False).find_longest_match(
@@ -428,9 +427,10 @@ def find_most_similar(words: str, text: str) -> str:
 
 
 class SourcesOfFacts(Case):
-    """Each row has words of a document, a file, and the words of that file that make them true."""
+    """The tables in FACTS. A row has words of a document, a file, and the words of that file that
+    make them true."""
 
-    def test_documents_state_what_the_sources_say(self) -> None:
+    def test_the_document_and_the_file_of_each_row_have_its_words(self) -> None:
         for path in sorted(glob.glob(os.path.join(FACTS, "**", "*.tsv"), recursive=True)):
             document = os.path.relpath(path, FACTS).removesuffix("tsv") + "md"
             for number, row in enumerate(read_document(path).splitlines(), 1):
@@ -445,22 +445,22 @@ class SourcesOfFacts(Case):
 
 
 class Examples(Case):
-    def test_what_the_script_of_the_manual_keeps_has_the_same_verdict(self) -> None:
-        manual = read(os.path.join(TOP, "docs", "MANUAL.md")) or ""
-        script = next(text for language, text in BLOCK.findall(manual) if language == "python")
-        examples = os.path.join(TOP, "examples")
-        recording = os.path.join(examples, "recording.ts")
-        with open(recording, "rb") as file:
-            kept = subprocess.run([sys.executable, "-c", script, "0", "0x100", "0x101"],
-                                  input=file.read(), stdout=subprocess.PIPE, check=True).stdout
-        verdicts = [self.tool("qc", os.path.join(examples, "story.stl"), path, "--origin",
+    """A script and a file that the manual shows."""
+
+    def test_a_recording_that_the_script_of_the_manual_shortens_has_the_same_verdict(self) -> None:
+        script = next(text for language, text in BLOCK.findall(read_document("docs/MANUAL.md"))
+                      if language == "python")
+        kept = subprocess.run([sys.executable, "-c", script, "0", "0x100", "0x101"],
+                              input=read_example_file("recording.ts"), stdout=subprocess.PIPE,
+                              check=True).stdout
+        verdicts = [self.tool("qc", get_example_path("story.stl"), path, "--origin",
                               "5000000000", "-p", self.bench.program).out.splitlines()[-1:]
-                    for path in (recording, self.write("kept.ts", kept))]
-        self.check("bytes", 0 < len(kept) <= os.path.getsize(recording), True)
+                    for path in (get_example_path("recording.ts"), self.write("kept.ts", kept))]
+        self.must("bytes", 0 < len(kept) <= len(read_example_file("recording.ts")), len(kept))
         self.check("verdict", verdicts[1], verdicts[0])
 
     def test_the_severity_file_of_the_manual_is_valid(self) -> None:
-        manual = read(os.path.join(TOP, "docs", "manual", "qc.md")) or ""
+        manual = read_document("docs/manual/qc.md")
         text = next(text for _, text in BLOCK.findall(manual.partition("**A severity file**")[2]))
         result = Severity(self.write("severity", text.encode()))
         rules = [line.partition("#")[0].split() for line in text.splitlines()]
@@ -478,25 +478,20 @@ def read_document(name: str) -> str:
         return file.read()
 
 
-def list_source_paths() -> list[str]:
-    crates = os.path.join(TOP, "crates")
-    return [os.path.relpath(os.path.join(place, name), TOP)
-            for crate in sorted(os.listdir(crates))
-            for place, _, names in os.walk(os.path.join(crates, crate, "src"))
-            for name in sorted(names) if name.endswith(".rt")]
-
-
 def implements_drop(text: str) -> bool:
     return DROP.search(COMMENT.sub(" ", text)) is not None
 
 
 class ReadBodies(unittest.TestCase):
-    def test_reviewed_function_bodies_are_unchanged(self) -> None:
-        parts = read_document(STORED_FILE).split("\n== ")[1:]
-        bodies = [part.partition("\n")[2] for part in parts]
+    """The functions and impls in STORED_FILE, which were reviewed by hand."""
+
+    def test_each_function_without_a_contract_is_stored(self) -> None:
+        bodies = [part.partition("\n")[2] for part in read_document(STORED_FILE).split("\n== ")[1:]]
         self.assertEqual([next((head for head in HELD if body.startswith(f"{head} ")), body)
                           for body in bodies], HELD)
-        for part in parts:
+
+    def test_reviewed_function_bodies_are_unchanged(self) -> None:
+        for part in read_document(STORED_FILE).split("\n== ")[1:]:
             name, _, body = part.partition("\n")
             with self.subTest(body.partition("\n")[0]):
                 code = "\n".join(line for line in read_document(name).split("\n")
@@ -505,23 +500,22 @@ class ReadBodies(unittest.TestCase):
                               f"read the change of {name}, and store it in {STORED_FILE}")
 
     def test_no_crate_implements_drop(self) -> None:
-        for name in list_source_paths():
-            with self.subTest(name):
-                self.assertFalse(implements_drop(read_document(name)))
+        paths = glob.glob(os.path.join(TOP, "crates", "*", "src", "**", "*.rt"), recursive=True)
+        self.assertGreater(len(paths), 100)
+        self.assertEqual([path for path in paths if implements_drop(read(path) or "")], [])
 
     def test_finds_an_implementation_of_drop(self) -> None:
-        rows = [
-            ("impl Drop for Line {}", True),
-            ("    impl<K: Sink> Drop for Line<K> {}", True),
-            ("impl<'a, K>\n    Drop\n    for Line<'a, K>\nwhere\n    K: Sink,\n{}", True),
-            ("mod inner { impl std::ops::Drop for Line {} }", True),
-            ("impl /* one */ Drop /* two */ for Line {}", True),
-            ("use std::ops::Drop as End;", True),
-            ("impl<T: Drop> Release for T {}", False),
-            ("#[derive(Drop)]\npub struct Line;", False),
-            ("// impl Drop for Line {}", False),
-            ("impl Line {}\n// A Drop for each.\n", False),
-        ]
-        for text, is_found in rows:
+        rows = {
+            "impl Drop for Line {}": True,
+            "    impl<K: Sink> Drop for Line<K> {}": True,
+            "impl<'a, K>\n    Drop\n    for Line<'a, K>\nwhere\n    K: Sink,\n{}": True,
+            "mod inner { impl std::ops::Drop for Line {} }": True,
+            "impl /* one */ Drop /* two */ for Line {}": True,
+            "use std::ops::Drop as End;": True,
+            "impl<T: Drop> Release for T {}": False,
+            "#[derive(Drop)]\npub struct Line;": False,
+            "// impl Drop for Line {}": False,
+            "impl Line {}\n// A Drop for each.\n": False}
+        for text, is_found in rows.items():
             with self.subTest(text):
                 self.assertEqual(implements_drop(text), is_found)
