@@ -267,10 +267,3 @@ class Calls(Feeds):
             with hold_lock(self.path(folder), name, ""):
                 process = self.tool(*line.split())
             self.must(line, process.status == 2 and ": another " in process.told[0], process)
-
-    def test_keeps_the_lock_that_another_call_holds_in_a_new_folder(self) -> None:
-        with hold_lock(self.path("new"), "state", ""):
-            name, = os.listdir(self.path("new"))
-            os.unlink(self.path(f"new/{name}"))
-            self.write(f"new/{name}", b"")  # by another call
-        self.check("locks", os.listdir(self.path("new")), [name])

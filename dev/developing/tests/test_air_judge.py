@@ -193,10 +193,6 @@ class JudgedProgrammes(AirCase):
         self.run_judge(checker, until=3000)
         self.check("verdict after the last failure", self.verdicts(), {NAME: "relative"})
 
-    def test_a_programme_that_is_not_judged_in_time_is_late(self) -> None:
-        judge = self.run_judge(FakeChecker(NEVER_SENT, lambda _: FAILURE), until=1500)
-        self.check("results, late", (self.verdicts(), judge.monitor.late), ({}, [NAME]))
-
     def test_reports_a_system_failure_once_the_segments_are_deleted(self) -> None:
         judge = self.run_judge(FakeChecker(NEVER_SENT, lambda _: FAILURE), until=1500)
         self.delete_all("segments")

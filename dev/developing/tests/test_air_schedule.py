@@ -13,6 +13,8 @@ from .air import AirCase, DAY, OLD_MTIME
 
 NO_TIME = "is not an air time: begin the line with a date and a time that ends in Z or an " \
     "offset, as `2026-11-29T20:15:00Z news.stl`"
+PLACE_OPTION = "line 1: --start and --pes depend on where the programme is in the segments, " \
+    "which is not known: remove them"
 
 # A line of a schedule; and the name of its result, its begin and its end in seconds after DAY
 # (2026-12-01T08:00:00Z), or else its error message.
@@ -41,12 +43,8 @@ LINES = {
                      "time, then the subtitle file"),
     "a wrong option": ("2026-12-01T08:00:00Z news.stl --colour",
                        "line 1: unrecognized arguments: --colour"),
-    "a place in a recording": ("2026-12-01T08:00:00Z news.stl --start 10:00:00:00",
-                               "line 1: --start and --pes depend on where the programme is in the "
-                               "segments, which is not known: remove them"),
-    "PES packets of a recording": ("2026-12-01T08:00:00Z news.stl --pes 0-9",
-                                   "line 1: --start and --pes depend on where the programme is in "
-                                   "the segments, which is not known: remove them"),
+    "a place in a recording": ("2026-12-01T08:00:00Z news.stl --start 10:00:00:00", PLACE_OPTION),
+    "PES packets of a recording": ("2026-12-01T08:00:00Z news.stl --pes 0-9", PLACE_OPTION),
     "a quote": ("2026-12-01T08:00:00Z 'news.stl", "line 1: a quote is not closed"),
 }
 # Air times in nights in which the clocks in Berlin change, and the names of their results, in UTC
@@ -121,11 +119,6 @@ class Lines(AirCase):
                 f"line {number} is not judged: its result would be named 20261201T080000Z-a, as "
                 "that of line 2" for number, _ in enumerate(frames[1:], 3)])
 
-    def test_finds_files_in_the_folder_of_the_schedule(self) -> None:
-        self.write_schedule("2026-12-01T08:00:00Z a.stl")
-        item, = self.read_schedule().programmes
-        self.check("its subtitle file", item.request.stl, self.path("a.stl"))
-
     def test_does_not_read_an_unchanged_schedule_again(self) -> None:
         self.write_schedule("2026-12-01T08:00:00Z a.stl")
         first = self.read_schedule()
@@ -162,9 +155,6 @@ class Lengths(AirCase):
         self.write("one.stl", b"no subtitle file" * 99)
         delivery = self.read_delivery()
         self.check("length", (delivery.fault, delivery.content.length), ("", 0.0))
-
-    def test_waits_for_a_missing_file(self) -> None:
-        self.check("fault", self.read_delivery().fault, f"{self.path('one.stl')} does not exist")
 
     def test_waits_for_all_blocks_of_a_file(self) -> None:
         data = self.write_stl((0, 250), (500, 1000))

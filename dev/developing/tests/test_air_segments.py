@@ -124,9 +124,10 @@ JUMP_CASES = {
     "set ahead by more than what is given": ("-10..0:-10 5000..5010:0", "+5000 at 5000"),
 }
 
-# Times in seconds, and offsets in a segment of 100 bytes that lasts from 10 to 20 seconds
-OFFSETS = {"before it": (5, 0), "its beginning": (10, 0), "a tenth": (11, 10), "half": (15, 50),
-           "its end": (20, 100), "after it": (99, 100)}
+# The begin and the end of a segment of 100 bytes, a time in seconds, and its offset in bytes
+OFFSETS = {"before it": (10, 20, 5, 0), "its beginning": (10, 20, 10, 0),
+           "a tenth": (10, 20, 11, 10), "half": (10, 20, 15, 50), "its end": (10, 20, 20, 100),
+           "after it": (10, 20, 99, 100), "without duration": (10, 10, 10.5, 100)}
 CHANCE = random.Random(3)
 RANDOM_TIMES = [round(CHANCE.uniform(0, 4e9), 3) for _ in range(500)]
 
@@ -217,11 +218,8 @@ class Segments(AirCase):
             self.check("segments", len(find_segments(self.path("segments"), DAY, DAY + 30)), 2)
 
     def test_converts_a_time_to_an_offset_in_a_segment(self) -> None:
-        self.check_rows(Segment("", size=100, begin=10, end=20).find_offset, {
-            name: ((time,), offset) for name, (time, offset) in OFFSETS.items()})
-
-    def test_all_bytes_of_a_segment_without_duration_are_at_its_begin(self) -> None:
-        self.check("offset", Segment("", size=100, begin=10, end=10).find_offset(10.5), 100)
+        for name, (begin, end, time, offset) in OFFSETS.items():
+            self.check(name, Segment("", 100, begin, end).find_offset(time), offset)
 
     def put_run(self) -> UnbrokenRun:
         """Put segments from 0 to 30, in which each second has one byte with its number."""

@@ -9,7 +9,7 @@ import subprocess
 import time
 from typing import Iterable
 
-from subtitles.common.program import TOP, resolve_script, read
+from subtitles.common.program import TOP, copy, read, resolve_script, write
 from ..compiled import share_compiled
 from ..proved import ProvedProgram, compute_digest, parse_proved, format_proved
 from ..trial import ANOTHER_USER, Trial
@@ -65,23 +65,21 @@ class Clone:
 
     def put(self, folder: str, program: str, line: str = LINE) -> None:
         """Copy a program to a folder, and write PROVED with the digests of the current sources."""
-        os.makedirs(self.path(folder), exist_ok=True)
-        shutil.copy(program, self.path(folder, "subttx"))
-        os.chmod(self.path(folder, "subttx"), 0o755)
+        copy(program, self.path(folder, "subttx"), 0o755)
         crates = {name: (digest, line) for name, digest in self.crates.items()}
         self.write(os.path.join(folder, "PROVED"), format_proved(
             ProvedProgram(self.tool("sources")[0], compute_digest(program), VERSION, crates)))
 
     def write(self, name: str, text: str) -> None:
-        os.makedirs(os.path.dirname(self.path(name)), exist_ok=True)
-        with open(self.path(name), "w", encoding="utf-8") as file:
-            file.write(text)
+        write(self.path(name), text)
+
+    def add_comment(self, name: str = SOURCE) -> None:
+        """Change a source, so that dist/ has the program of other sources."""
+        self.write(name, (read(self.path(name)) or "") + "// changed\n")
 
     def build(self) -> None:
         """Copy the program to the place at which the toolchain builds it."""
-        folder = self.path("crates", "subttx", "out")
-        os.makedirs(folder)
-        shutil.copy(self.case.bench.program, os.path.join(folder, "subttx"))
+        copy(self.case.bench.program, self.path("crates", "subttx", "out", "subttx"), 0o755)
 
     def write_command(self, name: str, text: str) -> None:
         """Write a script to the folder that contains `rt`."""
@@ -95,11 +93,7 @@ class Clone:
 
     def call(self, command: list[str], path: str, user: int | None = None) -> CompletedCall:
         """Run a command with a value of PATH."""
-        process = subprocess.run(command, cwd=self.case.folder, env={**os.environ, "PATH": path},
-                                 user=user, stdin=subprocess.DEVNULL, stdout=subprocess.PIPE,
-                                 stderr=subprocess.PIPE, timeout=SECONDS, check=False)
-        return CompletedCall(process.returncode, process.stdout,
-                             process.stderr.decode().splitlines())
+        return self.case.call(command, env={**os.environ, "PATH": path}, user=user)
 
     def run(self, *args: str, script: str | None = None, user: int | None = None) -> CompletedCall:
         """Run ./subttx without an `rt` command on the PATH."""
@@ -147,11 +141,6 @@ class Clones(Case):
     def setUp(self) -> None:
         super().setUp()
         self.clone = Clone(self)
-
-    def add_to_source(self) -> None:
-        """Change a source, so that dist/ has the program of other sources."""
-        with open(self.clone.path(SOURCE), "a", encoding="utf-8") as file:
-            file.write("// changed\n")
 
     def check_usage_fault(self, *args: str) -> None:
         """Check that ./subttx rejects its arguments, with one message."""
@@ -231,7 +220,7 @@ class Clones(Case):
         self.clone.check_failure("another name", "dist/subttx was built from other sources")
 
     def test_runs_the_program_of_changed_sources_once_it_is_in_dist(self) -> None:
-        self.add_to_source()
+        self.clone.add_comment()
         self.clone.put("dist", self.bench.program)
         self.clone.check_runs("changed sources")
 
@@ -266,7 +255,7 @@ class Clones(Case):
         self.clone.write("other", f"#!/bin/sh\n[ $2 = 00 ] && exec echo built\ncat {stored}\n")
         self.clone.put("out", self.clone.path("other"))
         self.check("out/", self.clone.run(*PACKET), CompletedCall(0, b"built\n", []))
-        self.add_to_source()
+        self.clone.add_comment()
         self.clone.put("dist", self.bench.program)
         self.clone.check_runs("dist/, where out/ is older")
 
@@ -306,7 +295,7 @@ class Clones(Case):
 
     def test_release_keeps_lines_of_unchanged_sources(self) -> None:
         self.clone.build()
-        self.add_to_source()
+        self.clone.add_comment()
         self.note_log(kept=self.clone.crates)
         self.clone.release("--keep")
         reported = parse_proved(read(self.clone.path("out", "PROVED"))).crates
@@ -422,8 +411,7 @@ class ProvingClones(Case):
         clone = BareClone(self)
         self.check("all at first", sorted(clone.prove()), sorted(clone.crates))
         self.check("then none", clone.prove(), [])
-        path = os.path.join("crates", "sub_check", "src", "lib.rt")
-        clone.write(path, (read(clone.path(path)) or "") + "// changed\n")
+        clone.add_comment(os.path.join("crates", "sub_check", "src", "lib.rt"))
         self.check("after a change", clone.prove(), [
             "sub_check", "sub_answer", "sub_headline", "subttx"])
         self.check("all with --anew", sorted(clone.prove("--anew")), sorted(clone.crates))

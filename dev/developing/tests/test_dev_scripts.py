@@ -29,26 +29,25 @@ STAGES = {"dev/edits": "1 passed, 0 failed", "dev/graph": "20 passed, 0 failed",
           "dev/release": "50000 passed, 0 failed"}
 ALL_PASSED = "54321 passed, 0 failed"
 
-# What a stage prints as its last line, and its status, if they differ from STAGES; the last line of
-# the gate, its status, and the stages that run. The first three stages stop the gate if they fail.
-GATE_CASES: dict[str, tuple[dict[str, tuple[str, int]], str, int, list[str]]] = {
-    "all stages pass": ({}, ALL_PASSED, 0, list(STAGES)),
-    "the edits fail": ({"dev/edits": ("1 passed, 2 failed", 1)}, "321 passed, 2 failed", 1,
-                       ["dev/edits", "dev/graph", "rt"]),
-    "the proof fails": ({"rt": ("299 passed, 1 failed", 1)}, "320 passed, 1 failed", 1,
-                        ["dev/edits", "dev/graph", "rt"]),
-    "the tests fail": ({"tools/check-program": ("3999 passed, 1 failed", 1)},
-                       "54320 passed, 1 failed", 1, list(STAGES)),
-    "dist/ holds another program": ({"dev/release": ("0 passed, 1 failed", 1)},
-                                    "4321 passed, 1 failed", 1, list(STAGES)),
-    "status 1 with no failure": ({"tools/check-program": ("4000 passed, 0 failed", 1)},
-                                 "54321 passed, 1 failed", 1, list(STAGES)),
-    "status 0 with a failure": ({"tools/check-program": ("3999 passed, 1 failed", 0)},
-                                "54320 passed, 1 failed", 1, list(STAGES)),
-    "no counts": ({"tools/check-program": ("killed", 0)}, "50321 passed, 1 failed", 1,
-                  list(STAGES)),
-    "counts within a line": ({"rt": ("of 300 passed, 0 failed", 0)}, "21 passed, 1 failed", 1,
-                             ["dev/edits", "dev/graph", "rt"]),
+FIRST_STAGES, ALL_STAGES = list(STAGES)[:3], list(STAGES)  # the first stop the gate if they fail
+
+# The stage that differs from STAGES, its last line and its status; the last line of the gate, whose
+# status is 1 if anything failed; and the stages that run
+GATE_CASES: dict[str, tuple[str, str, int, str, list[str]]] = {
+    "all stages pass": ("rt", STAGES["rt"], 0, ALL_PASSED, ALL_STAGES),
+    "the edits fail": ("dev/edits", "1 passed, 2 failed", 1, "321 passed, 2 failed", FIRST_STAGES),
+    "the proof fails": ("rt", "299 passed, 1 failed", 1, "320 passed, 1 failed", FIRST_STAGES),
+    "the tests fail": ("tools/check-program", "3999 passed, 1 failed", 1, "54320 passed, 1 failed",
+                       ALL_STAGES),
+    "dist/ holds another program": ("dev/release", "0 passed, 1 failed", 1, "4321 passed, 1 failed",
+                                    ALL_STAGES),
+    "status 1 with no failure": ("tools/check-program", STAGES["tools/check-program"], 1,
+                                 "54321 passed, 1 failed", ALL_STAGES),
+    "status 0 with a failure": ("tools/check-program", "3999 passed, 1 failed", 0,
+                                "54320 passed, 1 failed", ALL_STAGES),
+    "no counts": ("tools/check-program", "killed", 0, "50321 passed, 1 failed", ALL_STAGES),
+    "counts within a line": ("rt", "of 300 passed, 0 failed", 0, "21 passed, 1 failed",
+                             FIRST_STAGES),
 }
 
 
@@ -65,13 +64,14 @@ class Gate(Case):
     """A copy of .ci/run, whose stages are scripts that only print what STAGES or a row says."""
 
     def test_adds_the_counts_of_its_stages_and_stops_if_one_of_the_first_three_fails(self) -> None:
-        for name, (changes, last, status, expected_stages) in GATE_CASES.items():
+        for name, (changed, line, status, last, expected_stages) in GATE_CASES.items():
             folder = name.replace(" ", "-").replace("/", "")
             for part in (".ci", "bin", "dev", "tools"):
                 os.makedirs(self.path(f"{folder}/{part}"))
             shutil.copy(GATE, self.path(f"{folder}/.ci/run"))
-            for stage, line in STAGES.items():
-                text = make_stage(stage, *changes.get(stage, (line, 0)))
+            for stage, usual_line in STAGES.items():
+                text = make_stage(stage, line, status) if stage == changed else \
+                    make_stage(stage, usual_line, 0)
                 self.write_program(f"{folder}/{stage if '/' in stage else f'bin/{stage}'}", text)
             self.write_program(f"{folder}/tools/sources", "#!/bin/sh\necho sum\n")
             env = {**os.environ, "PATH": f"{self.path(folder)}/bin:{os.environ['PATH']}",
@@ -79,7 +79,7 @@ class Gate(Case):
             env.pop("CI", None)
             process = self.call(["bash", self.path(f"{folder}/.ci/run")], env=env)
             self.check(f"{name}: last line", process.out.decode().splitlines()[-1], last)
-            self.check(f"{name}: status", process.status, status)
+            self.check(f"{name}: status", process.status, int(last != ALL_PASSED))
             self.check(f"{name}: stages", self.read(f"{folder}/stages").decode().split(),
                        expected_stages)
 
@@ -317,13 +317,12 @@ class ReleasedArchives(Case):
     def test_needs_the_prover_line_of_each_crate(self) -> None:
         dist = import_script("dist")
         program = self.write_program("subttx", "")
-        for name in ("", *list(CRATE_LINES)[:1], *list(CRATE_LINES)[-1:]):
-            proved = ProvedProgram(None, None, None, omit_crate(name))
-            self.write("PROVED", format_proved(proved).encode())
-            with unittest.mock.patch.object(dist, "find_built_program", lambda: program), \
-                    self.subTest(f"without {name or 'nothing'}"):
-                if name:
-                    self.assertRaisesRegex(Stop, "has no line of each crate",
-                                           dist.find_proved_program)
-                else:
-                    self.assertEqual(dist.find_proved_program()[0], program)
+        with unittest.mock.patch.object(dist, "find_built_program", lambda: program):
+            self.write_proved(CRATE_LINES)
+            self.check("all crates", dist.find_proved_program()[0], program)
+            self.write_proved(omit_crate(list(CRATE_LINES)[-1]))
+            self.assertRaisesRegex(Stop, "has no line of each crate", dist.find_proved_program)
+
+    def write_proved(self, crates: Crates) -> None:
+        proved = ProvedProgram(None, None, None, crates)
+        self.write("PROVED", format_proved(proved).encode())
