@@ -140,34 +140,6 @@ PACKAGES = [*(f"tools/subtitles/{name}" for name in ORDER), "dev/developing",
             "dev/developing/every_place"]
 SCRIPT = re.compile(r"`([a-z][\w.-]*/?)`")
 LINE = re.compile(r"^([a-z_]+) +\S", re.M)  # line of the module list in __init__.py
-# Words of each promise in the index docs/CLAUSES.md, and the clauses that state it
-PROMISE_WORDS = [
-    ("the main theorem](HEADLINE.md#in-one-law)", r"subttx/run_in_memory|sub_headline/.*"),
-    ("accepts exactly the transmissions", r"sub_check/check_files\..*"),
-    ("`IsSufficient`", r"sub_laws/law_of_(good|sufficient_parts)"),
-    ("alone can make receivers show", r"sub_examples/.*"),
-    ("the output of `schedule`", r"sub_laws/law_of_(complete_)?plan.*"),
-    ("reports all faults and no others",
-     r"sub_check/check(_all\.(reported|begins)|\..*)|sub_laws/law_of_first_reported"),
-    ("positions at which rules are broken", r"sub_laws/law_of_broken_places"),
-    ("all trusted frames", r"sub_check/check_all\.trusted|sub_trusted/.*"),
-    ("as `Answers` defines", r"sub_answer/answer\..*"),
-    ("as a multiplexer sent them", r"mpeg_ts/.*|recording_laws/law_of_multiplex"),
-    ("each PES packet that arrives", r"recording_laws/law_of_(losses|neighbours)"),
-    ("lacks no PES packet", r"recording_laws/law_of_(complete_file|pace.*)"),
-    ("the loop of `survey`", r"ts_survey/(take.*|law_of_.*)"),
-    ("no write failed", r"ts_survey/survey\.(ended|grows)|sub_answer/print_survey\..*"),
-    ("The last line, `over`", r"ts_survey/survey\.listed"),
-    ("two different lists", r"(stl_file|ttx_pes)/law_of_one_.*"),
-    ("faults in a subtitle file", r"stl_rows/.*|stl_file/next\..*"),
-    ("written and read again", r"ttx_pes/((next|put)\..*|law_of_re.*)"),
-    ("EN 300 706", r"ttx_packet/.*"),
-    ("A device receives the bytes", r"sub_io/put_all\..*"),
-    ("The call of `run`", r"subttx/run|sub_answer/flush_pending"),
-    ("`written` is printed", r"sub_listing/.*|sub_(io|files)/store\..*"),
-    ("no byte is left in a buffer", r"sub_answer/answer_and_flush\..*|sub_io/close\..*"),
-    ("An output is created only", r"sub_files/open\..*"),
-    ("opens only files", r"sub_files/open\..*|sub_answer/(open_and_answer\..*|law_of_files_.*)")]
 
 
 def list_folder_entries(name: str) -> list[str]:
@@ -213,11 +185,11 @@ class ModuleLists(Case):
         listed = list_indexed_clauses(text)
         self.must("rows", "sub_check/check_files.accepted" in listed and len(listed) > 60, listed)
 
-    def test_each_clause_is_in_the_row_of_its_promise(self) -> None:
+    def test_each_row_of_the_index_is_compared_with_the_sources(self) -> None:
+        facts = read_document("dev/vectors/facts/docs/CLAUSES.tsv").splitlines()
         for promise, clauses in list_index_rows(read_document("docs/CLAUSES.md")):
-            for clause in clauses:
-                words = [words for words, form in PROMISE_WORDS if re.fullmatch(form, clause)]
-                self.must(clause, any(item in promise for item in words), (words, promise))
+            begin = f"| {promise} | `{clauses[0]}`"
+            self.must(promise, any(fact.startswith(begin) for fact in facts))
 
     def test_a_reading_list_describes_each_crate_in_a_sentence(self) -> None:
         read_first_paragraph = import_script("reading-list").read_first_paragraph
