@@ -21,9 +21,6 @@ VERSION = "a toolchain"
 # A script that replaces `rt`, prints its version and proves nothing.
 TOOLCHAIN = f'#!/bin/sh\n[ "$1" = version ] && echo {VERSION!r}\n'
 LINE = "logic=proved functions=7"  # the prover's line about a crate
-# Last lines of dev/release --compare
-NOT_COMPARED, SAME, DIFFERENT = (b"\n%d passed, %d failed\n" % it for it in (
-    (0, 0), (1, 0), (0, 1)))
 NEEDED_PATHS = ["subttx", "crates.txt", "HANDLES", "tools", "dev", "crates"]
 COPIED_SOURCES = {"lib.rt", "parity.rt", "Lib.antt"}  # names of sources that a copy has
 OMITTED = {"out", "must-fail", "release-edits", "__pycache__", "vectors", "transcripts"}
@@ -101,6 +98,12 @@ class Clone:
 
     def release(self, *args: str) -> CompletedCall:
         return self.call([self.path("dev", "release"), *args], self.write_toolchain())
+
+    def check_comparison(self, message: str, passed: int = 0, failed: int = 0) -> None:
+        """Check what dev/release --compare prints, and its status."""
+        process = self.release("--compare")
+        self.case.check("--compare", (process.status, process.out.decode()), (
+            failed, f"{message}\n{passed} passed, {failed} failed\n"))
 
     def check_runs(self, name: str, process: CompletedCall | None = None) -> None:
         """Check that ./subttx runs the program and prints only the program's output."""
@@ -274,9 +277,7 @@ class Clones(Case):
         self.must("--keep reports the crate", first.encode() in process.out, process)
         process = self.clone.release()
         self.must("refused", process.status == 2 and first in process.told[0], process)
-        process = self.clone.release("--compare")
-        self.must("no dist/ yet", process.status == 0 and process.out.endswith(NOT_COMPARED),
-                  process)
+        self.clone.check_comparison("there is no dist/ yet: run dev/release")
 
     def test_releases_a_program_with_the_line_of_each_crate_from_two_logs(self) -> None:
         self.clone.build()
@@ -288,8 +289,8 @@ class Clones(Case):
         self.check("status", self.clone.release().status, 0)
         self.check("lines", parse_proved(read(self.clone.path("dist", "PROVED"))).crates, {
             name: (digest, f"{LINE} of={name}") for name, digest in self.clone.crates.items()})
-        process = self.clone.release("--compare")
-        self.must("the same bytes", process.status == 0 and process.out.endswith(SAME), process)
+        self.clone.check_comparison("dist/ has the program that was proved here, byte for byte",
+                                    passed=1)
         shutil.rmtree(self.clone.path("out"))
         self.clone.check_runs("dist/")
 
@@ -300,23 +301,21 @@ class Clones(Case):
         self.clone.release("--keep")
         reported = parse_proved(read(self.clone.path("out", "PROVED"))).crates
         self.check("without a line", {*self.clone.crates} - {*reported}, {"ttx_packet"})
-        process = self.clone.release("--compare")
-        self.must("reports other sources", process.status == 0 and b"other sources" in process.out,
-                  process)
+        self.clone.check_comparison("dist/ has the program of other sources: run dev/release")
 
     def test_compare_fails_if_dist_and_out_have_different_programs(self) -> None:
         shutil.copy(self.clone.path("dist", "subttx"), self.path("other"))
         with open(self.path("other"), "ab") as file:
             file.write(b"\0")
         self.clone.put("out", self.path("other"))
-        process = self.clone.release("--compare")
-        self.must("other bytes", process.status == 1 and process.out.endswith(DIFFERENT), process)
+        self.clone.check_comparison(
+            "dist/PROVED names these sources, but they do not build dist/subttx", failed=1)
 
     def test_compare_fails_if_the_program_in_dist_is_damaged(self) -> None:
         with open(self.clone.path("dist", "subttx"), "ab") as file:
             file.write(b"\0")
-        process = self.clone.release("--compare")
-        self.must("damage", process.status == 1 and b"is not the program" in process.out, process)
+        self.clone.check_comparison("dist/subttx is not the program that dist/PROVED names",
+                                    failed=1)
 
 
 # A fake prover, which logs the crate, runs FIRST, and proves all crates except FAILS.

@@ -10,7 +10,6 @@ import re
 import struct
 import subprocess
 import sys
-import unittest
 from typing import Iterable, Iterator
 
 from subtitles.air.main import make_judge_parser, make_record_parser
@@ -111,27 +110,25 @@ class GeneratedFiles(Case):
         self.must("options", {"--page", "--within", "--pes", "--receiver"} < known, known)
 
 
-class GeneratedParts(unittest.TestCase):
+class GeneratedParts(Case):
     """Facts of the generator that none of the generated files shows."""
 
     def test_rejects_a_usage_text_without_commands(self) -> None:
-        with self.assertRaises(Stop):
-            pages.parse_commands("usage: none")
+        self.assertRaises(Stop, pages.parse_commands, "usage: none")
 
     def test_a_command_is_no_value_of_an_option(self) -> None:
         for cell, values in (("`a`, `b` or `check`", []), ("`a`, `b` or `c`", ["a", "b", "c"])):
             option, = pages.parse_options(f"| `--kind K` | `check` | {cell} | `a` |\n")
-            self.assertEqual(option.list_choices(), values)
+            self.check(cell, option.list_choices(), values)
 
     TEXT = "a\n# made: one\nold\n# end\nb\n# made: other\nkept\n# end\n"
 
     def test_replaces_the_text_between_the_markers_of_a_part(self) -> None:
-        self.assertEqual(pages.replace_parts(self.TEXT, {"one": "new\n"}),
-                         self.TEXT.replace("old", "new"))
+        self.check("text", pages.replace_parts(self.TEXT, {"one": "new\n"}),
+                   self.TEXT.replace("old", "new"))
 
     def test_rejects_a_text_without_the_markers_of_a_part(self) -> None:
-        with self.assertRaises(Stop):
-            pages.replace_parts(self.TEXT, {"two": ""})
+        self.assertRaises(Stop, pages.replace_parts, self.TEXT, {"two": ""})
 
 
 # Folders whose scripts CONTRIBUTING.md lists, and the heading of each list.
@@ -454,13 +451,13 @@ def implements_drop(text: str) -> bool:
     return DROP.search(COMMENT.sub(" ", text)) is not None
 
 
-class ReadBodies(unittest.TestCase):
+class ReadBodies(Case):
     """The functions and impls in STORED_FILE, which were reviewed by hand."""
 
     def test_each_function_without_a_contract_is_stored(self) -> None:
         bodies = [part.partition("\n")[2] for part in read_document(STORED_FILE).split("\n== ")[1:]]
-        self.assertEqual([next((head for head in HELD if body.startswith(f"{head} ")), body)
-                          for body in bodies], HELD)
+        self.check("heads", [next((head for head in HELD if body.startswith(f"{head} ")), body)
+                             for body in bodies], HELD)
 
     def test_reviewed_function_bodies_are_unchanged(self) -> None:
         for part in read_document(STORED_FILE).split("\n== ")[1:]:
@@ -473,8 +470,8 @@ class ReadBodies(unittest.TestCase):
 
     def test_no_crate_implements_drop(self) -> None:
         paths = glob.glob(os.path.join(TOP, "crates", "*", "src", "**", "*.rt"), recursive=True)
-        self.assertGreater(len(paths), 100)
-        self.assertEqual([path for path in paths if implements_drop(read(path) or "")], [])
+        self.must("sources", len(paths) > 100, paths)
+        self.check("found", [path for path in paths if implements_drop(read(path) or "")], [])
 
     def test_finds_an_implementation_of_drop(self) -> None:
         rows = {
@@ -489,5 +486,4 @@ class ReadBodies(unittest.TestCase):
             "// impl Drop for Line {}": False,
             "impl Line {}\n// A Drop for each.\n": False}
         for text, is_found in rows.items():
-            with self.subTest(text):
-                self.assertEqual(implements_drop(text), is_found)
+            self.check(text, implements_drop(text), is_found)

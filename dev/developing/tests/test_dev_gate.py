@@ -18,7 +18,7 @@ from developing.every_place.trying import get_status
 from subtitles.common.program import TOP, read
 from subtitles.results.files import read_result
 from . import runner, table
-from .bench import Case, CompletedCall, get_tool_path, read_example_file
+from .bench import Case, CompletedCall, Row, get_tool_path, read_example_file
 
 EVAL_COMMAND = re.compile(r"^\s*(?:[^#]*[;&|(]\s*)?(?:eval|exec\s+sh\s+-c)\b")
 
@@ -125,13 +125,12 @@ class JobScripts(Case):
             *self.LINES[:4], self.LINES[0], self.LINES[5]]).encode())
         self.call_shell(["bash", "-c", command], PARALLEL_HOME=self.path("home"))
         new_times = self.read_result_times()
-        self.check("results", [name for name in new_times if new_times[name] != times.get(name)],
-                   ["line 6", "one~3"])
+        self.check("results", {path for path in new_times if new_times[path] != times.get(path)},
+                   {self.path("out/line 6.json"), self.path("out/one~3.json")})
 
     def read_result_times(self) -> dict[str, int]:
-        """Return the mtime of each JSON result in nanoseconds."""
-        return {name.removesuffix(".json"): os.stat(self.path(f"out/{name}")).st_mtime_ns
-                for name in sorted(os.listdir(self.path("out"))) if name.endswith(".json")}
+        """Return the mtime of each JSON result in nanoseconds, by its path."""
+        return {path: os.stat(path).st_mtime_ns for path in glob.glob(self.path("out/*.json"))}
 
 
 SLURM_SCRIPT = os.path.join(TOP, "docs", "manual", "judge.sh")
@@ -145,28 +144,28 @@ def read_command(beginning: str) -> str:
 
 # What a script prints and its exit status, and the counts of passed and failed checks, or `None` if
 # these can't be trusted
-COUNT_CASES: dict[str, tuple[str, int, tuple[int, int] | None]] = {
-    "all passed": ("7 passed, 0 failed\n", 0, (7, 0)),
-    "two failed": ("a\n7 passed, 2 failed\n", 1, (7, 2)),
-    "two failed, and a signal": ("7 passed, 2 failed\n", -9, (7, 2)),
-    "two failed, and status 0": ("7 passed, 2 failed\n", 0, None),
-    "none failed, and status 1": ("7 passed, 0 failed\n", 1, None),
-    "none failed, and a signal": ("7 passed, 0 failed\n", -9, None),
-    "not the last line": ("7 passed, 0 failed\nmore\n", 0, None),
-    "no line end": ("7 passed, 0 failed", 0, None),
-    "not a complete line": ("of 7 passed, 0 failed\n", 0, None),
-    "nothing": ("", 0, None),
-    "two lines": ("1 passed, 1 failed\n7 passed, 0 failed\n", 0, (7, 0))}
+COUNT_CASES: dict[str, Row] = {
+    "all passed": (("7 passed, 0 failed\n", 0), (7, 0)),
+    "two failed": (("a\n7 passed, 2 failed\n", 1), (7, 2)),
+    "two failed, and a signal": (("7 passed, 2 failed\n", -9), (7, 2)),
+    "two failed, and status 0": (("7 passed, 2 failed\n", 0), None),
+    "none failed, and status 1": (("7 passed, 0 failed\n", 1), None),
+    "none failed, and a signal": (("7 passed, 0 failed\n", -9), None),
+    "not the last line": (("7 passed, 0 failed\nmore\n", 0), None),
+    "no line end": (("7 passed, 0 failed", 0), None),
+    "not a complete line": (("of 7 passed, 0 failed\n", 0), None),
+    "nothing": (("", 0), None),
+    "two lines": (("1 passed, 1 failed\n7 passed, 0 failed\n", 0), (7, 0))}
 
 
-class Counts(unittest.TestCase):
+class Counts(unittest.TestCase):  # without a folder, since test_dev_scripts also runs it
     def test_uses_the_last_line_only_if_the_status_agrees(self) -> None:
-        for name, (printed, status, expected) in COUNT_CASES.items():
+        for name, (arguments, expected) in COUNT_CASES.items():
             with self.subTest(name):
-                self.assertEqual(read_counts(printed, status), expected)
+                self.assertEqual(read_counts(*arguments), expected)
 
 
-class LastLines(unittest.TestCase):
+class LastLines(Case):
     def test_the_last_line_of_the_program_implies_its_status(self) -> None:
         for line, status in (
                 ("accepted 51 frames 2 transmissions", 0), ("written 2 transmissions", 0),
@@ -174,11 +173,10 @@ class LastLines(unittest.TestCase):
                 ("row 22 |refused 45 Lost pes 1                   |", 0), ("1 faults", 1),
                 ("refused 45 Lost pes 1", 1), ("refused 60 Empty", 1), ("usage 86 Pid", 2),
                 ("fault 41 Read pes 1", 2)):
-            with self.subTest(line):
-                self.assertEqual(get_status(line), status)
+            self.check(line, get_status(line), status)
 
 
-class RecordingProperties(unittest.TestCase):
+class RecordingProperties(Case):
     """Random recordings of dev/check-every-place, one for each of 150 seeds."""
 
     SEEDS = range(150)
@@ -186,8 +184,7 @@ class RecordingProperties(unittest.TestCase):
     def test_checks_the_properties_of_extracted_packets(self) -> None:
         for name, find_violation in LAW_CHECKS.items():
             for seed in self.SEEDS:
-                with self.subTest(name, seed=seed):
-                    self.assertIsNone(find_violation(seed))
+                self.check(f"{name}, seed {seed}", find_violation(seed), None)
 
     def test_the_longest_loss_is_as_long_as_continuity_counters_can_show(self) -> None:
         longest = 0  # number of TS packets in a row without an intact copy
@@ -199,7 +196,7 @@ class RecordingProperties(unittest.TestCase):
             for number in sorted({item.number for item in sent if item.number is not None}):
                 lost = 0 if number in kept else lost + 1
                 longest = max(longest, lost)
-        self.assertEqual(longest, MAX_UNSEEN_PACKETS - 1)
+        self.check("packets", longest, MAX_UNSEEN_PACKETS - 1)
 
 
 class SelectedTests(Case):

@@ -7,9 +7,8 @@ import os
 import shutil
 import subprocess
 import sys
-import unittest
-import unittest.mock
 from typing import Any
+from unittest import mock
 
 from developing.proved import (
     Crates, ProvedProgram, find_crates_without_line, format_proved, list_crate_sums)
@@ -137,13 +136,11 @@ STATUS_CASES: dict[str, tuple[str, str, list[int | None]]] = {
 }
 
 
-class DocumentStatuses(unittest.TestCase):
+class DocumentStatuses(Case):
     def test_compares_the_status_unless_a_pipe_hides_it(self) -> None:
         for name, (command, output, statuses) in STATUS_CASES.items():
-            possible: list[int | None] = [None, 0, 1, 2, 3]
-            with self.subTest(name):
-                self.assertEqual([status for status in possible
-                                  if has_expected_status(status, command, output)], statuses)
+            self.check(name, [status for status in (None, 0, 1, 2, 3)
+                              if has_expected_status(status, command, output)], statuses)
 
 
 class FailedScripts(Case):
@@ -163,15 +160,15 @@ class FailedScripts(Case):
         for counts, expected in (([(2, 0), (1, 0)], ("3 passed, 0 failed", 0)),
                                  ([(1, 1), (1, 0)], ("2 passed, 1 failed", 1)),
                                  ([(1, 0), (0, 1)], ("1 passed, 1 failed", 1))):
-            with unittest.mock.patch.multiple(
+            with mock.patch.multiple(
                     script, make_feeds=lambda: [feed], make_stream=lambda _: [],
-                    follow=unittest.mock.Mock(side_effect=counts)), \
+                    follow=mock.Mock(side_effect=counts)), \
                     contextlib.redirect_stdout(io.StringIO()) as out:
                 status = script.main(["-p", "/bin/true"])
             self.check(f"{counts}", (out.getvalue().strip(), status), expected)
 
     def import_bench(self) -> Any:
-        with unittest.mock.patch.object(sys, "path", [os.path.join(TOP, "bench"), *sys.path]):
+        with mock.patch.object(sys, "path", [os.path.join(TOP, "bench"), *sys.path]):
             return import_script("../bench/run")
 
     def test_bench_measures_no_command_that_failed(self) -> None:
@@ -187,11 +184,11 @@ class FailedScripts(Case):
         script = self.import_bench()
         bench = script.Bench("program", None, self.folder)
         path = self.write("day.pes", bytes(1_000_000))
-        milliseconds = unittest.mock.Mock(side_effect=[[10.0], [40.0]])  # of `cat` and `check`
-        with unittest.mock.patch.multiple(
+        milliseconds = mock.Mock(side_effect=[[10.0], [40.0]])  # of `cat` and `check`
+        with mock.patch.multiple(
                 script, least=milliseconds, peak=lambda _: "7 MB"), \
                 contextlib.redirect_stdout(io.StringIO()) as out, \
-                unittest.mock.patch.object(script.shutil, "which", lambda _: None):
+                mock.patch.object(script.shutil, "which", lambda _: None):
             bench.row("day: cat PES", path, ["cat", path])
             bench.row("day: check", path, ["program", "check"])
         self.check("rows", out.getvalue(), "| day | cat PES | 100 | 1.00 | 7 MB | - |\n"
@@ -279,7 +276,7 @@ class NewMachines(Case):
         process = subprocess.CompletedProcess([], status, printed)
         for name, value in {"SCRIPTS": ["check-live"], "run": lambda *_: process,
                             "compare_examples": lambda _: (1, 0)}.items():
-            patch = unittest.mock.patch.object(script, name, value)
+            patch = mock.patch.object(script, name, value)
             patch.start()
             self.addCleanup(patch.stop)
 
@@ -299,7 +296,7 @@ def omit_crate(name: str) -> Crates:
     return {crate: line for crate, line in CRATE_LINES.items() if crate != name}
 
 
-class ReleasedLines(unittest.TestCase):
+class ReleasedLines(Case):
     def test_finds_each_crate_without_the_prover_line_of_its_sources(self) -> None:
         first, *others, last = CRATE_LINES
         cases: dict[str, tuple[Crates, list[str]]] = {
@@ -308,16 +305,15 @@ class ReleasedLines(unittest.TestCase):
             "the last is missing": (omit_crate(last), [last]),
             "other sources": ({**CRATE_LINES, last: ("0", "logic=proved functions=1")}, [last])}
         for case, (crates, expected) in cases.items():
-            with self.subTest(case):
-                proved = ProvedProgram(None, None, None, crates)
-                self.assertEqual(find_crates_without_line(proved), expected)
+            proved = ProvedProgram(None, None, None, crates)
+            self.check(case, find_crates_without_line(proved), expected)
 
 
 class ReleasedArchives(Case):
     def test_needs_the_prover_line_of_each_crate(self) -> None:
         dist = import_script("dist")
         program = self.write_program("subttx", "")
-        with unittest.mock.patch.object(dist, "find_built_program", lambda: program):
+        with mock.patch.object(dist, "find_built_program", lambda: program):
             self.write_proved(CRATE_LINES)
             self.check("all crates", dist.find_proved_program()[0], program)
             self.write_proved(omit_crate(list(CRATE_LINES)[-1]))
