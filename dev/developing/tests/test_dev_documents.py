@@ -205,38 +205,6 @@ class ModuleLists(Case):
 
 
 STORED_FILE = "dev/bodies-to-read.txt"
-# Beginnings of the functions and impls in STORED_FILE, which make system calls without a contract
-HELD = [
-    "fn main(rt: HostRuntime)",
-    "fn run_with_system(rt: &HostRuntime, closed_stream: LookupResult)",
-    "fn occupy_closed_streams(rt: &HostRuntime)",
-    "fn refuse_to_begin<K: Sink + Drop>(standard_output: K)",
-    "pub fn occupy_closed_stream<R: Files, S: AsFd>(\n",
-    "fn is_closed<S: AsFd>(stream: &S)",
-    "impl<'a, R: Files + Eprint> FileSystem for SystemFiles<'a, R>",
-    "fn is_memory_device(file: &Metadata)",
-    "fn lookup_result_from_metadata(looked_up: io::Result<Metadata>)",
-    "impl<'a, R: Files + Eprint> SystemFiles<'a, R>",
-    "impl<R: Files + Eprint> SizeLookup for SystemSizeLookup<'_, R>",
-    "fn file_length<R: Files>(rt: &R, name: &str)",
-    "fn store_folder<R: Files + Eprint>(rt: &R, name: &str)",
-    "impl<T: Read, E: Eprint> Read for ErrorReporter<'_, T, E>",
-    "impl<T: Write, E: Eprint> Write for ErrorReporter<'_, T, E>",
-    "impl<T: OpenFile, E: Eprint> OpenFile for ErrorReporter<'_, T, E>",
-    "impl<W: Write + Release + Store, L: SizeLookup> Close for CheckedFile<W, L>",
-    "impl<R: Read> FromRead<R>",
-    "impl<R: Read> Source for FromRead<R>",
-    "impl<W: Write> IntoWrite<W>",
-    "impl<W: Write> Sink for IntoWrite<W>",
-    "impl<W: Write> Flush for IntoWrite<W>",
-    "impl<W: Write> IntoFile<W>",
-    "impl<W: Write> Sink for IntoFile<W>",
-    "impl<W: Write> Flush for IntoFile<W>",
-    "impl<W: Write + Release + Store> Close for IntoFile<W>",
-    "impl<T: OpenFile> Store for T",
-    "impl<T: Drop> Release for T",
-    "impl WrittenBytes",
-]
 # An implementation of Drop, possibly over several lines, or an import of Drop under another name.
 DROP = re.compile(r"\bimpl\b[^{};]*\bDrop\s+for\b|\bDrop\s+as\b")
 COMMENT = re.compile(r"//[^\n]*|/\*.*?\*/", re.DOTALL)
@@ -453,11 +421,6 @@ def implements_drop(text: str) -> bool:
 
 class ReadBodies(Case):
     """The functions and impls in STORED_FILE, which were reviewed by hand."""
-
-    def test_each_function_without_a_contract_is_stored(self) -> None:
-        bodies = [part.partition("\n")[2] for part in read_document(STORED_FILE).split("\n== ")[1:]]
-        self.check("heads", [next((head for head in HELD if body.startswith(f"{head} ")), body)
-                             for body in bodies], HELD)
 
     def test_reviewed_function_bodies_are_unchanged(self) -> None:
         for part in read_document(STORED_FILE).split("\n== ")[1:]:
