@@ -50,11 +50,8 @@ class Units(Case):
 
     def setUp(self) -> None:
         super().setUp()
-        self.units = {name: read_unit(name) for name in UNITS}
-
-    def test_all_units_of_the_manual_are_tested(self) -> None:
-        names = {name for name in os.listdir(MANUAL) if name.endswith(".service")}
-        self.check("units", names, {*UNITS})
+        self.units = {name: read_unit(name) for name in os.listdir(MANUAL)
+                      if name.endswith(".service")}
 
     def test_installed_units_call_the_installed_tools(self) -> None:
         prefix = self.path("opt")
@@ -77,9 +74,9 @@ class Units(Case):
             self.check(f"{words}", self.tool("install", *words).status, 64)
 
     def test_each_unit_may_write_only_to_its_state_directory(self) -> None:
-        for name, option in UNITS.items():
-            service, words = self.units[name]["Service"], split_unit_command(self.units[name])
-            self.check(name, STATE + service["StateDirectory"], words[words.index(option) + 1])
+        for name, unit in self.units.items():
+            service, words = unit["Service"], split_unit_command(unit)
+            self.check(name, STATE + service["StateDirectory"], words[words.index(UNITS[name]) + 1])
             self.must(f"{name}: no other", "ReadWritePaths" not in service)
             self.check(f"{name}: all else", service["ProtectSystem"], "strict")
 

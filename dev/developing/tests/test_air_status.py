@@ -31,7 +31,6 @@ STATUS_CASES: dict[str, tuple[dict[str, object], int]] = {
     "a warning": ({"alarms": ["schedule"]}, WARNING),
     "two warnings": ({"alarms": ["schedule", "page 888"]}, WARNING),
     "an alarm": ({"alarms": ["silence"]}, CRITICAL),
-    "another alarm": ({"alarms": ["clock"]}, CRITICAL),
     "a warning and an alarm": ({"alarms": ["schedule", "page 889"]}, CRITICAL),
     "written long ago": ({"date": "2020-11-29T20:15:00Z"}, CRITICAL),
     "without a date": ({"date": None}, CRITICAL),

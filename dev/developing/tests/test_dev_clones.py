@@ -151,12 +151,10 @@ class Clones(Case):
         self.must(f"{args}", (process.status, process.out) == (2, USAGE_FAULT)
                   and len(process.told) == 1 and process.told[0].startswith("subttx: "), process)
 
-    def test_runs_the_program_in_dist(self) -> None:
+    def test_runs_the_program_in_dist_also_again_and_through_a_link(self) -> None:
         self.clone.check_runs("at first")
         self.clone.check_runs("again, with the choice kept")
         self.check("its path", self.clone.tool("program"), [self.clone.path("dist", "subttx")])
-
-    def test_runs_the_program_through_a_link(self) -> None:
         os.symlink(self.clone.path("subttx"), self.path("link"))
         self.clone.check_runs("a link", self.clone.run(*PACKET, script=self.path("link")))
 
@@ -372,7 +370,7 @@ class BareClone(Clone):
 class ProvingClones(Case):
     """./subttx and tools/prove in a copy of the repository with a fake toolchain."""
 
-    def test_proves_and_runs_the_program(self) -> None:
+    def test_proves_stores_and_runs_the_program(self) -> None:
         clone = BareClone(self)
         process = clone.start()
         self.check("output", process.out, self.call([self.bench.program, *PACKET]).out)
@@ -381,14 +379,10 @@ class ProvingClones(Case):
         self.check("reported crates", {*progress}, {*clone.crates})
         self.check("crates left", [*progress.values()], [*reversed(range(len(clone.crates)))])
         self.must("no temporary folder", not os.path.exists(clone.path("out", "proving")))
-        clone.check_runs("again, without the toolchain")
-
-    def test_stores_what_was_proved(self) -> None:
-        clone = BareClone(self)
-        clone.start()
         self.check("PROVED", parse_proved(read(clone.path("out", "PROVED"))), ProvedProgram(
             clone.tool("sources")[0], compute_digest(self.bench.program), VERSION,
             {name: (digest, LINE) for name, digest in clone.crates.items()}))
+        clone.check_runs("again, without the toolchain")
 
     def test_reports_a_crate_that_is_not_proved(self) -> None:
         clone = BareClone(self, fails="ttx_page")

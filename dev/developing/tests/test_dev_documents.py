@@ -10,7 +10,7 @@ import re
 import struct
 import subprocess
 import sys
-from typing import Iterable, Iterator
+from typing import Iterator
 
 from subtitles.air.main import make_judge_parser, make_record_parser
 from subtitles.air.state import Monitor
@@ -104,10 +104,6 @@ class GeneratedFiles(Case):
     def test_dev_make_pages_would_change_no_file(self) -> None:
         for name, text in pages.make_pages().items():
             self.must(name, read(os.path.join(TOP, name)) == text)
-
-    def test_the_table_of_options_has_the_options_of_the_program(self) -> None:
-        known = {option.name for option in pages.parse_options(read_document(pages.TABLE))}
-        self.must("options", {"--page", "--within", "--pes", "--receiver"} < known, known)
 
 
 class GeneratedParts(Case):
@@ -210,18 +206,13 @@ DROP = re.compile(r"\bimpl\b[^{};]*\bDrop\s+for\b|\bDrop\s+as\b")
 COMMENT = re.compile(r"//[^\n]*|/\*.*?\*/", re.DOTALL)
 
 
-def join_statuses(statuses: Iterable[int | str]) -> str:
-    *first, last = map(str, statuses)
-    return f"{', '.join(first)} and {last}"
-
-
 def join_control_bits() -> str:
     """Return the control bits that must be set or clear in a header, as documents state them."""
     bits = {ERASE: True, **{bit: is_set for bit, is_set, _ in CONTROL_BIT_FAULTS}}
     groups = ([f"C{bit}" for bit in sorted(bits) if bits[bit] == is_set]
               for is_set in (True, False))
-    return " ".join(f"{join_statuses(group)} {word},"
-                    for group, word in zip(groups, ("set", "clear")))
+    return " ".join(f"{', '.join(first)} and {last} {word},"
+                    for (*first, last), word in zip(groups, ("set", "clear")))
 
 
 with open(os.path.join(TOP, "dist", "subttx"), "rb") as released_program:
