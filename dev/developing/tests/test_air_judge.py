@@ -14,13 +14,11 @@ from subtitles.air import judge as judging
 from subtitles.air.check import Outcome
 from subtitles.air.decision import Window, give_up, is_clock_wrong, is_given_up
 from subtitles.air.schedule import Programme
-from subtitles.air.segments import (
-    Segment, find_segments, make_segment_name, parse_segment_begin)
+from subtitles.air.segments import Segment, find_segments, make_segment_name, parse_segment_begin
 from subtitles.air.state import Monitor
 from subtitles.common.files import open_result
 from subtitles.formats.teletext import Page
-from .air import (
-    AirCase, DAY, FAILURE, FakeChecker, MARGIN_SECONDS, SentProgramme, make_outcome)
+from .air import AirCase, DAY, FAILURE, FakeChecker, MARGIN_SECONDS, SentProgramme, make_outcome
 from .bench import read_example_file
 from .programmes import wait_until
 from .stories import Story, read_table
@@ -81,7 +79,6 @@ REASONS = {
     "a gap as soon as it ends, wrong": "not recorded: 2026-12-01T08:11:00Z to 2026-12-01T08:11:20Z;"
                                        " of the rest: refused 74"}
 
-
 # Lines of a schedule, each with its time in seconds after DAY, a subtitle file and options; and for
 # each line, how many seconds before and after its time an airing counts for it
 MARGINS = {
@@ -94,7 +91,6 @@ MARGINS = {
                     [(60, 60), (60, 20), (20, 60)]),
     "other parts": (["0 one --to 00:00:01:00", "30 one --from 00:00:01:00"], [(60, 60), (60, 60)]),
     "not sorted": (["30 one", "0 one"], [(60, 15), (15, 60)])}
-
 
 HOUR, LAST = 3600, END + MARGIN_SECONDS  # an hour, and the end of a programme's window
 # For a programme that waits: later segments as begin and end in seconds after its window, the time
@@ -111,7 +107,6 @@ GIVEN_UP_CASES: dict[str, tuple[list[tuple[int, int]], float, float, bool]] = {
                                                     False),
     "the clock shows 48 hours later": ([], 0, LAST + 48 * HOUR, False),
     "the clock shows more than that": ([], 0, LAST + 48 * HOUR + 1, True)}
-
 
 # What the JSON result of a refused file has instead of a recording or faults
 FILE_FAULTS: dict[str, dict[str, object]] = {
@@ -565,7 +560,6 @@ ALARM_CASES: dict[str, tuple[dict[str, Any], list[str], list[str]]] = {
     "a result is late": ({"late": ["one"]}, ["late"], []),
     "a fault in the schedule": ({"schedule_faults": ["line 3: what?"]}, ["schedule"],
                                 ["schedule"])}
-
 
 # A segment's begin and last write, in seconds after DAY; and at the time 60, whether the clock is
 # wrong, and the time of the last byte. Five correct segments, from 0 to 50, are also there.

@@ -221,14 +221,11 @@ class Segments(AirCase):
         for name, (begin, end, time, offset) in OFFSETS.items():
             self.check(name, Segment("", 100, begin, end).find_offset(time), offset)
 
-    def put_run(self) -> UnbrokenRun:
-        """Put segments from 0 to 30, in which each second has one byte with its number."""
-        return UnbrokenRun(tuple(Segment(
+    def test_reads_the_bytes_of_a_time_range(self) -> None:
+        # From 0 to 30, each second has one byte with its number.
+        run = UnbrokenRun(tuple(Segment(
             self.put_segment(at, at + 10, bytes(range(at, at + 10))), 10, DAY + at, DAY + at + 10)
             for at in (0, 10, 20)))
-
-    def test_reads_the_bytes_of_a_time_range(self) -> None:
-        run = self.put_run()
         for first, middle, last in ((0, 5, 30), (3, 10, 25), (7, 7, 8), (0, 0, 99), (12, 18, 19)):
             for begin, end in ((first, middle), (middle, last)):
                 self.check(f"{begin} to {end}", b"".join(run.read(DAY + begin, DAY + end)),
@@ -237,11 +234,6 @@ class Segments(AirCase):
     def test_skips_the_first_byte_of_a_feed_that_begins_as_a_pes_file(self) -> None:
         pes = Segment(self.put_segment(40, 50, b"\0\0\1\xbdxxxxxx"), 10, DAY + 40, DAY + 50)
         self.check("bytes", b"".join(UnbrokenRun((pes,)).read(DAY, DAY + 99)), b"\0\1\xbdxxxxxx")
-
-    def test_reading_a_segment_that_became_shorter_is_an_error(self) -> None:
-        run = self.put_run()
-        os.truncate(run.segments[1].path, 5)
-        self.assertRaisesRegex(OSError, "shorter", lambda: [*run.read(DAY, DAY + 30)])
 
 
 class Recorded(AirCase):

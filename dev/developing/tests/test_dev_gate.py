@@ -237,10 +237,6 @@ class SelectedTests(Case):
             self.must(f"{name}: {module}", any(module in item for item in listed), listed)
             self.check(name, self.list_classes(name), {*listed})
 
-    def test_runs_the_tests_whose_names_contain_an_argument(self) -> None:
-        self.check("modules", {name.partition(".")[0] for name in self.list_classes(
-            "test_dev_gate.")}, {"test_dev_gate"})
-
     def test_an_unknown_module_has_no_tests(self) -> None:
         self.check("tests", table.list_tests_of("subtitles.none"), [])
 

@@ -51,8 +51,7 @@ GATE_CASES: dict[str, tuple[str, str, int, str, list[str]]] = {
 
 
 def make_stage(name: str, line: str, status: int) -> str:
-    """Return a shell script that adds its name to the file $STAGES, prints two lines and ends with
-    a status."""
+    """Return a script that adds its name to $STAGES, prints two lines and ends with a status."""
     # dev/release is also called to store lines and to keep the program, which is no stage.
     condition = '[ "$1" = --compare ] || exit 0\n' if name == "dev/release" else ""
     return (f'#!/bin/sh\n{condition}echo {name} >>"$STAGES"\necho "first line of {name}"\n'
@@ -313,12 +312,10 @@ class ReleasedArchives(Case):
     def test_needs_the_prover_line_of_each_crate(self) -> None:
         dist = import_script("dist")
         program = self.write_program("subttx", "")
-        with mock.patch.object(dist, "find_built_program", lambda: program):
-            self.write_proved(CRATE_LINES)
-            self.check("all crates", dist.find_proved_program()[0], program)
-            self.write_proved(omit_crate(list(CRATE_LINES)[-1]))
-            self.assertRaisesRegex(Stop, "has no line of each crate", dist.find_proved_program)
-
-    def write_proved(self, crates: Crates) -> None:
-        proved = ProvedProgram(None, None, None, crates)
+        proved = ProvedProgram(None, None, None, CRATE_LINES)
         self.write("PROVED", format_proved(proved).encode())
+        with mock.patch.object(dist, "find_built_program", lambda: program):
+            self.check("all crates", dist.find_proved_program()[0], program)
+            proved = proved._replace(crates=omit_crate(list(CRATE_LINES)[-1]))
+            self.write("PROVED", format_proved(proved).encode())
+            self.assertRaisesRegex(Stop, "has no line of each crate", dist.find_proved_program)
