@@ -297,6 +297,7 @@ class JudgedProgrammes(AirCase):
         self.check("after an hour", self.verdicts(), {NAME: "not judged"})
 
     def test_tries_again_at_once_after_the_clock_was_set_back(self) -> None:
+        """The first attempt finds no segments, so that the next would be an hour later, at 7500."""
         self.delete_all("segments")
         judge = self.make_judge(FakeChecker(ON_TIME))
         with mock.patch.object(judging, "MIN_RECORDED_LATER", 3600.0):
