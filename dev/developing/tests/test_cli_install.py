@@ -266,7 +266,7 @@ HOSTILE_NAMES = [b"\xff\xfe", b"caf\xe9", "caf\u00e9".encode(), b"-o", b"--help"
                  b"\x1b[31mred", b"two\nlines", b"tab\there", b" leading", b"trailing ", b"a  b",
                  b"$(date)", b"`date`",
                  b"*", b"?", b"[a]", b"a;b", b"a|b&c", b"#one", b"100%", b"back\\slash", b"it's\"",
-                 b"<b>&amp;"]
+                 b"<b>&amp;", b"+s", "it's \\ \u202e".encode()]
 
 
 def qc(case: Case, *args: str) -> CompletedCall:

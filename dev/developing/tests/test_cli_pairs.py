@@ -32,77 +32,86 @@ def split_output_lines(process: CompletedCall) -> list[str]:
 
 
 def stream(case: Case, name: str, pes: bytes, pid: str = "0x101", page: str = "888") -> bytes:
+    """Return a transport stream with these PES packets, which dev/pes2ts makes."""
     process = case.tool("pes2ts", case.write(name + ".in.pes", pes), pid, "--page", page)
     assert process.status == 0, process
     return process.out
 
 
 class Pairs(Case):
-    def test_prints_the_command_that_it_ran(self) -> None:
-        process = qc(self, STORY, RECORDING, "-o", "out")
-        lines = split_output_lines(process)
-        commands = [line[2:] for line in lines if line.startswith("+ ")]
-        self.must("relative", (process.status, lines[-1], process.told) == (3, RELATIVE, [
-            "qc: not checked: losses on this PID alone, since there are too few PES "
-            "packets to measure their interval"]), process)
-        self.must("one command, on the two files",
-                  [command.split()[1:] for command in commands] == [[
-            "check", STORY, RECORDING, "--pid", "0x101", "--pes", "2-6", "--complete", "--origin",
-            "5000000000", "--all"]], commands)
-        kept = sorted(os.listdir(self.path("out")))
-        self.must("its files", kept == ["story.html", "story.json", "story.txt"], kept)
-        again = self.call(["sh", "-c", commands[0]])
-        printed = lines[lines.index("+ " + commands[0]) + 1:][:1]
-        self.must("typed again", (again.status, again.out.decode().splitlines()) == (0, printed),
-                  again)
+    """The story example, which matches its recording: relative (status 3), since no clock is given.
+    """
 
-    def test_judges_files_and_standard_input_the_same(self) -> None:
+    def test_writes_a_report_a_result_and_a_list(self) -> None:
+        process = qc(self, STORY, RECORDING, "-o", "out")
+        self.check("status and last line", (process.status, split_output_lines(process)[-1]),
+                   (3, RELATIVE))
+        self.check("messages", process.told, [
+            "qc: not checked: losses on this PID alone, since there are too few PES "
+            "packets to measure their interval"])
+        self.check("files", sorted(os.listdir(self.path("out"))),
+                   ["story.html", "story.json", "story.txt"])
+
+    def test_prints_the_command_that_it_ran(self) -> None:
+        lines = split_output_lines(qc(self, STORY, RECORDING))
+        [command] = [line[2:] for line in lines if line.startswith("+ ")]
+        self.check("command", command.split()[1:], [
+            "check", STORY, RECORDING, "--pid", "0x101", "--pes", "2-6", "--complete", "--origin",
+            "5000000000", "--all"])
+        again = self.call(["sh", "-c", command])
+        next_line = lines[lines.index(f"+ {command}") + 1]
+        self.check("typed again", (again.status, again.out.decode().splitlines()), (0, [next_line]))
+
+    def test_judges_files_and_pipes_the_same(self) -> None:
         pes = read_example_file("story.pes")
-        for name, words, data in (("a file", [get_example_path("story.pes")], None),
-                                  ("a pipe", ["-"], pes),
-                                  ("a stream in a pipe", ["-"], read_example_file("recording.ts")),
-                                  ("/dev/stdin", ["/dev/stdin"], pes)):
-            process = qc(self, STORY, *words, data=data)
-            self.must(name, process.status == 3 and split_output_lines(process)[-1] == RELATIVE,
-                      process)
+        for name, recording, data in (
+                ("a file", get_example_path("story.pes"), None), ("a pipe", "-", pes),
+                ("a stream in a pipe", "-", read_example_file("recording.ts")),
+                ("/dev/stdin", "/dev/stdin", pes)):
+            process = qc(self, STORY, recording, data=data)
+            self.check(name, (process.status, split_output_lines(process)[-1]), (3, RELATIVE))
+
+    def test_copies_a_file_on_standard_input_only_for_a_dash(self) -> None:
         for name, is_copied in (("-", True), ("/dev/stdin", False)):
             with open(RECORDING, "rb") as file:
                 again = subprocess.run([os.path.join(TOP, "tools", "qc"), STORY, name, "-p",
                                         self.bench.program, "--relative", "--json", "one.json"],
                                        stdin=file, stdout=subprocess.PIPE, cwd=self.folder,
                                        check=False)
-            self.must(f"a file as {name}", again.returncode == 0, again)
-            part = json.loads(self.read("one.json"))["parts"][0]
-            self.must(f"the part of {name}",
-                      (part["judged_file"] is not None) == is_copied
-                      and (part["pid"], part["pes"]) == (257, "2-6"), part)
+            self.check(f"{name}: status", again.returncode, 0)
+            [part] = json.loads(self.read("one.json"))["parts"]
+            self.check(f"{name}: copied, PID, PES packets", (
+                part["judged_file"] is not None, part["pid"], part["pes"]),
+                (is_copied, 0x101, "2-6"))
 
 
 class PipedRecordings(Case):
-    def test_refuses_devices_and_limits_pipes(self) -> None:
-        process = self.tool("qc", STORY, "/dev/zero", "-p", self.bench.program)
-        self.must("a device", process.status == 2 and process.told[-1] ==
-                  "qc: /dev/zero is a device: give a file or a pipe", process)
+    def test_judges_a_pipe_of_at_most_32_gigabytes(self) -> None:
+        self.check("limit", recording.MAX_PIPED_BYTES, 32_000_000_000)
         pes = read_example_file("story.pes")
-        for most, word in ((len(pes), "accepted"), (len(pes) - 1, "not judged")):
-            with mock.patch.object(recording, "MAX_PIPED_BYTES", most):
+        for limit, word in ((len(pes), "accepted"), (len(pes) - 1, "not judged")):
+            with mock.patch.object(recording, "MAX_PIPED_BYTES", limit):
                 result = judge_files(self, STORY, write_pipe(self, pes), "--origin", "0")
-            self.must(f"{most}", result.word == word, result.said)
-        self.must("what to type", result.told[-1].endswith(
-            f" has not ended after {most:,} bytes: judge an endless feed with "
-            "tools/air") and recording.MAX_PIPED_BYTES == 32_000_000_000, result.told)
+            self.check(f"{len(pes)} bytes, limit {limit}", result.word, word)
+        self.must("message of the pipe that is too long", result.told[-1].endswith(
+            f" has not ended after {limit:,} bytes: judge an endless feed with tools/air"),
+            result.told)
 
     def test_reports_a_full_disk_for_a_pipe(self) -> None:
+        """The pipe contains more than the 200 KiB that the shell allows qc to write to a file."""
         data = stream(self, "story", read_example_file("story.pes")) * 400
         command = 'ulimit -f 200; exec "$0" "$1" - --json one.json -p "$2"'
         process = self.call(["bash", "-c", command, get_tool_path("qc"), STORY, self.bench.program],
                             data)
-        self.must("said", process.status == 2 and "File too large" in process.told[-1], process)
-        self.must("its object", "File too large" in json.loads(self.read("one.json"))["reason"])
+        self.must("message", process.status == 2 and "File too large" in process.told[-1], process)
+        self.must("result", "File too large" in json.loads(self.read("one.json"))["reason"])
 
 
 class Ended(Case):
+    """Runs of qc that a signal or a closed output ends before the pair is judged."""
+
     def test_a_signal_leaves_a_result_and_no_temporary_files(self) -> None:
+        """The signal arrives when qc has copied a part of a pipe that stays open."""
         os.mkdir(self.path("temporary"))
         for item in (signal.SIGINT, signal.SIGTERM, signal.SIGHUP):
             with subprocess.Popen(
@@ -113,20 +122,24 @@ class Ended(Case):
                 assert process.stdin and process.stderr
                 process.stdin.write(read_example_file("story.pes"))
                 process.stdin.flush()
-                is_there = wait_until(lambda: any("story.recording" in files for _, _,
-                                                  files in os.walk(
-                    self.path("temporary"))))
-                process.send_signal(item if is_there else signal.SIGKILL)
+                is_copying = wait_until(lambda: any("story.recording" in files for _, _, files in
+                                                    os.walk(self.path("temporary"))))
+                process.send_signal(item if is_copying else signal.SIGKILL)
                 errors = process.stderr.read().decode().splitlines()
             known = json.loads(self.read("one.json"))
-            self.must(f"{item}", process.returncode == 2 and known["status"] == 2 and errors ==
-                      [f"qc: not judged: {known['reason']}"] and not known["faults"] and
-                      known["reason"].startswith("stopped at "), errors)
-            self.must(f"{item}: nothing is left", os.listdir(self.path("temporary")) == [] and
-                      sorted(os.listdir(self.path("out"))) == [
-                          "story.html", "story.json"], os.listdir(self.path("out")))
+            self.check(f"{item}: statuses, faults", (
+                process.returncode, known["status"], known["faults"]), (2, 2, []))
+            self.must(f"{item}: reason", known["reason"].startswith("stopped at ") and
+                      errors == [f"qc: not judged: {known['reason']}"], errors)
+            self.check(f"{item}: temporary files", os.listdir(self.path("temporary")), [])
+            self.check(f"{item}: files", sorted(os.listdir(self.path("out"))),
+                       ["story.html", "story.json"])
 
     def test_reports_the_progress_at_a_signal(self) -> None:
+        """A program prints the first `count` lines of `check`, then sleeps until the signal.
+
+        The lines of this pair: the trusted frames up to 20:15:00:24, then the faults by time.
+        """
         for count, faults, up_to in ((0, 0, "nothing yet"), (1, 0, "all up to 20:15:00:24"),
                                      (2, 1, "all up to 20:15:01:00"),
                                      (4, 3, "all up to 20:15:03:00")):
@@ -143,19 +156,20 @@ class Ended(Case):
                     if line.startswith(b"+ ./program check"):
                         break
                 came = [process.stdout.readline() for _ in range(count)]
-                wait_until(lambda: os.path.exists(begun))
+                self.must(f"{count}: check sleeps", wait_until(lambda: os.path.exists(begun)))
                 process.send_signal(signal.SIGTERM)
                 lines, errors = (text.decode().splitlines() for text in process.communicate())
             known = json.loads(self.read("out/story.json"))
-            self.must(f"{count}: status", process.returncode == 2 and known["status"] == 2, errors)
-            self.must(f"{count}: how much", f"{counted(faults, 'fault')} so far" in lines, lines)
-            self.must(f"{count}: how far", errors[-1:] == [f"qc: not judged: {known['reason']}"]
+            self.check(f"{count}: statuses", (process.returncode, known["status"]), (2, 2))
+            self.must(f"{count}: output", f"{counted(faults, 'fault')} so far" in lines, lines)
+            self.must(f"{count}: reason", errors[-1:] == [f"qc: not judged: {known['reason']}"]
                       and known["reason"].endswith(f"Z, when check had reported {up_to}"), errors)
-            self.must(f"{count}: the object", len(known["faults"]) == faults
-                      and known["parts"][0]["verdict"] == "not judged", known)
-            self.must(f"{count}: the list", self.read("out/story.txt") == b"".join(came), came)
+            self.check(f"{count}: JSON faults, verdict of part 1", (
+                len(known["faults"]), known["parts"][0]["verdict"]), (faults, "not judged"))
+            self.check(f"{count}: list", self.read("out/story.txt"), b"".join(came))
 
     def test_writes_a_complete_result_if_its_output_is_closed(self) -> None:
+        """`head -2` closes the output of qc after two lines. The recording has five faults."""
         five = self.write("five.ts", stream(self, "five", read_example_file("five-faults.pes")))
         command = ('cat "$1" | "$2" "$3" "$4" --origin 0 --every 25 --json one.json -p "$5" 2>told '
                    '| head -2; echo ${PIPESTATUS[1]}')
@@ -166,13 +180,15 @@ class Ended(Case):
             reported = self.read("told").decode()
             self.must(name, len(process.out.splitlines()) == 3 and "Traceback" not in reported
                       and "Exception" not in reported, (process, reported))
-            self.must(f"{name}: its object", json.loads(self.read("one.json"))["fault_count"] == 5)
+            self.check(f"{name}: faults", json.loads(self.read("one.json"))["fault_count"], 5)
 
 
 PES = get_example_path("story.pes")
 
 
 class SubtitlePipes(Case):
+    """Subtitle files that qc reads from a named pipe."""
+
     def qc(self, *args: str) -> CompletedCall:
         return self.tool("qc", *args, "-p", self.bench.program, "--json", self.path("x.json"))
 
@@ -189,25 +205,29 @@ class SubtitlePipes(Case):
             name = self.write("one.stl", data)
             of_file = self.qc(name, *words, "-o", self.path("out"))
             known = json.loads(self.read("x.json"))
-            pipe = self.path("pipe/one.stl")  # the pipe has the same file name as in/one.stl
+            pipe = self.path("pipe/one.stl")  # the pipe has the same file name as one.stl
             shutil.rmtree(os.path.dirname(pipe), ignore_errors=True)
             os.mkdir(os.path.dirname(pipe))
             write_pipe(self, data, pipe)
             of_pipe = self.qc(pipe, *words, "-o", self.path("out"))
             other = json.loads(self.read("x.json"))
-            self.must(f"{words}", of_pipe.status == of_file.status and
-                      [line.replace(pipe, name) for line in of_pipe.told] == of_file.told and
-                      of_pipe.out.decode().replace(pipe, name) == of_file.out.decode(), of_pipe)
-            same = [{**item, "inputs": {**item["inputs"], "stl": item["inputs"]["stl"] and {
-                **item["inputs"]["stl"], "name": ""}}} for item in (known, other)]
+            told = [line.replace(pipe, name) for line in of_pipe.told]
+            self.check(f"{words}: output", of_pipe._replace(
+                told=told, out=of_pipe.out.replace(pipe.encode(), name.encode())), of_file)
+            for item in (known, other):  # the names of the two files differ
+                item["inputs"]["stl"] = {**(item["inputs"]["stl"] or {}), "name": ""}
             for member in ("verdict", "status", "fault_count", "faults", "inputs",
                            "trusted_frames"):
-                self.must(f"{words}: {member}", same[0][member] == same[1][member],
-                          (same[0][member], same[1][member]))
-            self.must(f"{words}: option", known["request"]["option"] == other["request"]["option"])
+                self.check(f"{words}: {member}", other[member], known[member])
+            self.check(f"{words}: option", other["request"]["option"], known["request"]["option"])
 
-    def test_limits_a_subtitle_pipe(self) -> None:
+    def test_refuses_an_endless_subtitle_pipe(self) -> None:
+        """`yes` writes lines of text for as long as somebody reads them."""
         process = self.call(["sh", "-c", 'mkfifo endless; (yes >endless &) ; exec "$@"', "sh",
                              get_tool_path("qc"), "endless", PES, "-p", self.bench.program])
-        self.must("endless", process.status in (1, 2) and len(process.told) <= 3, process)
+        self.check("endless", process, (2, b"", [
+            "qc: endless is text: export the subtitles as EBU STL"]))
+
+    def test_reads_at_most_the_largest_subtitle_file(self) -> None:
+        """A GSI block and 99,999 TTI blocks, and one byte more to detect a larger file."""
         self.assertEqual(MAX_STL, 1024 + 128 * 99_999 + 1)
