@@ -36,7 +36,7 @@ addEventListener("load", () => setTimeout(() => {{
 </script>{frames}<pre id="told"></pre></body></html>
 """
 # Milliseconds from the start of qc to a signal. With --speed, ALL_STARTS is used for each signal.
-STARTS = {signal.SIGINT: range(0, 101, 10), signal.SIGTERM: range(0, 401, 80),
+SIGNAL_TIMES = {signal.SIGINT: range(0, 101, 10), signal.SIGTERM: range(0, 401, 80),
           signal.SIGHUP: range(40, 401, 80)}
 ALL_STARTS = range(0, 401, 5)
 
@@ -54,23 +54,26 @@ class Inputs(Case):
         process = self.call([get_tool_path("qc"), "--batch", "list", "-o", "out", "-p",
                              self.bench.program])
         table = process.out.decode()
-        self.must("told", process.status == 2 and "4 pairs: 2 relative, 2 not judged" in table
-                  and all(
-            f" not judged          out/{name} is also an input: give another name" in table
-            for name in ("b.json", "c.txt")), (process, table))
-        self.must("as they were", all(self.read(f"out/{name}") == data
-                                      for name, data in before.items()))
-        self.must("of the others", sorted(os.listdir(self.path("out"))) == sorted([
-            *before, "index.html", *(f"{name}.{item}" for name in ("a", "a~2")
-                                     for item in ("html", "json", "txt"))]))
+        self.check("status", process.status, 2)
+        self.must("counts", "4 pairs: 2 relative, 2 not judged" in table, table)
+        for name in ("b.json", "c.txt"):
+            self.must(f"the pair that would overwrite {name}", " not judged          "
+                      f"out/{name} is also an input: give another name" in table, table)
+        self.check("inputs", {name: self.read(f"out/{name}") for name in before}, before)
+        self.check("files of the relative pairs", {*os.listdir(self.path("out"))}, {
+            *before, "index.html", *(f"{name}.{ending}" for name in ("a", "a~2")
+                                     for ending in ("html", "json", "txt"))})
 
 
 class ListLines(Case):
+    """Batches of a list with `--batch`, while standard input is a pipe."""
+
     def judge(self, list_name: str) -> CompletedCall:
         return self.call([get_tool_path("qc"), "--batch", list_name, "-p", self.bench.program],
-                         b"--page 888\n")
+                         data=b"--page 888\n")
 
     def test_an_invalid_line_affects_no_other_line(self) -> None:
+        """Line 1 has the options in `rows`, which are refused. Line 2 has none, and is accepted."""
         self.write("secret", b"root:*:20228:0:99999:7:::\n")
         self.write("marked", b"\xef\xbb\xbf--page 888\n")
         self.write("long", b"#" * 65_537)
@@ -93,9 +96,9 @@ class ListLines(Case):
             table = process.out.decode().splitlines()
             is_read = words.startswith(("--profile", "--severity")) and "\0" not in words
             self.check(f"{words[:40]}: status", process.status, 2 if is_read else 64)
-            self.must(f"{words[:40]}: the line", reason in table[1] and "root" not in table[1],
-                      table)
-            self.must(f"{words[:40]}: the next", "accepted" in table[2], table)
+            self.must(f"{words[:40]}: line 1", reason in table[1], table)
+            self.must(f"{words[:40]}: secret", "root" not in table[1], table)
+            self.must(f"{words[:40]}: line 2", "accepted" in table[2], table)
 
     def test_refuses_a_list_with_a_byte_order_mark(self) -> None:
         pair = f"{get_example_path('hello.stl')} {get_example_path('hello.pes')}\n"
@@ -118,15 +121,18 @@ class ListLines(Case):
 
 
 class MissingResources(Case):
-    def test_status_does_not_depend_on_standard_error(self) -> None:
+    """Runs of qc without standard error or with little memory."""
+
+    def test_status_and_output_do_not_depend_on_standard_error(self) -> None:
+        """Standard error is closed or full: only its own lines are missing."""
         pair = [get_example_path("story.stl"), get_example_path("story.pes")]
         wrong = [pair[0], get_example_path("five-faults.pes")]
-        rows = {"a pair": ([*pair, "--origin", "0"], 0), "one without a clock": (pair, 3),
-                "one with results": ([*pair, "--origin", "0", "-o", "out"], 0),
-                "a subtitle file": ([pair[0], "--file-only"], 0), "one that is refused": (wrong, 1),
-                "no recording": (["none.stl"], 64),
-                "no file": (["none.stl", "none.ts"], 2),
-                "a pair that is not": ([*pair, "--page", "150"], 2)}
+        rows = {"an accepted pair": ([*pair, "--origin", "0"], 0), "a relative pair": (pair, 3),
+                "an accepted pair with -o": ([*pair, "--origin", "0", "-o", "out"], 0),
+                "a valid subtitle file": ([pair[0], "--file-only"], 0),
+                "a refused pair": (wrong, 1), "no recording": (["none.stl"], 64),
+                "missing files": (["none.stl", "none.ts"], 2),
+                "a page that is not sent": ([*pair, "--page", "150"], 2)}
         for (name, (words, status)), ending in itertools.product(
                 rows.items(), ["2>&-", *["2>/dev/full"] * os.path.exists("/dev/full")]):
             known = self.call(["sh", "-c", 'exec "$0" "$@"', get_tool_path("qc"), *words, "-p",
@@ -136,30 +142,36 @@ class MissingResources(Case):
             self.check(f"{name} {ending}", process, known._replace(status=status, told=[]))
 
     def test_accepts_or_reports_too_little_memory(self) -> None:
+        """The process may use 20 to 60 MB. An example is accepted, or qc says why not."""
         pair = [get_example_path("story.stl"), get_example_path("story.pes"), "--origin", "0",
                 "-o", "out"]
+        statuses = set()
         for size in range(20_000, 64_000, 4_000):
             process = self.call(["sh", "-c", f'ulimit -v {size}; exec "$0" "$@"', sys.executable,
                                  get_tool_path("qc"), *pair, "-p", self.bench.program])
             lines = process.out.splitlines()
             is_accepted = bool(lines) and lines[-1].startswith(b"accepted")
             self.check(f"{size} kB: status", process.status, 0 if is_accepted else 2)
+            statuses.add(process.status)
             # Python 3.13 prints the traceback of an exception that it ignores.
             is_ignored = any(line.startswith("Exception ignored") for line in process.told)
             self.must(f"{size} kB: a message", is_accepted or process.told and not any(
                 "internal error:" in line or "Traceback" in line and not is_ignored
                 for line in process.told), process)
+        self.check("too little and enough", statuses, {0, 2})
 
 
 class UntrustedResults(Case):
+    """Index pages (index.html) whose rows consist of HTML fragments, chosen at random."""
+
     HTML_FRAGMENTS = ["<script>document.title='run'</script>",
                       "<img src='http://127.0.0.1:9/x' onerror='document.title=1'>",
                       '"><svg onload="document.title=1">', "</title>", "&lt;", "a b",
                       "javascript:1", "{}", "\x1b[31m", "\u202e", "</style><b>", "<!--", "]]>",
                       "'", "\n"]
 
-    def page(self, number: int) -> str:
-        chance = random.Random(number)
+    def write_index(self, seed: int) -> str:
+        chance = random.Random(seed)
 
         def text() -> str:
             return "".join(chance.choice(self.HTML_FRAGMENTS)
@@ -168,24 +180,28 @@ class UntrustedResults(Case):
         rows = [Row(text(), text(), chance.choice(["accepted", "refused", "not judged", text()]),
                     chance.randrange(3), text(), chance.randrange(9), {text(): 1, text(): 2},
                     [text()], 0.5, text(), text()) for _ in range(chance.randrange(1, 9))]
-        return self.write(f"{number}.html", make_index_page(self.folder, rows, text()))
+        return self.write(f"{seed}.html", make_index_page(self.folder, rows, text()))
 
-    def test_escapes_all_untrusted_text(self) -> None:
-        for number in range(200):
-            with open(self.page(number), encoding="utf-8") as file:
+    def test_an_index_has_only_tags_and_attributes_of_qc(self) -> None:
+        for seed in range(200):
+            with open(self.write_index(seed), encoding="utf-8") as file:
                 root = tree.fromstring(re.sub("&(times|hellip);", "", file.read()))
             for item in root.iter():
                 self.assertIn(item.tag.rpartition("}")[2], TAGS, item)
                 self.assertLessEqual(item.attrib.keys(), ATTRIBUTES, item)
+
+    def test_an_index_has_the_content_security_policy(self) -> None:
+        self.write_index(0)
         self.assertIn(POLICY, self.read("0.html").decode().replace("&#x27;", "'"))
 
-    def test_loads_and_runs_nothing_in_a_browser(self) -> None:
+    def test_an_index_runs_no_script_in_a_browser(self) -> None:
+        """The page wrong.html has a script, so that a script that runs would be detected."""
         command = find_browser()
         if command is None:
             self.skipTest("30 pages in a browser, since there is none")
         self.write("wrong.html", b"<title>a</title><table></table><script>document.title = 'run';"
                    b" console.log('run')</script>")
-        names = [*(os.path.basename(self.page(number)) for number in range(30)), "wrong.html"]
+        names = [*(os.path.basename(self.write_index(seed)) for seed in range(30)), "wrong.html"]
         all_of_them = self.write("all.html", HTML_AROUND.format(frames="".join(
             f'<iframe src="{name}"></iframe>' for name in names)).encode())
         profile = self.path("profile")
@@ -195,18 +211,20 @@ class UntrustedResults(Case):
                              f"file://{all_of_them}"])
         reported = re.search('<pre id="told">(.*)</pre>', process.out.decode(), re.S)
         texts = json.loads(html.unescape(reported[1])) if reported else []
-        self.must("each", len(texts) == len(names), process)
+        self.check("pages loaded", len(texts), len(names))
         for name, text in zip(names, texts):
             is_wrong = name == "wrong.html"
             logged = any("CONSOLE" in line and f"/{name} " in line for line in process.told)
-            self.must(name, "<table" in text and logged == is_wrong, process.told)
-            self.must(f"{name}: as it was written", ("<title>run" in text) == is_wrong)
+            self.must(f"{name}: has a table", "<table" in text, text)
+            self.check(f"{name}: a script logged, and changed the title",
+                       (logged, "<title>run" in text), (is_wrong, is_wrong))
 
 
 class EarlySignals(Case):
     def test_a_signal_gives_status_2_or_that_of_the_verdict(self) -> None:
-        for number, starts in STARTS.items():
-            for after in ALL_STARTS if self.bench.is_timed else starts:
+        """Status 2, or 0 after the line `accepted`, or a death by the signal before any output."""
+        for number, times in SIGNAL_TIMES.items():
+            for after in ALL_STARTS if self.bench.is_timed else times:
                 with subprocess.Popen(
                         [get_tool_path("qc"), get_example_path("story.stl"),
                          get_example_path("story.pes"), "--origin", "0", "-p", self.bench.program],
