@@ -2,8 +2,8 @@
 
 dev/snapshots/named.txt has the arguments, status and printed lines of each run in `named_calls`,
 and the lines of its output files that were not printed. reports.txt has the text of the reports in
-`test_report_stories`. `dev/check-tools --update test_snapshots` writes the files
-again, and `git diff` then shows how a change affects the user.
+`test_report_stories`. `dev/check-tools --update test_snapshots` writes the files again, and `git
+diff` then shows how a change affects the user.
 """
 from __future__ import annotations
 
@@ -13,7 +13,7 @@ import html
 import json
 import os
 import re
-from typing import Any, Callable, Iterable, Iterator
+from typing import Any, Iterable, Iterator
 
 from subtitles.common.program import TOP
 from . import named_calls
@@ -43,14 +43,14 @@ def shorten_lines(lines: Iterable[str], head: int = HEAD) -> list[str]:
             *lines[-TAIL:]]
 
 
-def members(value: Any, path: str = "") -> Iterator[str]:
+def list_members(value: Any, path: str = "") -> Iterator[str]:
     """Yield a line `path = value` for each non-empty member of a JSON value."""
     if isinstance(value, dict):
         for name, member in value.items():
-            yield from members(member, f"{path}.{name}".lstrip("."))
+            yield from list_members(member, f"{path}.{name}".lstrip("."))
     elif isinstance(value, list) and any(isinstance(item, (dict, list)) for item in value):
         for number, item in enumerate(value):
-            flat = [line.partition(".")[2] for line in members(item, "x")]
+            flat = [line.partition(".")[2] for line in list_members(item, "x")]
             yield f"{path}[{number}]: {'; '.join(flat)}"
     elif value not in (None, [], 0, False, "") and not OMITTED.search(path):
         yield f"{path} = {json.dumps(value, ensure_ascii=False)}"
@@ -59,12 +59,12 @@ def members(value: Any, path: str = "") -> Iterator[str]:
 def format_json_snapshot(text: str, printed: str) -> list[str]:
     """Return a line for each JSON value that is not in `printed`, and the hash of the text."""
     result = json.loads(text.replace(" SECONDS,", ' "seconds": 0,'))  # by `replace_volatile_text`
-    lines = [line for line in members(result) if "=" not in line
+    lines = [line for line in list_members(result) if "=" not in line
              or line.partition(" = ")[2].strip('"') not in printed]
     return [*shorten_lines(lines), f"whole: {compute_short_hash(text)}"]
 
 
-def page_text(text: str) -> list[str]:
+def format_page_snapshot(text: str) -> list[str]:
     """Return the text of an HTML page, one line for each element, and the hash of the page."""
     text_only = re.sub(r'<style.*?</style>|<[^<>]*?(?: aria-label="([^"]*)")?[^<>]*>',
                        lambda tag: f"\n[{tag[1]}]\n" if tag[1] else "\n", text, flags=re.DOTALL)
@@ -77,7 +77,7 @@ def format_file_snapshot(name: str, text: str, printed: str) -> list[str]:
     if name.endswith(".json") and text.startswith("{"):
         return format_json_snapshot(text, printed)
     if name.endswith(".html") and text.startswith("<"):
-        return page_text(text)
+        return format_page_snapshot(text)
     return shorten_lines(text.splitlines())
 
 
@@ -95,27 +95,23 @@ def format_call_output(output: named_calls.CallOutput) -> list[str]:
     return lines
 
 
-def report_text(name: str) -> list[str]:
-    """Return the lines stored for a report: the verdict, and the text of the report."""
+def format_report_snapshot(name: str) -> list[str]:
+    """Judge a recording of `test_report_stories`. Return its verdict and the text of its report."""
     judged, page, folder = make_report(name)
     page = named_calls.replace_volatile_text(page, BENCH.program).replace(folder, "FOLDER")
-    return [judged.verdict.word, *page_text(page)]
+    return [judged.verdict.word, *format_page_snapshot(page)]
 
 
-def run_for_snapshot(name: str) -> list[str]:
-    """Return the lines to store for a run of qc such as `named a list` or `report late`."""
-    kind, _, rest = name.partition(" ")
-    if kind == "named":
-        return format_call_output(named_calls.run_named_call(rest, BENCH.program))
-    return report_text(rest)
+def format_named_snapshot(name: str) -> list[str]:
+    return format_call_output(named_calls.run_named_call(name, BENCH.program))
 
 
 def get_snapshot_path(group: str) -> str:
     return os.path.join(FOLDER, f"{group}.txt")
 
 
-def stored(group: str) -> dict[str, list[str]]:
-    """Read the stored lines of each run in a group, by the name of the run."""
+def read_stored(group: str) -> dict[str, list[str]]:
+    """Return the stored lines of each run in a group, by the group's first word and its name."""
     result: dict[str, list[str]] = {}
     with open(get_snapshot_path(group), encoding="utf-8") as file:
         for line in file.read().split("\n")[:-1]:
@@ -126,25 +122,19 @@ def stored(group: str) -> dict[str, list[str]]:
     return result
 
 
-def store(group: str, texts: dict[str, list[str]]) -> None:
+def write_stored(group: str, texts: dict[str, list[str]]) -> None:
     with open(get_snapshot_path(group), "w", encoding="utf-8") as file:
         for name, lines in texts.items():
             file.write("\n".join([f"=== {name}", *lines, ""]))
 
 
-def compare(group: str, make: Callable[[str], list[str]], is_updated: bool) -> str:
-    """Compare all runs in a group with their stored lines.
-
-    Return a message with the changed lines, or an empty string. Store the lines if `is_updated`.
-    """
-    before = stored(group)
-    after = {name: make(name) for name in before}
-    if is_updated:
-        store(group, after)
-        return ""
-    changed = [name for name in before if before[name] != after[name]]
+def describe_changes(group: str, after: dict[str, list[str]]) -> str:
+    """Return a message with the changes of a group's stored lines, or an empty string."""
+    before = read_stored(group)
+    changed = [name for name in {**before, **after} if before.get(name) != after.get(name)]
     lines = [line for name in changed for line in (f"  in {name}:", *(
-        f"    {line}" for line in difflib.ndiff(before[name], after[name]) if line[0] in "-+"))]
+        f"    {line}" for line in difflib.ndiff(before.get(name, []), after.get(name, []))
+        if line[0] in "-+"))]
     head = f"{len(changed)} of {len(before)} calls of dev/snapshots/{group}.txt changed; " \
         "dev/check-tools --update test_snapshots writes them again"
     more = [f"  .. {len(lines) - MAX_LINES_PRINTED} more lines"] * (len(lines) > MAX_LINES_PRINTED)

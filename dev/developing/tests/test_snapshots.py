@@ -1,27 +1,28 @@
 """Run each command of dev/snapshots/, and compare its output with the stored output."""
 from __future__ import annotations
 
-import os
-from typing import Callable
+from typing import Callable, Iterable
 
-from .bench import BENCH, Case
+from .bench import Case
 from .failures import Mismatch
-from .snapshots import FOLDER, compare, run_for_snapshot
+from .named_calls import NAMED
+from .snapshots import (
+    describe_changes, format_named_snapshot, format_report_snapshot, write_stored)
+from .test_report_stories import REPORTS
 
 
 class Snapshots(Case):
-    """Tests of stored outputs, one method for each file in dev/snapshots/."""
+    """Output that dev/snapshots/ stores: with --update it is stored again, not compared."""
 
+    def compare(self, group: str, runs: Iterable[str], run: Callable[[str], list[str]]) -> None:
+        texts = {name: run(name.partition(" ")[2]) for name in runs}
+        if self.bench.is_updated:
+            write_stored(group, texts)
+        elif message := describe_changes(group, texts):
+            raise Mismatch(message)
 
-def make_test(group: str) -> Callable[[Snapshots], None]:
-    def test(_: Snapshots) -> None:
-        failure = compare(group, run_for_snapshot, BENCH.is_updated)
-        if failure:
-            raise Mismatch(failure)
+    def test_the_output_of_named_calls_of_qc_is_as_stored(self) -> None:
+        self.compare("named", (f"named {name}" for name in NAMED), format_named_snapshot)
 
-    return test
-
-
-for FILE in sorted(os.listdir(FOLDER)):
-    GROUP = FILE.partition(".")[0]
-    setattr(Snapshots, f"test_{GROUP}", make_test(GROUP))
+    def test_the_text_of_reports_is_as_stored(self) -> None:
+        self.compare("reports", (f"report {name}" for name in REPORTS), format_report_snapshot)
