@@ -24,7 +24,8 @@ QC = get_tool_path("qc")
 HELLO = [get_example_path("hello.stl"), get_example_path("hello.pes")]
 ACCEPTED = "accepted 51 frames 2 transmissions"
 CONTROL = "refused 67 Control frame 10:00:00:00 packet 0"
-# A script in place of subttx. `check` runs {alone} for a subtitle file and {said} for a recording.
+# A script in place of subttx. The command `check`, which decides about a pair, runs {alone} for a
+# subtitle file without a recording and {said} for a recording. Other commands are those of subttx.
 PROGRAM = r"""#!/bin/sh
 case "$*" in
     show*) printf '%s\n' '00001 10:00:00:00 10:00:02:00 vp 22 jc 2 text 0d0b0b48690a0a' \
@@ -35,8 +36,8 @@ case "$*" in
 esac
 """
 EMPTY = ["refused 60 Empty", "1 faults"]
-# Output of `check`, and how the script must end so that qc takes this output as valid: first if the
-# script checks a subtitle file, then if it checks a recording. `None` means never.
+# Columns: the output of `check`; the end with which qc takes this output as valid if `check` reads
+# only the subtitle file; the same if it reads the recording. `None` means that no end is valid.
 ANSWERS: dict[str, tuple[list[str], str | None, str | None]] = {
     "accepted": ([ACCEPTED], None, "exit 0"), "no PES packet": (EMPTY, "exit 1", "exit 1"),
     "a fault of the subtitle file": (["refused 50 Character block 1 at 0", "1 faults"], "exit 1",
@@ -57,8 +58,8 @@ ANSWERS: dict[str, tuple[list[str], str | None, str | None]] = {
     "usage": (["usage 0 Words"], None, None), "a fault of the machine": (["fault 90 Open"], None,
                                                                          None),
     "nothing": ([], None, None)}
-# How `check` ends, and the exit status of qc if its answer does not agree
-ENDS = {"exit 0": 70, "exit 1": 70, "exit 2": 2, "kill -9 $$": 2, "kill -11 $$": 70}
+# How `check` ends, and the exit status of qc if this is not the valid end: 70 is a bug of the tools.
+INVALID_ENDS = {"exit 0": 70, "exit 1": 70, "exit 2": 2, "kill -9 $$": 2, "kill -11 $$": 70}
 
 
 class EndedCall(NamedTuple):
@@ -114,20 +115,24 @@ class CallCase(Case):
 
 
 class Programs(CallCase):
+    """Runs of qc with a program that prints invalid answers or fails."""
+
     def test_judges_only_by_a_valid_answer_of_check(self) -> None:
-        for (name, (lines, of_file, of_pair)), end in itertools.product(ANSWERS.items(), ENDS):
+        for (name, (lines, of_file, of_pair)), end in itertools.product(ANSWERS.items(),
+                                                                        INVALID_ENDS):
             alone = self.fake_program(alone=lines, then_alone=end, then="exit 9")
-            status = ENDS[end] if end != of_file else 0 if lines == EMPTY else 1
+            status = INVALID_ENDS[end] if end != of_file else 0 if lines == EMPTY else 1
             self.check_judged(f"{name}, {end}, alone", status, self.qc(
                 HELLO[0], "--file-only", "-p", alone, "--json", "one.json"))
             if end != of_file:
-                self.check_judged(f"{name}, {end}, with a recording", ENDS[end],
+                self.check_judged(f"{name}, {end}, with a recording", INVALID_ENDS[end],
                                   self.judge(alone, "--json", "one.json"))
-            status = ENDS[end] if end != of_pair else 0 if end == "exit 0" else 1
+            status = INVALID_ENDS[end] if end != of_pair else 0 if end == "exit 0" else 1
             self.check_judged(f"{name}, {end}", status, self.judge(
                 self.fake_program(*lines, then=end), "--json", "one.json"))
 
     def check_judged(self, name: str, status: int, ended: EndedCall) -> None:
+        """Check the status in one.json too, and with 2 or 70 that the pair is not judged."""
         known = self.object()
         with self.subTest(name):
             self.assertEqual((ended.status, known["status"], known["line"] is None),
@@ -138,6 +143,7 @@ class Programs(CallCase):
                 self.assertEqual(ended.told, [f"qc: {known['reason']}"])
 
     def test_judges_only_if_each_call_of_the_program_succeeds(self) -> None:
+        """The program runs `does` in place of the calls that match the shell pattern `when`."""
         for when, several in (
                 ("check*null", ("exit 0", "kill -9 $$")), ("show*", ("exit 0", "exit 1",
                                                                      "kill -9 $$")),
@@ -151,7 +157,7 @@ class Programs(CallCase):
             for does in several:
                 program = self.make_program_with_exception(when, does)
                 with self.subTest(when=when, does=does):
-                    self.write("one.json", b"{as it was")
+                    self.write("one.json", b"{")  # qc must replace this earlier result
                     process = self.qc(get_example_path("story.stl"),
                                       get_example_path("recording.ts"), "-p", program, "--json",
                                       "one.json")
@@ -165,6 +171,7 @@ class Programs(CallCase):
                     self.assertTrue(all(line.startswith("qc: ") for line in process.told), process)
 
     def test_never_prints_accepted_without_a_clock(self) -> None:
+        """`check` prints "accepted", but no option gives a clock: the pair is relative."""
         self.write("profile", b"--relative\n")
         program, line = self.fake_program(ACCEPTED), "relative 51 frames 2 transmissions"
         for words, status in (((), 3), (("--relative",), 0), (("--profile", "profile"), 0),
@@ -189,8 +196,14 @@ class Programs(CallCase):
             self.assertIn(known["sentence"], case[0].text or "", status)
             self.assertNotIn("ccepted", self.text("one.csv") + self.text("one.xml"), status)
             self.assertIn(f"<dd>{last}</dd>", self.text("out/hello.html"), status)
+
+    def test_options_that_change_nothing_with_a_clock(self) -> None:
+        program = self.fake_program(ACCEPTED)
         self.assertEqual(self.judge(program, "--strict").status, 0)
         self.assertEqual(self.judge(program, "--relative").printed, self.judge(program).printed)
+
+    def test_quiet_prints_only_the_last_two_lines(self) -> None:
+        program = self.fake_program(ACCEPTED)
         self.assertEqual(self.judge(program, "--quiet").printed, self.judge(program).printed[-2:])
 
 
@@ -201,7 +214,7 @@ class UsageErrors(CallCase):
             self.assertEqual((process.status, json.loads("".join(process.printed))["status"]),
                              (status, status), process)
 
-    def test_never_overwrites_an_input(self) -> None:
+    def test_never_overwrites_a_file_named_in_wrong_arguments(self) -> None:
         for name in ("one.stl", "one.pes", "list"):
             self.write(name, b"an input")
             for words in (["one.stl", "one.pes", "--every", "x"], ["one.stl", "--none"],
@@ -210,6 +223,8 @@ class UsageErrors(CallCase):
                 process = self.qc(*words, "--json", name)
                 self.assertEqual((process.status, self.read(name)), (
                     2 if "--severity" in words else 64, b"an input"), (name, words))
+
+    def test_never_overwrites_an_input(self) -> None:
         program = self.fake_program(ACCEPTED)
         os.mkdir(self.path("in"))
         for name, data in (("list", f"{HELLO[0]} {self.path('in/one.pes')}\n".encode()),
@@ -218,7 +233,6 @@ class UsageErrors(CallCase):
             self.write(name, data)
         pair = ["in/one.stl", "in/one.pes", "--severity", "severity", "--origin", "0"]
         self.assertEqual(self.qc(*pair, "-p", program, "--json", "in/one.json").status, 0)
-        kept = self.read("in/one.json")
         os.symlink("severity", self.path("link"))
         batch = ["--severity", "severity", "--batch"]
         calls = [(pair, ["in/one.stl", "in/one.pes", "severity", "link"]),
@@ -230,17 +244,16 @@ class UsageErrors(CallCase):
                 before = self.read(name)
                 more = [] if "--collect" in words else ["-p", program]
                 process = self.qc(*words, option, name, *more)
-                self.assertEqual((process.status, process.told, self.read(name)),
-                                 (2, [f"qc: {name} is also an input: give another "
-                                      "name"], before), (words, option))
-        self.assertEqual(kept, self.read("in/one.json"))
+                self.assertEqual((process.status, process.told, self.read(name)), (2, [
+                    f"qc: {name} is also an input: give another name"], before), (words, option))
 
 
 class Bugs(CallCase):
+    """Errors of the tools themselves: status 70, or 2 before the tool can start."""
+
     def check_bug_message(self, place: str, error: Exception) -> None:
         """Check that qc gives no verdict and reports `error` if the function `place` raises it."""
-        if os.path.exists(self.path("one.json")):
-            os.unlink(self.path("one.json"))
+        self.write("one.json", b"")
         with mock.patch(f"subtitles.{place}", side_effect=error):
             process = self.judge(self.fake_program(ACCEPTED), "--json", "one.json")
         known = self.object()
@@ -253,16 +266,16 @@ class Bugs(CallCase):
 
     def test_reports_a_bug_in_each_step(self) -> None:
         for place in ("judging.pair.PairJudge.judge", "judging.pair.check_file_alone",
-                      "judging.timing.estimate_origin",
-                      "judging.pair.explain_part", "judging.part.Part.is_read",
-                      "judging.check.CheckOutput.read_line", "cli.main.make_parser",
-                      "cli.single.make_request",
+                      "judging.timing.estimate_origin", "judging.pair.explain_part",
+                      "judging.part.Part.is_read", "judging.check.CheckOutput.read_line",
+                      "cli.main.make_parser", "cli.single.make_request",
                       "cli.single.CommandPaths", "cli.single.describe_inputs",
                       "results.files.make_list_chunks", "cli.single.describe_program"):
             with self.subTest(place):
                 self.check_bug_message(place, ValueError("odd"))
 
     def test_has_status_2_if_a_module_cannot_be_imported(self) -> None:
+        """One line is printed, or none if standard error is closed or full."""
         for ending, count in (("", 1), ("2>&-", 0), ("2>/dev/full", 0)):
             process = subprocess.run(
                 ["sh", "-c", f'exec "$0" "$@" {ending}', sys.executable, "-c",
