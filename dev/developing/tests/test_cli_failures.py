@@ -58,7 +58,7 @@ ANSWERS: dict[str, tuple[list[str], str | None, str | None]] = {
     "usage": (["usage 0 Words"], None, None), "a fault of the machine": (["fault 90 Open"], None,
                                                                          None),
     "nothing": ([], None, None)}
-# How `check` ends, and the exit status of qc if this is not the valid end: 70 is a bug of the tools.
+# How `check` ends, and the exit status of qc if this is not the valid end (70: a bug of subttx).
 INVALID_ENDS = {"exit 0": 70, "exit 1": 70, "exit 2": 2, "kill -9 $$": 2, "kill -11 $$": 70}
 
 

@@ -3,12 +3,13 @@ from __future__ import annotations
 
 import itertools
 import random
+import re
 from collections import Counter
-from typing import Any
+from typing import Any, Iterable
 
 from developing.pes import make_packet
 from subtitles.cli.measure import (
-    Delays, LateCue, MAX_EXAMPLES, find_sent_options, format_name_lines, list_refused,
+    Delays, Finding, LateCue, MAX_EXAMPLES, find_sent_options, format_name_lines, list_refused,
     list_separate_cues, measure_delays, measure_recording, propose_keeping, propose_lateness,
     propose_option, remove_unusual)
 from subtitles.common.command_line import MAX_WITHIN
@@ -23,6 +24,7 @@ from .bench import Case
 from .judged import judge_files
 from .parts import make_example_request
 from .inserters import INSERTERS, BLANK_FRAMES, Inserter, Programme
+from .stories import read_table
 from .transmissions import (
     ORIGIN, PAGE, add_pauses, join_pes_packets, write_programme, schedule_pages, subtitle_times)
 from .test_judging_reasons import KEEPING_HEADER
@@ -30,57 +32,6 @@ from .test_judging_reasons import KEEPING_HEADER
 ENGLISH = OPTION_BY_WORD["english"]
 GERMAN_HEADER = make_packet(0, 0, bytes([8, 8, 0, 8, 0, 8, 1, 8]), b" " * 32)
 GERMAN_KEEPING = make_packet(0, 0, bytes([8, 8, 0, 0, 0, 8, 1, 8]), b" " * 32)
-KINDS = {"missing": b"", "late": b"", "keeping": KEEPING_HEADER, "german": GERMAN_HEADER}
-# Columns: subtitles (begin, end, text); page changes; first and last received frame; expected
-# delays of in-cues; expected delays of out-cues; expected early cues and missing subtitles.
-FIRST_SHOWN, SECOND_SHOWN = (100, 150, "a"), (200, 250, "b")
-ShownText = tuple[int, int, str]
-ROWS: list[tuple[list[ShownText], dict[int, str], tuple[int, int], list[int], list[int],
-                 list[str]]] = [
-    ([FIRST_SHOWN, SECOND_SHOWN], {100: "a", 150: "", 200: "b", 250: ""}, (0, 999), [0, 0],
-     [0, 0], []),
-    ([FIRST_SHOWN, SECOND_SHOWN], {103: "a", 152: "", 201: "b", 250: ""}, (0, 999), [3, 1],
-     [2, 0], []),
-    # Cues at the first or last received frame are ignored.
-    ([FIRST_SHOWN], {100: "a", 150: ""}, (100, 999), [], [0], []),
-    ([FIRST_SHOWN], {101: "a", 150: ""}, (100, 999), [1], [0], []),
-    ([FIRST_SHOWN], {100: "a"}, (0, 149), [0], [], []),
-    ([FIRST_SHOWN], {100: "a"}, (0, 151), [0], [], []),
-    ([FIRST_SHOWN], {100: "a", 151: ""}, (0, 151), [0], [1], []),
-    # Cues that are a frame or more early are listed.
-    ([FIRST_SHOWN], {99: "a", 149: ""}, (0, 999), [], [], ["begins 1 frame", "ends 1 frame"]),
-    ([FIRST_SHOWN], {75: "a", 147: ""}, (0, 999), [], [], ["begins 25 frames", "ends 3 frames"]),
-    ([FIRST_SHOWN], {60: "a", 70: "", 100: "a", 150: ""}, (0, 999), [0], [0], []),
-    ([FIRST_SHOWN], {80: "a", 90: "", 100: "a", 150: ""}, (0, 999), [], [0], ["begins 20 frames"]),
-    ([FIRST_SHOWN], {70: "a", 76: "", 100: "a", 150: ""}, (0, 999), [], [0], ["begins 30 frames"]),
-    ([FIRST_SHOWN], {70: "a", 75: "", 100: "a", 150: ""}, (0, 999), [0], [0], []),
-    # If the same text is sent again, its in-cue is measured only if the pause exceeds a second.
-    ([FIRST_SHOWN, (176, 220, "a")], {100: "a", 150: "", 178: "a", 220: ""}, (0, 999), [0, 2],
-     [0, 0], []),
-    ([FIRST_SHOWN, (175, 220, "a")], {100: "a", 150: "", 178: "a", 220: ""}, (0, 999), [0],
-     [0, 0], []),
-    ([FIRST_SHOWN, (160, 220, "b")], {100: "a", 150: "", 163: "b", 220: ""}, (0, 999), [0, 3],
-     [0, 0], []),
-    # If two subtitles adjoin, the TCO of the first is the TCI of the second.
-    ([FIRST_SHOWN, (150, 200, "b")], {100: "a", 152: "b", 200: ""}, (0, 999), [0, 2], [0], []),
-    ([FIRST_SHOWN, (151, 200, "b")], {100: "a", 150: "", 152: "b", 200: ""}, (0, 999), [0, 1],
-     [0, 0], []),
-    ([FIRST_SHOWN, (150, 200, "a")], {100: "a", 201: ""}, (0, 999), [0], [1], []),
-    # If a subtitle is sent again within two seconds of its TCO, its out-cue is the last erasure.
-    ([FIRST_SHOWN], {100: "a", 110: "", 120: "a", 150: ""}, (0, 999), [0], [0], []),
-    ([FIRST_SHOWN], {100: "a", 200: ""}, (0, 999), [0], [50], []),
-    ([FIRST_SHOWN], {100: "a", 150: "", 200: "a", 210: ""}, (0, 999), [0], [60], []),
-    ([FIRST_SHOWN], {100: "a", 150: "", 201: "a", 210: ""}, (0, 999), [0], [0], []),
-    ([FIRST_SHOWN, (180, 230, "b")], {100: "a", 150: "", 180: "a", 182: "b", 230: ""}, (0, 999),
-     [0, 2], [0, 0], []),
-    # Some subtitles were never sent, or have no characters.
-    ([FIRST_SHOWN, SECOND_SHOWN], {100: "a", 150: ""}, (0, 999), [0], [0], ["2"]),
-    ([FIRST_SHOWN, SECOND_SHOWN], {100: "a", 150: "", 250: "b"}, (0, 999), [0], [0], ["2"]),
-    ([FIRST_SHOWN, (170, 220, "a")], {100: "a", 150: ""}, (0, 999), [0], [0], ["2"]),
-    ([FIRST_SHOWN, (160, 170, ""), SECOND_SHOWN], {100: "a", 150: "", 200: "b", 250: ""}, (0, 999),
-     [0, 0], [0, 0], [])]
-
-
 def make_timeline_with(pages: dict[int, str], first: int, last: int) -> Timeline:
     """Return a timeline in which the page changes to one character or to blank at these frames."""
     decoded = Timeline(Packets(0), PAGE, 0)
@@ -92,59 +43,147 @@ def make_timeline_with(pages: dict[int, str], first: int, last: int) -> Timeline
 
 
 class Cues(Case):
-    def test_measures_the_delay_of_each_cue(self) -> None:
-        for shown, pages, received, begins, ends, words in ROWS:
-            subtitles = [Subtitle(at, at, begin, end, 20, 2, text.encode())
-                         for at, (begin, end, text) in enumerate(shown, 1)]
-            found = measure_delays("x.stl", subtitles, make_timeline_with(pages, *received),
+    """The delays of a file's cues, measured from the page on air.
+
+    `subtitles` has each text (- if empty) with its TCI and TCO in frames, `on air` the frames at
+    which the page changes to a text or to blank (-), and `received` the first and last received
+    frame. Expected: the delays of in-cues and out-cues in frames, early cues, unsent subtitles.
+    """
+
+    def check_delays(self, table: str) -> None:
+        for row in read_table(table):
+            subtitles = [Subtitle(at, at, int(begin), int(end), 20, 2, text.strip("-").encode())
+                         for at, (text, begin, end) in enumerate(
+                             re.findall(r"(\S) (\d+)-(\d+)", row["subtitles"]), 1)]
+            pages = {int(frame): text.strip("-")
+                     for frame, text in re.findall(r"(\d+) (\S)", row["on air"])}
+            first, last = map(int, row.get("received", "0-999").split("-"))
+            found = measure_delays("x.stl", subtitles, make_timeline_with(pages, first, last),
                                    ENGLISH)
-            early = [word for word in words if " " in word]
-            self.must(f"{shown} {pages} {received}", (found.begins, found.ends) == (
-                Counter(begins), Counter(ends)) and [
-                    line.partition(" at ")[2] for line in found.early] == [
-                        f"00:00:04:00 {word} early" for word in early] and [
-                            line.split()[2] for line in found.unseen] == [
-                                word for word in words if " " not in word], found)
+            name = f"{row['subtitles']}; {row['on air']}"
+            for column, delays in ("in-cues", found.begins), ("out-cues", found.ends):
+                self.check(f"{name}: {column}", delays, Counter(map(int, row[column].split())))
+            self.check(f"{name}: early", ", ".join(line.partition(" at 00:00:04:00 ")[2]
+                                                   for line in found.early), row.get("early", ""))
+            self.check(f"{name}: unsent", " ".join(line.split()[2] for line in found.unseen),
+                       row.get("unsent", ""))
+
+    def test_measures_the_delay_of_each_cue(self) -> None:
+        self.check_delays("""
+        subtitles            | on air                     | in-cues | out-cues
+        a 100-150, b 200-250 | 100 a, 150 -, 200 b, 250 - | 0 0     | 0 0
+        a 100-150, b 200-250 | 103 a, 152 -, 201 b, 250 - | 3 1     | 2 0
+        """)
+
+    def test_ignores_cues_at_the_first_or_after_the_last_received_frame(self) -> None:
+        self.check_delays("""
+        subtitles | on air       | received | in-cues | out-cues
+        a 100-150 | 100 a, 150 - | 100-999  |         | 0
+        a 100-150 | 101 a, 150 - | 100-999  | 1       | 0
+        a 100-150 | 100 a        | 0-149    | 0       |
+        a 100-150 | 100 a        | 0-151    | 0       |
+        a 100-150 | 100 a, 151 - | 0-151    | 0       | 1
+        """)
+
+    def test_lists_early_cues_unless_the_page_ended_a_second_before_the_tci(self) -> None:
+        self.check_delays("""
+        subtitles | on air                    | in-cues | out-cues | early
+        a 100-150 | 99 a, 149 -               |    |   | begins 1 frame early, ends 1 frame early
+        a 100-150 | 75 a, 147 -               |    |   | begins 25 frames early, ends 3 frames early
+        a 100-150 | 60 a, 70 -, 100 a, 150 -  | 0  | 0 |
+        a 100-150 | 80 a, 90 -, 100 a, 150 -  |    | 0 | begins 20 frames early
+        a 100-150 | 70 a, 76 -, 100 a, 150 -  |    | 0 | begins 30 frames early
+        a 100-150 | 70 a, 75 -, 100 a, 150 -  | 0  | 0 |
+        """)
+
+    def test_measures_the_in_cue_of_a_repeated_text_only_after_a_pause_of_a_second(self) -> None:
+        self.check_delays("""
+        subtitles            | on air                     | in-cues | out-cues
+        a 100-150, a 176-220 | 100 a, 150 -, 178 a, 220 - | 0 2     | 0 0
+        a 100-150, a 175-220 | 100 a, 150 -, 178 a, 220 - | 0       | 0 0
+        a 100-150, b 160-220 | 100 a, 150 -, 163 b, 220 - | 0 3     | 0 0
+        """)
+
+    def test_measures_no_out_cue_if_the_next_subtitle_adjoins(self) -> None:
+        self.check_delays("""
+        subtitles            | on air                     | in-cues | out-cues
+        a 100-150, b 150-200 | 100 a, 152 b, 200 -        | 0 2     | 0
+        a 100-150, b 151-200 | 100 a, 150 -, 152 b, 200 - | 0 1     | 0 0
+        a 100-150, a 150-200 | 100 a, 201 -               | 0       | 1
+        """)
+
+    def test_the_out_cue_is_the_last_erasure_of_a_text_within_two_seconds_of_its_tco(self) -> None:
+        self.check_delays("""
+        subtitles            | on air                            | in-cues | out-cues
+        a 100-150            | 100 a, 110 -, 120 a, 150 -        | 0       | 0
+        a 100-150            | 100 a, 200 -                      | 0       | 50
+        a 100-150            | 100 a, 150 -, 200 a, 210 -        | 0       | 60
+        a 100-150            | 100 a, 150 -, 201 a, 210 -        | 0       | 0
+        a 100-150, b 180-230 | 100 a, 150 -, 180 a, 182 b, 230 - | 0 2     | 0 0
+        """)
+
+    def test_lists_subtitles_that_were_never_sent_and_ignores_empty_ones(self) -> None:
+        self.check_delays("""
+        subtitles                       | on air                     | in-cues | out-cues | unsent
+        a 100-150, b 200-250            | 100 a, 150 -               | 0       | 0        | 2
+        a 100-150, b 200-250            | 100 a, 150 -, 250 b        | 0       | 0        | 2
+        a 100-150, a 170-220            | 100 a, 150 -               | 0       | 0        | 2
+        a 100-150, - 160-170, b 200-250 | 100 a, 150 -, 200 b, 250 - | 0 0     | 0 0      |
+        """)
+
+
+def join_options(findings: Iterable[Finding]) -> str:
+    return "|".join(finding.text for finding in findings if finding.text)
+
+
+class Proposals(Case):
+    """The options that --measure proposes from delays in frames, headers and repeats."""
 
     def test_proposes_the_longest_delay_of_all_recordings(self) -> None:
-        most = MAX_WITHIN
+        most, without_cues = MAX_WITHIN, Delays(Counter(), Counter(), ["z"], [])
         rows: list[tuple[list[int], list[int], str]] = [
             ([0, 0], [0], ""), ([0, 2], [1], "--within 2|--late 0:1,2:1/1:1"),
             ([0], [3], "--within 3|--late 0:1/3:1"), ([2], [], ""), ([], [2], ""),
             ([most], [0], f"--within {most}|--late {most}:1/0:1"), ([most + 1], [0], ""),
             ([0], [most + 1], "")]
-        for begins, ends, expected in rows:
+        for begins, ends, options in rows:
             item = Delays(Counter(begins), Counter(ends), ["x"], ["y"])
-            for some in ([item], [item, Delays(Counter(), Counter(), ["z"], [])],
-                         [Delays(Counter(), Counter(), ["z"], []), item]):
-                result = [*propose_lateness(some, [])]
+            for several in ([item], [item, without_cues], [without_cues, item]):
+                result = [*propose_lateness(several, [])]
+                name = f"in-cues {begins}, out-cues {ends}, {len(several)} recordings"
+                self.check(name, join_options(result), options)
                 lines = [line for finding in result for line in finding.lines]
-                self.must(f"{begins} {ends}", "|".join(filter(None, (
-                    finding.text for finding in result))) == expected and any(
-                        f"within can be at most {most} frames" in line for line in lines) == (
-                            most + 1 in (*begins, *ends)) and sum(
-                                "z" in line for line in lines) == len(some) - 1 and
-                    "text never sent: y" in lines, result)
+                self.check(f"{name}: is the limit mentioned", any(
+                    f"within can be at most {most} frames" in line for line in lines),
+                    most + 1 in (*begins, *ends))
+                early = "; ".join(cue for delays in several for cue in delays.early)
+                self.must(f"{name}: early and unsent", {
+                    f"early, which no option accepts: {early}", "text never sent: y"} <= {*lines})
+
+    def test_proposes_within_1_if_a_twentieth_of_the_pts_are_off_frame(self) -> None:
         on_time = [Delays(Counter([0]), Counter([0]), [], [])]
-        of_off: list[tuple[list[Delays], tuple[int, int], str]] = [
-            (on_time, (0, 100), ""), (on_time, (4, 100), ""), ([], (4, 100), ""),
-            (on_time, (5, 100), "--within 1|--late 0:1/0:1"), ([], (5, 100), "--within 1"),
-            ([Delays(Counter(), Counter([0]), [], [])], (5, 100), "--within 1"),
-            ([Delays(Counter([3]), Counter([0]), [], [])], (50, 100), "--within 3|--late 3:1/0:1")]
-        for delays, off, expected in of_off:
-            result = [*propose_lateness(delays, [], off)]
-            self.check(f"{delays}, {off} off", "|".join(filter(None, (
-                finding.text for finding in result))), expected)
+        rows: list[tuple[list[Delays], int, str]] = [  # delays, PTS off frame of 100, options
+            (on_time, 0, ""), (on_time, 4, ""), ([], 4, ""),
+            (on_time, 5, "--within 1|--late 0:1/0:1"), ([], 5, "--within 1"),
+            ([Delays(Counter(), Counter([0]), [], [])], 5, "--within 1"),
+            ([Delays(Counter([3]), Counter([0]), [], [])], 50, "--within 3|--late 3:1/0:1")]
+        for delays, off_frame, options in rows:
+            self.check(f"{delays}, {off_frame} off", join_options(
+                propose_lateness(delays, [], (off_frame, 100))), options)
+
+    def test_names_at_most_the_first_examples(self) -> None:
         names = [f"n{at}" for at in range(MAX_EXAMPLES + 2)]
-        for count, end in ((0, None), (MAX_EXAMPLES, ""), (MAX_EXAMPLES + 1, ", and 1 more"),
+        self.check("no names", format_name_lines("what", []), [])
+        for count, end in ((MAX_EXAMPLES, ""), (MAX_EXAMPLES + 1, ", and 1 more"),
                            (MAX_EXAMPLES + 2, ", and 2 more")):
-            self.must(f"{count} names", format_name_lines("what", names[:count]) == (
-                [] if end is None
-                else [f"what: {'; '.join(names[:min(count, MAX_EXAMPLES)])}{end}"]))
+            self.check(f"{count} names", format_name_lines("what", names[:count]),
+                       [f"what: {'; '.join(names[:MAX_EXAMPLES])}{end}"])
+
+    def test_proposes_keeping_if_a_twentieth_of_the_headers_keep_the_page(self) -> None:
         for headers, keeping, is_alone in itertools.product((9, 20, 21), (0, 1), (False, True)):
-            found_words = propose_keeping(headers, keeping, is_alone).text
-            self.must(f"{keeping} of {headers}, {is_alone}", bool(found_words) == (
-                keeping > 0 and headers < 21 and is_alone))
+            finding = propose_keeping(headers, keeping, is_alone)
+            self.check(f"{keeping} of {headers} headers, no other control bit is wrong: {is_alone}",
+                       finding.text, "--keeping" if keeping and headers < 21 and is_alone else "")
 
     def test_lists_the_delays_and_the_headers_that_keep_the_page(self) -> None:
         delays = Delays(Counter([2, 0, 2]), Counter([1]), ["x"], [])
@@ -155,12 +194,15 @@ class Cues(Case):
                    ["keeping: C4 (erase page) is clear in 24 of 59 headers"])
 
     def test_ignores_delays_of_fewer_than_one_cue_in_twenty(self) -> None:
+        """Arguments and results map each delay in frames to its number of cues."""
         self.check_rows(lambda delays: dict(remove_unusual(Counter(delays))), {
             "none": (({},), {}), "one alone": (({5: 1},), {5: 1}),
             "one of twenty": (({0: 19, 5: 1},), {0: 19, 5: 1}),
             "one of 21": (({0: 20, 5: 1},), {0: 20}),
             "two of 40, each alone": (({0: 38, 4: 1, 5: 1},), {0: 38, 4: 1}),
             "a tail": (({0: 45, 1: 4, 2: 1},), {0: 45, 1: 4})})
+
+    def test_names_a_cue_that_is_later_than_proposed(self) -> None:
         late = Delays(Counter({0: 89, 5: 1}), Counter({0: 90}), [], [],
                       [LateCue(5, "x begins late")])
         result = [*propose_lateness([late], [])]
@@ -172,6 +214,7 @@ class Cues(Case):
             "begins late"])
 
     def test_names_the_cues_whose_delays_are_separate(self) -> None:
+        # The number of in-cues with each delay in frames, and the line that names late cues.
         rows: dict[str, tuple[dict[int, int], str]] = {
             "none": ({}, ""), "all": ({5: 9}, ""), "next to each other": ({0: 5, 1: 2, 2: 1}, ""),
             "one": ({0: 13, 2: 1}, "1 of 14 in-cues is at least 2 frames late, the others at most "
@@ -187,6 +230,7 @@ class Cues(Case):
                        [line] if line else [])
 
     def test_proposes_the_option_of_all_headers(self) -> None:
+        # C12 to C14 of the headers, the subtitle text, the proposal, and the printed option.
         both = "english or polish, by the region to which the receiver is set (chosen: "
         of_file = "all characters of the subtitle files)"
         rows: dict[str, tuple[Any, tuple[str, str]]] = {
@@ -206,6 +250,7 @@ class Cues(Case):
                 f"option: C12 to C14 of the headers select {words}; the text was read as english"]))
 
     def test_a_lost_repeat_is_an_exception(self) -> None:
+        """Headers in `frames`: the longest usual interval, and longer ones (frame, length)."""
         for name, frames, longest, exceptions in (
                 ("one is lost", [*range(0, 400, 25), *range(425, 900, 25)], 25, [(375, 50)]),
                 ("one of twenty", [*range(0, 400, 25), *range(425, 550, 25)], 50, []),
@@ -217,35 +262,45 @@ class Cues(Case):
 
 
 class Parts(Case):
+    """A recording of 24 subtitles in two parts, with a break of 130 frames between them."""
+
     def test_measures_each_part_of_a_recording(self) -> None:
+        """One part has a missing repeat, an in-cue 2 frames late, or two headers with other bits.
+        """
         stl = write_programme(self, subtitle_times(24))
         sent = schedule_pages(self, stl)
-        places = [next(at for at, (pts, _) in enumerate(sent) if pts == frame * TICKS)
-                  for frame in (425, 1225)]  # frame of a repeat in each part
-        typed = CommandPaths("tools/qc", self.bench.program)
-        for number, (part, what) in enumerate(itertools.product((0, 1), KINDS)):
-            begin, changed = places[part] - 1, [*sent]
+        repeats = [next(at for at, (pts, _) in enumerate(sent) if pts == frame * TICKS)
+                   for frame in (425, 1225)]  # frame of a repeat in each part
+        headers = {"keeping": KEEPING_HEADER, "german": GERMAN_HEADER}
+        for number, (part, what) in enumerate(itertools.product(
+                (0, 1), ("missing", "late", *headers))):
+            repeat, changed = repeats[part], [*sent]
             if what == "late":
-                changed[begin] = (sent[begin][0] + 2 * TICKS, sent[begin][1])
+                changed[repeat - 1] = (sent[repeat - 1][0] + 2 * TICKS, sent[repeat - 1][1])
             elif what == "missing":
-                del changed[places[part]]
+                del changed[repeat]
             else:
-                for at in (places[part], places[part] + 1):
-                    changed[at] = (sent[at][0], [KINDS[what], *sent[at][1][1:]])
+                for at in (repeat, repeat + 1):
+                    changed[at] = (sent[at][0], [headers[what], *sent[at][1][1:]])
             path = self.write("one.pes", join_pes_packets(add_pauses(changed, 130)))
-            recording = measure_recording(
-                make_example_request(stl, path, "--breaks", "1", "--origin", f"{ORIGIN}"), typed,
-                             self.path(f"{number}"))
-            self.must(f"{what} in {part}", ([(item.longest, len(item.exceptions))
-                                             for item in recording.repeats], recording.headers,
-                      recording.is_alone, recording.option_bits) == (
-                          [(25, int(what == "missing" and part == at)) for at in (0, 1)],
-                          (len(changed), 2 * (what == "keeping")), what != "german",
-                          {0, *[4] * (what == "german")}) and
-                      [item.begins[2] for item in recording.delays] == [
-                          int(what == "late" and part == at) for at in (0, 1)] and
-                      not any(item.unseen or item.early for item in recording.delays) and
-                      len(recording.paces) == 2 and len(recording.sendings) == 24, recording)
+            measured = measure_recording(
+                make_example_request(stl, path, "--breaks", "1", "--origin", f"{ORIGIN}"),
+                CommandPaths("tools/qc", self.bench.program), self.path(f"{number}"))
+            name, both = f"{what} in part {part}", (0, 1)
+            self.check(f"{name}: longest intervals, missing repeats", [
+                (item.longest, len(item.exceptions)) for item in measured.repeats],
+                [(25, int(what == "missing" and part == at)) for at in both])
+            self.check(f"{name}: all headers, keeping headers", measured.headers,
+                       (len(changed), 2 * (what == "keeping")))
+            self.check(f"{name}: are other control bits right", measured.is_alone, what != "german")
+            self.check(f"{name}: C12 to C14", measured.option_bits, {0, *[4] * (what == "german")})
+            self.check(f"{name}: in-cues that are 2 frames late",
+                       [item.begins[2] for item in measured.delays],
+                       [int(what == "late" and part == at) for at in both])
+            self.must(f"{name}: no subtitle is unsent or early", not any(
+                item.unseen or item.early for item in measured.delays), measured.delays)
+            self.check(f"{name}: paces, subtitles sent",
+                       (len(measured.paces), len(measured.sendings)), (2, 24))
 
 
 SEEDS, ALL_SEEDS = 20, 200  # number of random programmes, and their number with --speed
@@ -253,6 +308,8 @@ ACCEPTED = "# With this profile, qc refuses none of these recordings."
 
 
 class Profiles(Case):
+    """The profile that `qc --measure` prints for recordings of random programmes."""
+
     def profile(self, *programme: Programme) -> tuple[list[str], list[str]]:
         """Measure recordings with qc. Return the lines of the profile and the recordings' paths."""
         paths = [self.write(f"{item.number}.pes", join_pes_packets(item.sent()))
@@ -266,9 +323,9 @@ class Profiles(Case):
 
     def test_accepts_its_own_recordings_or_lists_others(self) -> None:
         for seed in range(ALL_SEEDS if self.bench.is_timed else SEEDS):
-            self.measure(seed)
+            self.check_profile_of(seed)
 
-    def measure(self, seed: int) -> None:
+    def check_profile_of(self, seed: int) -> None:
         """Check that the profile of one or two random programmes accepts them or lists them."""
         chance = random.Random(seed)
         inserter = chance.choice(INSERTERS)
@@ -288,17 +345,21 @@ class Profiles(Case):
         made = [Programme(self, number, Inserter("two a frame", each=2)) for number in (0, 1)]
         lines, _ = self.profile(*made)
         self.check("accepted", ("--within 1" in lines, lines[-1]), (True, ACCEPTED))
+
+    def test_does_not_allow_a_single_off_frame_pts(self) -> None:
+        """One PES packet is 7 ticks late."""
         single = Programme(self, 2, Inserter("one a frame"))
         sent = single.sent()
         sent[BLANK_FRAMES] = (sent[BLANK_FRAMES][0] + 7, sent[BLANK_FRAMES][1])
         process = self.tool("qc", "--measure", single.stl,
                             self.write("one.pes", join_pes_packets(sent)), "--origin", "0", "-p",
                             self.bench.program)
-        self.check("one alone", [line.partition(" PTS ")[2] for line in process.out.decode(
+        self.check("messages about PTS", [line.partition(" PTS ")[2] for line in process.out.decode(
             ).splitlines() if line.startswith("# within: 1 of ")],
                    ["differ from their frames, which check refuses with --within 0 (fault 61)"])
 
     def test_names_an_unusual_delay_and_refuses_it(self) -> None:
+        """In-cues are 0 or 1 frame late, except that of one subtitle, which is later."""
         programme = Programme(self, 7, Inserter("usual", begins=(0, 0, 1)), 40)
         late = programme.delay_random_subtitle()
         lines, _ = self.profile(programme)
@@ -313,13 +374,14 @@ class Profiles(Case):
         stl = write_programme(self, subtitle_times(2))
         path = self.write("one.pes", join_pes_packets(schedule_pages(self, stl)))
         requests = [make_example_request(stl, path, "--origin", "0", "--page", page)
-                    for page in ("888", "100")]
+                    for page in ("888", "100")]  # only page 888 is sent
         lines = [*list_refused(requests, CommandPaths("tools/qc", self.bench.program),
                                self.folder)]
         self.check("lines", [line.rpartition(f"{path}: ")[2] for line in lines], [
             "Not judged: the recording does not contain the page at the time of the subtitles"])
 
     def test_decodes_by_the_option_that_it_proposes(self) -> None:
+        """C12 to C14 of all headers select german. Some headers clear C4 (erase page) too."""
         stl = write_programme(self, subtitle_times(12))
         sent = [(pts, [GERMAN_KEEPING if pts // TICKS % 100 in (25, 50) else GERMAN_HEADER,
                        *packets[1:]]) for pts, packets in schedule_pages(self, stl)]
