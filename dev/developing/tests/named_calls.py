@@ -88,7 +88,8 @@ def run_named_call(name: str, program: str) -> CallOutput:
             shutil.copyfile(get_example_path(recording), f"in/{pair}.{ending}")
         if name == "claimed":
             stack.enter_context(lock_pair("out", "b"))
-        return run_call(NAMED[name].split(), program)
+        printed = run_call(NAMED[name].split(), program)
+    return printed
 
 
 @contextlib.contextmanager

@@ -1,8 +1,10 @@
-"""JSON results for tests, and their validation by docs/verdict.schema.json."""
+"""JSON results for tests, their validation by docs/verdict.schema.json, and captured output."""
 from __future__ import annotations
 
+import contextlib
 import functools
 import importlib
+import io
 import json
 import os
 from typing import Any, Iterator, Sequence
@@ -16,7 +18,7 @@ from .bench import BENCH, Case
 
 SCHEMA = os.path.join(TOP, "docs", "verdict.schema.json")
 # Number of items validated at the start of a list. Of the later items, every 50th is validated.
-SOME = 20
+VALIDATED_ITEMS = 20
 REQUEST = {
     "stl": "one.stl", "recording": "one.ts", "page": "888", "every": 250, "option": "english",
     "origin": 0, "complete": True, "pid": None, "allow_lost": False, "severity": None, "breaks": 0,
@@ -99,13 +101,23 @@ def list_violations(value: dict[str, Any]) -> list[str]:
 
 
 def make_sample(value: dict[str, Any]) -> dict[str, Any]:
-    lists = {item.name: [*value[item.name][:SOME], *value[item.name][SOME::50]]
+    count = VALIDATED_ITEMS
+    lists = {item.name: [*value[item.name][:count], *value[item.name][count::50]]
              for item in LISTS if item.name in value}
     return {**value, **lists, **({"pairs": list(map(make_sample, value["pairs"]))}
                                  if "pairs" in value else {})}
 
 
-def row(name: str, verdict: str, line: str = "", hint: str = "", faults: int = 0) -> Row:
+@contextlib.contextmanager
+def capture_output() -> Iterator[tuple[io.StringIO, io.StringIO]]:
+    """Capture what this process prints on standard output and on standard error."""
+    with contextlib.redirect_stdout(io.StringIO()) as out, \
+            contextlib.redirect_stderr(io.StringIO()) as errors:
+        yield out, errors
+
+
+def make_table_row(name: str, verdict: str, line: str = "", hint: str = "", faults: int = 0) -> Row:
+    """Return the row of a pair in the table that a batch prints."""
     result = make_row(make_result(verdict, fault_count=faults), name)
     return result._replace(line=line, hint=hint)
 

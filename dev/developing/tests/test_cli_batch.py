@@ -3,7 +3,6 @@ from __future__ import annotations
 
 import argparse
 import contextlib
-import io
 import itertools
 import json
 import os
@@ -31,12 +30,14 @@ from subtitles.results.files import (
     Row, describe_inputs, make_unjudged, read_result, write_result_file)
 from subtitles.results.schema import PROGRAM, REQUEST
 from .bench import Case, SECONDS, get_example_path
-from .programmes import wait_until
 from .parts import make_example_request, list_call_arguments, make_default_options, run_qc
-from .results import make_result, row
+from .programmes import wait_until
+from .results import capture_output, make_result, make_table_row
 
 
 class Lists(Case):
+    """Lists of pairs and folders that `qc --batch` reads. Files and folders are empty."""
+
     def setUp(self) -> None:
         super().setUp()
         for name in ("one.stl", "one.ts", "two.stl", "x.stl"):
@@ -47,7 +48,7 @@ class Lists(Case):
     def test_reads_each_line_of_a_list_or_reports_why_not(self) -> None:
         self.make_socket("socket")
         here = f"{self.folder}/"
-        rows = (  # a line of the list, the name of its pair, the beginning of why it is not judged
+        rows = (  # a line of the list, the name of its pair if any, the beginning of the reason
             ("# none", None, ""),
             ("", None, ""),
             (f"{here}one.stl {here}one.ts --every 50 # more", "one", ""),
@@ -64,11 +65,12 @@ class Lists(Case):
             ("caf\udce9.stl x.ts", "caf%E9", "caf\udce9.stl: No such file"))
         text = "\n".join(line for line, _, _ in rows).encode("utf-8", "surrogateescape")
         items = read_pairs(self.write("list", text), make_default_options())
-        named = [row for row in rows if row[1]]
-        self.check("pairs", len(items), len(named))
-        for (line, name, reason), item in zip(named, items):
+        lines_with_pairs = [row for row in rows if row[1]]
+        self.check("pairs", len(items), len(lines_with_pairs))
+        for (line, name, reason), item in zip(lines_with_pairs, items):
             self.check(line, (item.name, (item.reason or "")[:len(reason) or None]), (name, reason))
-        self.check("every", [item.request.every for item in items if item.request], [50, 250, 250])
+        self.check("--every of the valid lines", [
+            item.request.every for item in items if item.request], [50, 250, 250])
 
     def test_finds_that_a_path_has_a_nul_byte(self) -> None:
         self.check("a file", find_path_problem(self.path("one.stl")), None)
@@ -80,56 +82,64 @@ class Lists(Case):
                 read_pairs(path, make_default_options())
 
     def test_protects_the_inputs_of_an_invalid_line(self) -> None:
+        """Each word of an invalid line may be an input: no output may replace this file."""
         path = self.write("list", b"one.stl one.ts --bogus\none.stl one.ts --pace=two.stl\n")
-        for item in read_pairs(path, make_default_options()):
+        first, second = read_pairs(path, make_default_options())
+        for item in first, second:
             self.must(item.name, item.request is None and {"one.stl", self.path("one.ts")} <=
-                      {*item.files} and ("two.stl" in item.files) == (item.name == "line 2"),
-                      item.files)
+                      {*item.files}, item)
             with self.assertRaises(files.OutputIsInput):
                 collect_inputs([item]).refuse(self.path("one.ts"), True)
+        self.check("two.stl", ("two.stl" in first.files, "two.stl" in second.files), (False, True))
 
     def test_reads_one_line_as_in_the_complete_list(self) -> None:
+        """Lines 4 and 5 have no pair. The words of all lines are returned, as possible inputs."""
+        options = make_default_options()
         lines = [f"one.stl one.ts --within {number}" for number in range(3)] + [
             "", "# none", '"', "x.stl", "two.stl one.ts", "one.stl none.ts --origin 5"]
         path = self.write("list", "\n".join(lines).encode())
-        whole = {item.name: item for item in read_pairs(path, make_default_options())}
+        items = {item.name: item for item in read_pairs(path, options)}
         for number, name in ((1, "one"), (2, "one~2"), (3, "one~3"), (6, "line 6"), (7, "line 7"),
                              (8, "two"), (9, "one~4")):
-            item, words = read_line_pair(path, number, make_default_options())
-            self.must(f"{number}", item == whole[name] and {
-                "one.stl", "one.ts", "x.stl", "two.stl", "none.ts", '"'} <= {*words}, (item, words))
-        for wrong in (4, 5, 10, 99):
-            self.assertRaisesRegex(Stop, "has no pair", read_line_pair, path, wrong,
-                                   make_default_options())
+            item, words = read_line_pair(path, number, options)
+            self.check(f"line {number}", item, items[name])
+            self.must(f"line {number}: words", {
+                "one.stl", "one.ts", "x.stl", "two.stl", "none.ts", '"'} <= {*words}, words)
+        for number in (4, 5, 10, 99):
+            self.assertRaisesRegex(Stop, "has no pair", read_line_pair, path, number, options)
         self.assertRaisesRegex(Stop, "--line needs a list, but ", read_line_pair, self.folder, 1,
-                               make_default_options())
-        with mock.patch("subtitles.request.lines.find_path_problem", return_value=None) as looked:
-            read_line_pair(path, 8, make_default_options())
-        self.must("files of one pair", [call[0][0] for call in looked.call_args_list] == [
-            "two.stl", "one.ts"], looked.call_args_list)
+                               options)
+        with mock.patch("subtitles.request.lines.find_path_problem", return_value=None) as checked:
+            read_line_pair(path, 8, options)
+        self.check("only the files of line 8 are checked", [
+            call[0][0] for call in checked.call_args_list], ["two.stl", "one.ts"])
+
+    def test_compares_an_output_with_the_inputs_only_if_it_exists(self) -> None:
+        names = ("a", "b", "c")
         with mock.patch.object(files, "find_identities",
-                               side_effect=files.find_identities) as looked:
-            inputs = files.Inputs(*words)
+                               side_effect=files.find_identities) as identified:
+            inputs = files.Inputs(*names)
             inputs.refuse(self.path("none"), True)
-            self.must("nothing is there", looked.call_count == 1, looked.call_args_list)
-            inputs.refuse(self.path("list"), True)
-            self.must("something is", looked.call_count == 2 + len(words), looked.call_count)
+            self.check("a new file", identified.call_count, 1)
+            inputs.refuse(self.write("list", b""), True)
+            self.check("an existing file", identified.call_count, 2 + len(names))
 
     def test_finds_the_subtitle_files_of_a_folder(self) -> None:
         for name in ("a.STL", "a.stl", "b.stl", "b.ts", "c.pes", "d.txt"):
             self.write(f"folder/{name}", b"")
-        at = self.path("folder")
-        items = find_subtitle_files(at, make_default_options())
+        folder = self.path("folder")
+        items = find_subtitle_files(folder, make_default_options())
         self.check("items", [(item.name, item.reason) for item in items], [
-            ("a", f"{at}/a.STL, {at}/a.stl: more than one subtitle file has this name"),
+            ("a", f"{folder}/a.STL, {folder}/a.stl: more than one subtitle file has this name"),
             ("b", None)])
         self.check("pairs", [(item.request.stl, item.request.recording) for item in items
-                             if item.request], [(f"{at}/b.stl", None)])
+                             if item.request], [(f"{folder}/b.stl", None)])
         os.mkdir(self.path("empty"))
-        for path in (f"{at}/b.stl", self.path("empty"), self.path("none")):
+        for path in (f"{folder}/b.stl", self.path("empty"), self.path("none")):
             self.assertRaises(Stop, find_subtitle_files, path, make_default_options())
 
     def test_judges_each_subtitle_file_of_a_folder(self) -> None:
+        """With --file-only: accent.stl is refused, story.stl valid, and story.ts not read."""
         os.mkdir(self.path("in"))
         for name in ("accent.stl", "story.stl"):
             shutil.copy(get_example_path(name), self.path("in"))
@@ -148,57 +158,59 @@ class Lists(Case):
         for name in ("B.STL", "b.TS", "c.stl", "c.ts", "c.pes", "d.m2t", "e.stl", "e.txt", "F.pes",
                      "f.stl", "f.trp", "G.stl", "g.MTS", "g.stl", "h\x1b.m2ts", "h\x1b.stl"):
             self.write(f"folder/{name}", b"")
-        items = read_pairs(self.path("folder"), make_default_options())
-        at = self.path("folder")
-        self.must("items", [(item.name, item.reason) for item in items] == [
+        folder = self.path("folder")
+        items = read_pairs(folder, make_default_options())
+        self.check("items", [(item.name, item.reason) for item in items], [
             ("B", None),
-            ("F", f"{at}/F.pes: no subtitle file has the same name"), ("f", None),
-            ("G", f"{at}/G.stl: no recording has the same name"), ("g", None),
-            ("c", f"{at}/c.stl, {at}/c.pes, {at}/c.ts: more than one pair has this name"),
-            ("d", f"{at}/d.m2t: no subtitle file has the same name"),
-            ("e", f"{at}/e.stl: no recording has the same name"), ("h%1B", None)],
-                  [(item.name, item.reason) for item in items])
-        self.must("files", [(item.request.stl, item.request.recording) for item in items
-                            if item.request]
-                  == [(f"{at}/{element}", f"{at}/{two}") for element, two in (
-                      ("B.STL", "b.TS"), ("f.stl", "f.trp"), ("g.stl", "g.MTS"),
-                      ("h\x1b.stl", "h\x1b.m2ts"))])
+            ("F", f"{folder}/F.pes: no subtitle file has the same name"), ("f", None),
+            ("G", f"{folder}/G.stl: no recording has the same name"), ("g", None),
+            ("c", f"{folder}/c.stl, {folder}/c.pes, {folder}/c.ts: more than one pair has this "
+             "name"), ("d", f"{folder}/d.m2t: no subtitle file has the same name"),
+            ("e", f"{folder}/e.stl: no recording has the same name"), ("h%1B", None)])
+        self.check("pairs", [(item.request.stl, item.request.recording) for item in items
+                             if item.request], [
+            (f"{folder}/{stl}", f"{folder}/{recording}") for stl, recording in (
+                ("B.STL", "b.TS"), ("f.stl", "f.trp"), ("g.stl", "g.MTS"),
+                ("h\x1b.stl", "h\x1b.m2ts"))])
 
 
 class CompleteBatches(Case):
-    seen: Any = None  # arguments of the last call to `judge_items`
+    """Batches of a list with the pairs `one`, `two` and `three`, whose judging is simulated."""
 
-    def batch(self, judged: str, *, is_stopped: bool = False, unwritten: dict[str, Any] = {},
+    seen: Any = None  # the runner, names of pairs, kept rows and --jobs of the last batch
+
+    def batch(self, verdicts: str, *, is_stopped: bool = False, unwritten: dict[str, Any] = {},
               **more: Any) -> tuple[int, list[str], list[str]]:
-        """Judge pairs that have the verdicts in `judged`. Return the status, table and messages."""
-        words = argparse.Namespace(**{**vars(make_default_options()),
-                                      "batch": self.write("list", "".join(
-            f"{self.path(name)}.stl {self.path('one.ts')}\n" for name in ("one", "two", "three")
-        ).encode()), "out": None, "program": self.path("program"), "is_kept": False, "jobs": None,
+        """Give the pairs these verdicts, last pair first. Return the status, table and messages.
+
+        The line of each pair's result is its name. If `is_stopped`, other pairs are not judged.
+        Results of the pairs in `unwritten` could not be written. `more` contains options of qc.
+        """
+        lines = [f"{self.path(name)}.stl {self.path('one.ts')}\n"
+                 for name in ("one", "two", "three")]
+        args = argparse.Namespace(**{
+            **vars(make_default_options()), "batch": self.write("list", "".join(lines).encode()),
+            "out": None, "program": self.path("program"), "is_kept": False, "jobs": None,
             "limit": 7, "is_resumed": False, "is_file_only": False, "line": None,
             "json": None, "csv": None, "junit": None, **more})
 
-        def judge_items(calls: PairRunner, items: list[BatchItem], kept: dict[str, Row],
-                        jobs: int) \
-                -> dict[str, Row]:
-            self.seen = calls, [item.name for item in items], kept, jobs
-            self.must("folders", os.path.isdir(words.out or calls.folder) and
-                      (calls.command_paths.program_path, calls.out, calls.is_kept, calls.limit) ==
-                      (self.path("program"), words.out, words.is_kept, 7))
+        def judge_items(runner: PairRunner, items: list[BatchItem], kept: dict[str, Row],
+                        jobs: int) -> dict[str, Row]:
+            self.seen = runner, [item.name for item in items], kept, jobs
+            self.must("output folder", os.path.isdir(args.out or runner.folder))
+            self.check("program, -o, --keep, --limit", (
+                runner.command_paths.program_path, runner.out, runner.is_kept, runner.limit),
+                (self.path("program"), args.out, args.is_kept, 7))
             rows = {}
-            for item, verdict in reversed(list(zip(items, judged.split(", ")))):
-                with open(calls.get_result_path(item), "w", encoding="ascii") as file:
-                    json.dump(make_result(verdict, **{
-                        "reason" if verdict == "not judged" else "line": item.name}), file)
-                rows[item.name] = row(item.name, verdict, item.name)
-            calls.is_stopped, calls.unwritten_results = is_stopped, unwritten
+            for item, verdict in reversed(list(zip(items, verdicts.split(", ")))):
+                write_result_file(runner.get_result_path(item), make_result(verdict, **{
+                    "reason" if verdict == "not judged" else "line": item.name}))
+                rows[item.name] = make_table_row(item.name, verdict, item.name)
+            runner.is_stopped, runner.unwritten_results = is_stopped, unwritten
             return rows
 
-        out, told = io.StringIO(), io.StringIO()
-        with mock.patch.object(batch, "judge_items",
-                               judge_items), contextlib.redirect_stdout(out), \
-                contextlib.redirect_stderr(told):
-            status = batch.judge_batch(words, "tools/qc")
+        with mock.patch.object(batch, "judge_items", judge_items), capture_output() as (out, told):
+            status = batch.judge_batch(args, "tools/qc")
         return status, out.getvalue().splitlines(), told.getvalue().splitlines()
 
     def setUp(self) -> None:
@@ -207,51 +219,63 @@ class CompleteBatches(Case):
             self.write(name, b"")
         os.symlink(self.bench.program, self.path("program"))
 
-    def test_ends_with_the_worst_status(self) -> None:
-        for judged, status in (("accepted, accepted, waived", 0), ("lost, accepted, accepted", 1),
-                               ("accepted, relative, waived", 3),
-                               ("accepted, relative, refused", 1),
-                               ("refused, not judged, accepted", 2)):
+    def test_ends_with_the_worst_status_and_keeps_the_order_of_the_list(self) -> None:
+        names = ["one", "two", "three"]
+        for verdicts, status in (("accepted, accepted, waived", 0), ("lost, accepted, accepted", 1),
+                                 ("accepted, relative, waived", 3),
+                                 ("accepted, relative, refused", 1),
+                                 ("refused, not judged, accepted", 2)):
             for jobs, expected in ((None, os.cpu_count()), (3, 3)):
-                found_status, lines, told = self.batch(judged, jobs=jobs, json=self.path("all"))
-                self.must(judged, (found_status, told) == (status, []) and [
-                    line.split()[0] for line in lines[1:]] == ["one", "two", "three", "3"], lines)
-                self.must("at a time", self.seen[1:] == (["one", "two", "three"], {}, expected))
-                have = json.loads(self.read("all"))
-                names = [one["line"] or one["reason"] for one in have["pairs"]]
-                self.must("objects", (names, have["status"]) == (["one", "two", "three"], status))
-                self.must("the folder went", not os.path.exists(self.seen[0].folder))
+                ended = self.batch(verdicts, jobs=jobs, json=self.path("all"))
+                self.check(f"{verdicts}: status, messages", (ended[0], ended[2]), (status, []))
+                self.check(f"{verdicts}: table (its last line counts 3 pairs)", [
+                    line.split()[0] for line in ended[1][1:]], [*names, "3"])
+                self.check(f"--jobs {jobs}: pairs, kept rows, pairs at a time", self.seen[1:],
+                           (names, {}, expected))
+                result = json.loads(self.read("all"))
+                self.check(f"{verdicts}: JSON", (result["status"], [
+                    pair["line"] or pair["reason"] for pair in result["pairs"]]), (status, names))
+                self.must("the temporary folder is deleted", not os.path.exists(
+                    self.seen[0].folder))
+
+    def test_reports_a_result_that_could_not_be_written(self) -> None:
         self.batch("accepted, accepted, accepted", json=self.path("all"),
                    unwritten={"two": make_unjudged("two", "in use", "resource")})
-        self.must("in no file", [one["verdict"] for one in json.loads(self.read("all"))["pairs"]]
-                  == ["accepted", "not judged", "accepted"])
+        self.check("verdicts", [pair["verdict"] for pair in json.loads(self.read("all"))["pairs"]],
+                   ["accepted", "not judged", "accepted"])
+
+    def test_reports_a_stop_after_two_of_three_pairs(self) -> None:
         for out, more in ((None, ""), (self.path("out"), "; --resume judges the others")):
-            stopped = self.batch("accepted, accepted", is_stopped=True, out=out)
-            self.must("stopped", (stopped[0], len(stopped[1]), [line.partition(": ")[2] for line in
-                                                                stopped[2]]) == (
-                2, 4, [f"stopped when 2 of 3 pairs were judged{more}"]), stopped)
-        self.must("page", b"2 pairs: 2 accepted" in self.read("out/index.html")
+            status, table, told = self.batch("accepted, accepted", is_stopped=True, out=out)
+            self.check(f"-o {out}", (status, len(table), told[0].partition(": ")[2], told[1:]),
+                       (2, 4, f"stopped when 2 of 3 pairs were judged{more}", []))
+        self.must("index", b"2 pairs: 2 accepted" in self.read("out/index.html")
                   and ".lock" not in os.listdir(self.path("out")))
 
     def test_resumes_only_if_requested(self) -> None:
-        earlier = {"two": row("two", "lost")}
+        earlier = {"two": make_table_row("two", "lost")}
         with mock.patch.object(batch, "read_resumed_rows", lambda calls, items: earlier):
-            for is_resumed, kept in ((False, []), (True, ["two"])):
+            for is_resumed, kept in ((False, {}), (True, earlier)):
                 self.batch("accepted, accepted, accepted", out=self.path("out"),
                            is_resumed=is_resumed, is_kept=True)
-                self.must(f"{is_resumed}", [*self.seen[2]] == kept, self.seen)
-        refused: list[dict[str, Any]] = [
+                self.check(f"--resume {is_resumed}: kept rows", self.seen[2], kept)
+
+    def test_judges_nothing_with_wrong_options(self) -> None:
+        """--resume without -o, an output in a missing folder, and outputs that are inputs."""
+        options: list[dict[str, Any]] = [
             {"is_resumed": True}, {"csv": self.path("none/x")}, {"csv": self.path("list")},
             {"junit": self.path("three.stl")}, {"json": self.path("one.ts")}]
-        for more in refused:
+        for more in options:
             self.seen = None
             with self.assertRaises(Stop):
                 self.batch("accepted", **more)
-            self.must(f"{more}", self.seen is None)
+            self.check(f"{more}", self.seen, None)
 
 
-# A script in place of qc. It writes the verdict named in the subtitle file and returns its status,
-# or runs the command in the subtitle file first. It stops after 20 seconds of processor time.
+# A script in place of the process that judges a pair. It writes the verdict that the subtitle file
+# contains, and ends with its status. Other contents: `other` (accepted with status 9), `silent` (no
+# result), `waits` (sleeps), `busy` (computes), `deaf` (ignores SIGTERM, and starts a process that
+# computes and whose ID it writes to `its`). It may use 20 seconds of processor time.
 CALL = """#!/bin/sh
 words="$*" out= object=
 while [ $# -gt 0 ]; do
@@ -265,7 +289,6 @@ kind=$(cat "$stl")
 ulimit -t 20
 [ "$kind" = busy ] && while :; do :; done
 [ "$kind" = deaf ] && { trap '' TERM; sh -c 'echo $$ >"$0"; while :; do :; done' "${0%/*}/its"; }
-case $kind in "does "*) (cd "${0%/*}" && eval "${kind#does }") && kind=accepted ;; esac
 case $kind in accepted | other | silent) status=0 ;; refused) status=1 ;; *) status=2 ;; esac
 case $kind in other) kind=accepted ends=9 ;; *) ends=$status ;; esac
 echo "qc: one" >&2; echo "qc: told last" >&2
@@ -275,6 +298,8 @@ exit $ends
 
 
 class ForkedPairs(Case):
+    """Processes that judge pairs, with the output folder `out`. The script `CALL` replaces qc."""
+
     def setUp(self) -> None:
         super().setUp()
         path = self.write_program("call", CALL.replace("SECONDS", f"{SECONDS}"))
@@ -300,94 +325,110 @@ class ForkedPairs(Case):
         os.mkdir(self.path("temporary"))
         os.mkdir(self.path("out"))
         self.write("one.ts", b"1")
-        self.calls = PairRunner(self.command_paths, self.path("temporary"), self.path("out"), False)
+        self.runner = self.make_runner()
+
+    def make_runner(self, limit: int | None = None) -> PairRunner:
+        return PairRunner(self.command_paths, self.path("temporary"), self.path("out"), False,
+                          limit)
 
     def item(self, kind: str, name: str = "one", *args: str) -> BatchItem:
         """Return a pair whose subtitle file contains `kind`, which tells `CALL` how to end."""
         stl = self.write(f"{name}.stl", kind.encode())
         return BatchItem(name, make_example_request(stl, self.path("one.ts"), *args), None)
 
-    def judge_item(self, calls: PairRunner, item: BatchItem) -> Row:
-        return calls.start(item) or next(calls.collect_rows(SECONDS))
+    def judge_item(self, runner: PairRunner, item: BatchItem) -> Row:
+        return runner.start(item) or next(runner.collect_rows(SECONDS))
 
     def test_gives_each_call_its_files_and_options(self) -> None:
+        """`CALL` writes its arguments to the notes of its result."""
         for out, is_kept in ((None, False), (self.path("out"), False), (self.path("out"), True)):
-            calls = PairRunner(self.command_paths, self.path("temporary"), out, is_kept)
+            runner = PairRunner(self.command_paths, self.path("temporary"), out, is_kept)
             item = self.item("refused", "one", "--every", "50")._replace(name="pair")
             path = os.path.join(out or self.path("temporary"), "pair.json")
-            self.must("row", (self.judge_item(calls, item).name, calls.get_result_path(item)) == (
-                "pair", path))
-            have = read_result(path)
+            self.check("name, result", (self.judge_item(runner, item).name,
+                                        runner.get_result_path(item)), ("pair", path))
+            [arguments] = (read_result(path) or {})["notes"]
             kept = f"-o {out}{' --keep' * is_kept}" if out else f"--json {path}"
-            [called] = have["notes"] if have else [""]
-            self.must("words", called.startswith(
-                f"--name=pair --claimed {kept} -p {self.command_paths.program_path} --every 50 "
-                ) and
-                called.endswith(f" -- {self.path('one.stl')} {self.path('one.ts')}")
-                and not calls.running_pairs, have)
+            self.must("arguments", arguments.startswith(
+                f"--name=pair --claimed {kept} -p {self.command_paths.program_path} --every 50 ")
+                and arguments.endswith(f" -- {self.path('one.stl')} {self.path('one.ts')}"),
+                arguments)
+            self.must("the call has ended", not runner.running_pairs)
 
     def test_reads_the_verdict_from_the_pairs_result(self) -> None:
+        """An earlier result `accepted` must not be read."""
         for kind, verdict, line in (
                 ("accepted", "accepted", "accepted 72 Content"),
                 ("refused", "refused", "refused 72 Content"),
                 ("not judged", "not judged", "why"), ("silent", "not judged", "told last"),
                 ("other", "not judged", "told last")):
-            self.write("one.ts", b"1")
             item = self.item(kind, "one", "--severity", self.write("levels", b"72 error\n"))
-            self.write("out/one.json", json.dumps(make_result("accepted")).encode())
-            found_row = self.judge_item(self.calls, item)
-            self.must(kind, (found_row.name, found_row.verdict, found_row.line) == (
-                "one", verdict, line), found_row)
-            have = read_result(self.calls.get_result_path(item))
-            self.must("its object", have is not None and have["verdict"] == verdict, have)
-        none = self.judge_item(self.calls, BatchItem("two", None, "no pair"))
-        self.must("no pair", (none.name, none.verdict, none.line) == (
-            "two", "not judged", "no pair") and read_result(self.path("out/two.json")) ==
-                  make_unjudged("two", "no pair", "input") and
-                  {*os.listdir(self.path("out"))} == {"one.json", "two.json"})
+            write_result_file(self.path("out/one.json"), make_result("accepted"))
+            row = self.judge_item(self.runner, item)
+            self.check(kind, (row.name, row.verdict, row.line), ("one", verdict, line))
+            result = read_result(self.runner.get_result_path(item)) or {}
+            self.check(f"{kind}: result", result["verdict"], verdict)
+
+    def test_a_line_without_a_pair_is_not_judged(self) -> None:
+        row = self.judge_item(self.runner, BatchItem("two", None, "no pair"))
+        self.check("row", (row.name, row.verdict, row.line), ("two", "not judged", "no pair"))
+        self.check("result", read_result(self.path("out/two.json")),
+                   make_unjudged("two", "no pair", "input"))
+        self.check("files", os.listdir(self.path("out")), ["two.json"])
+
+    def test_reports_a_process_that_could_not_be_started(self) -> None:
         with mock.patch("os.fork", side_effect=BlockingIOError(11, "Try again")):
-            gone = self.judge_item(self.calls, self.item("accepted"))
-        self.must("no call", gone.line == "a process could not be started: Try again", gone)
+            row = self.judge_item(self.runner, self.item("accepted"))
+        self.check("line", row.line, "a process could not be started: Try again")
+
+    def test_a_stopped_runner_ends_its_processes_and_writes_nothing_more(self) -> None:
         for name in ("one", "two"):
-            self.calls.start(self.item("waits", name))
-        self.calls.stop()
-        self.must("all are ended", not self.calls.running_pairs)
-        self.calls.record_unjudged(BatchItem("three", None, "x"), "stopped", "signal")
-        self.must("nothing is written then", not os.path.exists(self.path("out/three.json")))
+            self.runner.start(self.item("waits", name))
+        self.runner.stop()
+        self.must("all have ended", not self.runner.running_pairs)
+        self.runner.record_unjudged(BatchItem("three", None, "x"), "stopped", "signal")
+        self.check("files", os.listdir(self.path("out")), [])
+
+    def test_the_reason_says_that_a_result_could_not_be_written(self) -> None:
         nowhere = PairRunner(self.command_paths, self.path("temporary"), self.path("none"), False)
         row = nowhere.record_unjudged(BatchItem("four", None, "x"), "why", "input")
-        self.must("it has no place", row.verdict == "not judged" and row.line.startswith("why; ")
-                  and nowhere.unwritten_results["four"]["reason"] == row.line, row)
+        self.must("row", row.verdict == "not judged" and row.line.startswith("why; "), row)
+        self.check("reason", nowhere.unwritten_results["four"]["reason"], row.line)
 
     def test_stops_a_pair_that_takes_too_long(self) -> None:
-        for kind, most in (("busy", batch.GRACE_SECONDS), ("deaf", 0)):
-            calls = PairRunner(self.command_paths, self.path("temporary"), self.path("out"), False,
-                               1)
-            with mock.patch.object(batch, "GRACE_SECONDS", most):
-                rows = judge_items(calls, [self.item(kind, "long"), self.item("accepted")], {}, 2)
-            self.must(kind, (rows["long"].verdict, rows["long"].line) == (
-                "not judged", "it used more than 1 second of CPU time: give a greater --limit")
-                and rows["one"].verdict == "accepted" and not calls.overdue_processes, rows)
-            have = read_result(calls.get_result_path(self.item(kind, "long")))
-            self.must("its object", have is not None and have["reason"] == rows["long"].line, have)
-        self.must("all is gone", wait_until(
+        """The limit is one second. A deaf process is killed at once, with its own process."""
+        for kind, grace_seconds in (("busy", batch.GRACE_SECONDS), ("deaf", 0)):
+            runner, item = self.make_runner(limit=1), self.item(kind, "long")
+            with mock.patch.object(batch, "GRACE_SECONDS", grace_seconds):
+                rows = judge_items(runner, [item, self.item("accepted")], {}, 2)
+            reason = "it used more than 1 second of CPU time: give a greater --limit"
+            self.check(f"{kind}: row, other pair", (
+                rows["long"].verdict, rows["long"].line, rows["one"].verdict),
+                ("not judged", reason, "accepted"))
+            self.check(f"{kind}: result", (read_result(runner.get_result_path(item)) or {})[
+                "reason"], reason)
+            self.must(f"{kind}: none is overdue", not runner.overdue_processes)
+        self.must("the process of the deaf one is gone", wait_until(
             lambda: not os.path.exists(f"/proc/{int(self.read('its'))}/fd/0")))
 
     def test_kills_a_pair_ten_seconds_after_it_was_stopped(self) -> None:
-        for seconds, ended in ((59.9, []), (60, ["stop"]), (69.9, ["stop"]), (70, ["kill"])):
+        """The limit is 60 seconds. Another process uses none, and is never stopped."""
+        for seconds, methods in ((59.9, []), (60, ["stop"]), (69.9, ["stop"]), (70, ["kill"])):
             calls = [mock.Mock(**{"cpu_seconds.return_value": used}) for used in (seconds, 0)]
             running = {call: mock.Mock(limit=60) for call in calls}
-            with mock.patch.object(self.calls, "running_pairs", running), \
+            with mock.patch.object(self.runner, "running_pairs", running), \
                     mock.patch.object(batch, "wait_for_any", return_value=[]):
-                self.must("no row", not [*self.calls.collect_rows(0)])
-            self.check(f"{seconds} seconds", ([one for one in ("stop", "kill") if getattr(
-                calls[0], one).called], calls[1] in self.calls.overdue_processes), (ended, False))
+                self.check("rows", [*self.runner.collect_rows(0)], [])
+            self.check(f"{seconds} seconds", [[name for name in ("stop", "kill") if getattr(
+                call, name).called] for call in calls], [methods, []])
+            self.must("the other is not overdue", calls[1] not in self.runner.overdue_processes)
 
     def test_a_crash_affects_only_its_own_pair(self) -> None:
+        """The process ends before or after it has written the verdict `accepted`."""
         ends: dict[str, Callable[[], object]] = {
             "killed": lambda: signal.raise_signal(signal.SIGKILL), "no memory": os.abort,
             "a signal": lambda: signal.raise_signal(signal.SIGTERM), "an error": lambda: 1 // 0,
-            "no words": lambda: run_qc(["--none"])}
+            "wrong arguments": lambda: run_qc(["--none"])}
         for (name, end), is_written in itertools.product(ends.items(), (False, True)):
             def judge(*_: object) -> object:
                 if is_written:
@@ -395,127 +436,134 @@ class ForkedPairs(Case):
                 return end()
 
             with mock.patch.object(batch, "judge_forked_pair", judge):
-                self.calls.start(self.item("accepted", "dies"))
-            self.calls.start(self.item("accepted", "other"))
+                self.runner.start(self.item("accepted", "dies"))
+            self.runner.start(self.item("accepted", "other"))
             rows: dict[str, Row] = {}
-            while self.calls.running_pairs:
-                rows.update((element.name, element) for element in self.calls.collect_rows(SECONDS))
-            reason = "--none" if name == "no words" else " process "
-            self.must(f"{name} {is_written}",
-                      [rows[element].verdict for element in ("dies", "other")] == [
-                "not judged", "accepted"] and reason in rows["dies"].line, rows)
+            while self.runner.running_pairs:
+                rows.update((row.name, row) for row in self.runner.collect_rows(SECONDS))
+            self.check(f"{name}, verdict written: {is_written}", (
+                rows["dies"].verdict, rows["other"].verdict), ("not judged", "accepted"))
+            self.must(f"{name}: reason", ("--none" if name == "wrong arguments" else " process ")
+                      in rows["dies"].line, rows)
 
     def test_a_forked_call_has_its_own_session_and_signals(self) -> None:
-        kept = open(self.write("kept", b""), "rb")
-        self.addCleanup(kept.close)
+        """Standard files are /dev/null, others are closed, and only ignored signals stay ignored.
+        """
+        opened = open(self.write("opened", b""), "rb")
+        self.addCleanup(opened.close)
 
-        def look() -> int:
+        def check_process() -> int:
             files = [os.path.realpath(f"/proc/self/fd/{file}") for file in range(2)]
-            told = [files == [os.devnull] * 2, os.getsid(0) == os.getpid(),
-                    not os.path.exists(f"/proc/self/fd/{kept.fileno()}"),
-                    not signal.pthread_sigmask(signal.SIG_BLOCK, []),
-                    [signal.getsignal(one) for one in (signal.SIGTERM, signal.SIGHUP)] == [
-                        signal.default_int_handler, signal.SIG_IGN]]
-            print(told, file=sys.stderr)
+            facts = [files == [os.devnull] * 2, os.getsid(0) == os.getpid(),
+                     not os.path.exists(f"/proc/self/fd/{opened.fileno()}"),
+                     not signal.pthread_sigmask(signal.SIG_BLOCK, []),
+                     [signal.getsignal(item) for item in (signal.SIGTERM, signal.SIGHUP)] == [
+                         signal.default_int_handler, signal.SIG_IGN]]
+            print(facts, file=sys.stderr)
             return 7
 
-        for one, taken in ((signal.SIGTERM, signal.SIG_DFL), (signal.SIGHUP, signal.SIG_IGN)):
-            self.addCleanup(signal.signal, one, signal.signal(one, taken))
+        for item, action in ((signal.SIGTERM, signal.SIG_DFL), (signal.SIGHUP, signal.SIG_IGN)):
+            self.addCleanup(signal.signal, item, signal.signal(item, action))
         standard_input = os.dup(0)
-        os.dup2(kept.fileno(), 0)  # a file that the call must not read
+        os.dup2(opened.fileno(), 0)  # a file that the call must not read
         with hold_signals():
-            call = ForkedProcess(look)
+            call = ForkedProcess(check_process)
         os.dup2(standard_input, 0)
         os.close(standard_input)
-        ended = call.wait()
-        self.must("all", ended == (7, [str([True] * 5)]), ended)
+        self.check("status, error output", call.wait(), (7, [str([True] * 5)]))
 
     def test_judges_each_pair_once_with_its_own_options(self) -> None:
+        """Only the pair `name1` has --strict. A row of `name2` is kept from an earlier call."""
         items = [self.item(kind, f"name{at}", *(["--strict"] if at == 1 else []))
                  for at, kind in enumerate(("accepted", "refused", "accepted", "not judged"))]
-        kept = {"name2": row("name2", "waived", "kept")}
-        rows = judge_items(self.calls, items, kept, 2)
-        self.must("verdicts", {name: element.verdict for name, element in rows.items()} == {
-            "name0": "accepted", "name1": "refused", "name2": "waived", "name3": "not judged"}
-            and len(kept) == 1, rows)
-        notes = [(read_result(self.calls.get_result_path(item)) or {})["notes"][0] for item in
-                 items[:2]]
-        self.must("strict", ["--strict" in note for note in notes] == [False, True])
-        self.must("not called", not os.path.exists(self.calls.get_result_path(items[2])))
+        kept = {"name2": make_table_row("name2", "waived", "kept")}
+        rows = judge_items(self.runner, items, kept, 2)
+        self.check("verdicts", {name: row.verdict for name, row in rows.items()}, {
+            "name0": "accepted", "name1": "refused", "name2": "waived", "name3": "not judged"})
+        self.check("kept rows", [*kept], ["name2"])
+        notes = [(read_result(self.runner.get_result_path(item)) or {})["notes"][0]
+                 for item in items[:2]]
+        self.check("--strict", ["--strict" in note for note in notes], [False, True])
+        self.must("name2 is not judged again", not os.path.exists(
+            self.runner.get_result_path(items[2])))
 
     def test_keeps_finished_results_after_a_signal(self) -> None:
+        """An interrupt or a bug ends the batch when one of four pairs is judged."""
         kinds = ("accepted", "waits", "waits", "waits")
         for reason in (KeyboardInterrupt(), ValueError("odd")):
-            calls = PairRunner(self.command_paths, self.path("temporary"), self.path("out"), False)
+            runner = self.make_runner()
             items = [self.item(kind, f"name{at}") for at, kind in enumerate(kinds)]
-            lines: list[str] = []
 
             def show(progress: object, make_line: Callable[[], str]) -> None:
-                line = make_line()
-                lines.append(line)
-                if line.startswith("1 of 4 pairs: 1 accepted"):
+                if make_line().startswith("1 of 4 pairs: 1 accepted"):
                     raise reason
 
             with mock.patch("subtitles.request.commands.Progress.show", show), \
                     mock.patch.object(batch, "ignore_signals") as ignored:
                 if isinstance(reason, KeyboardInterrupt):
-                    rows = judge_items(calls, items, {}, 2)
-                    self.must("rows", list(rows) == ["name0"], rows)
+                    self.check("rows", [*judge_items(runner, items, {}, 2)], ["name0"])
                 else:
-                    self.assertRaises(ValueError, judge_items, calls, items, {}, 2)
-            self.must("ended", calls.is_stopped and not calls.running_pairs and lines and
-                      ignored.called == isinstance(reason, KeyboardInterrupt))
-            self.must("objects", os.listdir(self.path("out")) == ["name0.json"])
+                    self.assertRaises(ValueError, judge_items, runner, items, {}, 2)
+            self.must("all have ended", runner.is_stopped and not runner.running_pairs)
+            self.check("further signals are ignored", ignored.called,
+                       isinstance(reason, KeyboardInterrupt))
+            self.check("files", os.listdir(self.path("out")), ["name0.json"])
 
     def test_counts_pairs_that_ended_before_the_signal(self) -> None:
-        items, taken = [self.item("accepted", f"name{at}") for at in range(3)], list[Row]()
+        """All three pairs have ended, but their results have not been read, at the interrupt."""
+        items, reported = [self.item("accepted", f"name{at}") for at in range(3)], list[Row]()
 
-        def are_over() -> bool:
-            running = self.calls.running_pairs  # empty if all processes have ended
-            return all(os.path.exists(self.calls.get_result_path(item)) for item in items) and (
+        def have_ended() -> bool:
+            running = self.runner.running_pairs  # empty if all processes have ended
+            return all(os.path.exists(self.runner.get_result_path(item)) for item in items) and (
                 not running or len(wait_for_any(running, SECONDS)) == len(running))
 
-        def stopped(*_: object) -> None:
-            wait_until(are_over)
+        def interrupt(*_: object) -> None:
+            self.must("all have ended", wait_until(have_ended))
             raise KeyboardInterrupt
 
-        with mock.patch("subtitles.request.commands.Progress.show", stopped), \
+        with mock.patch("subtitles.request.commands.Progress.show", interrupt), \
                 mock.patch.object(batch, "ignore_signals"):
-            rows = judge_items(self.calls, items, {}, 3, taken.append)
-        self.must("all", sorted(rows) == sorted(element.name for element in taken) == [
-            "name0", "name1", "name2"], rows)
+            rows = judge_items(self.runner, items, {}, 3, reported.append)
+        names = ["name0", "name1", "name2"]
+        self.check("rows, reported rows", (sorted(rows), sorted(row.name for row in reported)),
+                   (names, names))
 
     def test_resumes_only_from_current_results(self) -> None:
-        items = [self.item("accepted", name, "--origin", "0") for name in (
-            "one", "two", "three", "four", "seven", "eight")]
-        items.append(BatchItem("five", None, "no pair"))
+        """Only `one` and `four` have a verdict of this program on these files with these options.
+        """
         program = describe_program(self.command_paths.program_path)
-        mores: list[dict[str, Any]] = [
-            {}, {}, {"program": {**PROGRAM.to_json(program), "sha256": "1" * 64}}, {},
-            {"files_at_start": None}, {"request": None}]
-        verdicts = ("refused", "not judged", "accepted", "waived", *["accepted"] * 2)
-        for item, verdict, more in zip(items, verdicts, mores):
+        earlier: dict[str, tuple[str, dict[str, Any]]] = {  # verdicts and other members of results
+            "one": ("refused", {}), "two": ("not judged", {}),
+            "three": ("accepted", {"program": {**PROGRAM.to_json(program), "sha256": "1" * 64}}),
+            "four": ("waived", {}), "seven": ("accepted", {"files_at_start": None}),
+            "eight": ("accepted", {"request": None}), "nine": ("accepted", {})}
+        items = [self.item("accepted", name, "--origin", "0") for name in earlier]
+        for item, (verdict, more) in zip(items, earlier.values()):
             assert item.request
-            have = {**make_result(verdict), "request": REQUEST.to_json(item.request),
-                    "files_at_start": describe_inputs(item.request),
-                    "program": PROGRAM.to_json(program), **more}
-            self.write(f"out/{item.name}.json", json.dumps(have).encode())
-        self.write("out/five.json", json.dumps(make_result()).encode())
+            write_result_file(self.path(f"out/{item.name}.json"), make_result(verdict, **{
+                "request": REQUEST.to_json(item.request), "program": PROGRAM.to_json(program),
+                "files_at_start": describe_inputs(item.request), **more}))
+        items.append(BatchItem("five", None, "no pair"))
+        write_result_file(self.path("out/five.json"), make_result())
         for text in (b"", b"{", b"[]"):
-            self.write("out/eight.json", text)
-            rows = read_resumed_rows(self.calls, items)
-            self.must("kept", {name: element.verdict for name, element in rows.items()} ==
-                      {"one": "refused", "four": "waived"}, rows)
-        self.write("out/eight.json", json.dumps({**make_result(), "format": 7}).encode())
-        with self.assertRaisesRegex(Stop, "eight.json is in JSON format 7, .* another folder$"):
-            read_resumed_rows(self.calls, items)
+            self.write("out/nine.json", text)
+            rows = read_resumed_rows(self.runner, items)
+            self.check(f"nine.json contains {text!r}", {
+                name: row.verdict for name, row in rows.items()},
+                {"one": "refused", "four": "waived"})
+        write_result_file(self.path("out/nine.json"), {**make_result(), "format": 7})
+        with self.assertRaisesRegex(Stop, "nine.json is in JSON format 7, .* another folder$"):
+            read_resumed_rows(self.runner, items)
 
     def test_prints_verdict_counts_and_the_remaining_time(self) -> None:
-        rows = {word: row(word, word) for word in STATUSES if word not in (VALID, WAIVED, RELATIVE)}
-        self.must("none of this call", format_progress(rows, 9, 5, 0.0) ==
-                  "5 of 9 pairs: 1 accepted, 3 refused, 1 not judged")
-        rows |= {word: row(word, word) for word in (VALID, WAIVED, RELATIVE)}
+        rows = {word: make_table_row(word, word) for word in STATUSES
+                if word not in (VALID, WAIVED, RELATIVE)}
+        self.check("5 of 9, all of an earlier call", format_progress(rows, 9, 5, 0.0),
+                   "5 of 9 pairs: 1 accepted, 3 refused, 1 not judged")
+        rows |= {word: make_table_row(word, word) for word in (VALID, WAIVED, RELATIVE)}
         with mock.patch.object(time, "monotonic", return_value=110.0):
-            said = format_progress(rows, 9, 4, 100.0)
-        self.must("left", said == "8 of 9 pairs: 1 accepted, 1 valid, 1 waived, 1 relative, 3 "
-                  "refused, 1 not judged; 2 seconds left", said)
+            line = format_progress(rows, 9, 4, 100.0)
+        self.check("8 of 9, 4 of them in the last 10 seconds", line,
+                   "8 of 9 pairs: 1 accepted, 1 valid, 1 waived, 1 relative, 3 refused, 1 not "
+                   "judged; 2 seconds left")

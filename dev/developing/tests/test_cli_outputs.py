@@ -169,7 +169,8 @@ class Statuses(Case):
 
     def write_outputs(self, paths: dict[str, str], **more: Any) -> int:
         self.write("one.json", b'{"format": 3, "verdict": "accepted", "status": 0, "line": "a"}')
-        args = argparse.Namespace(**{"csv": None, "junit": None, "json": None, **paths})
+        args = argparse.Namespace(csv=None, junit=None, json=None)
+        vars(args).update(paths)
         with contextlib.redirect_stdout(io.StringIO()), contextlib.redirect_stderr(io.StringIO()):
             return collection.write_collection(args, [self.ROW], [self.path("one.json")], **more)
 

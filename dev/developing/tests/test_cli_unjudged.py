@@ -25,190 +25,204 @@ from subtitles.request.request import keep_stl
 from subtitles.results.files import write_result_file
 from .bench import Case, SECONDS, get_example_path, read_example_file
 from .parts import make_example_request, run_qc
-from .results import make_result
+from .results import capture_output, make_result
 from .transmissions import write_pipe
 from .test_cli_failures import ACCEPTED, CallCase, HELLO
 
 
 class UnjudgedPairs(Case):
+    """A batch with the pair `one`, whose files contain one byte, in the output folder `out`."""
+
     def setUp(self) -> None:
         super().setUp()
         for name in ("out", "temporary"):
             os.mkdir(self.path(name))
-        for name in ("one.stl", "one.ts"):
-            self.write(name, b"1")
+        self.request = make_example_request(self.write("one.stl", b"1"), self.write("one.ts", b"1"))
+        self.item = BatchItem("one", self.request, None)
 
     def make_runner(self) -> PairRunner:
         return PairRunner(CommandPaths("tools/qc", self.bench.program), self.path("temporary"),
                           self.path("out"), False)
 
-    def test_writes_the_reason_to_all_outputs(self) -> None:
-        rows: list[tuple[str, str, str, str]] = [
-            ("in use", "", "", "another run of qc is writing the files of pair one"),
-            ("an input", "", "--severity out/one.html", "is also an input: give another name"),
-            ("no result", "", "", "was not written by these tools"),
-            ("no pair", "none.ts", "", "none.ts: No such file")]
-        before = os.getcwd()
-        self.addCleanup(os.chdir, before)
+    def enter_folder(self) -> None:
+        self.addCleanup(os.chdir, os.getcwd())
         os.chdir(self.folder)
-        for name, recording, words, why in rows:
+
+    def test_writes_the_reason_to_all_outputs(self) -> None:
+        """Earlier results of the pair are kept, unless a new result says that a file is missing."""
+        self.enter_folder()
+        rows = {  # a line of the list, and the reason why its pair is not judged
+            "files in use": ("one.stl one.ts",
+                             "another run of qc is writing the files of pair one"),
+            "an output is an input": ("one.stl one.ts --severity out/one.html",
+                                      "is also an input: give another name"),
+            "an output is no result": ("one.stl one.ts", "was not written by these tools"),
+            "a missing recording": ("one.stl none.ts", "none.ts: No such file")}
+        for name, (line, reason) in rows.items():
             write_result_file("out/one.json", make_result("accepted"))
             self.write("out/one.txt", b"refused 68 Parity frame 00:00:01:00 packet 9\n1 faults\n")
-            if name in ("an input", "no result"):
+            if name.startswith("an output"):
                 self.write("out/one.html", b"67 warning\n")
-            self.write("list", f"one.stl {recording or 'one.ts'} {words}\n".encode())
-            decoded: ContextManager[object] = lock_pair("out", "one") if name == "in use" else \
+            self.write("list", f"{line}\n".encode())
+            lock: ContextManager[object] = lock_pair("out", "one") if name == "files in use" else \
                 contextlib.nullcontext()
-            with decoded, contextlib.redirect_stdout(io.StringIO()) as out, \
-                    contextlib.redirect_stderr(io.StringIO()):
+            with lock, capture_output() as (out, _):
                 status = run_qc(["--batch", "list", "-o", "out", "-p", self.bench.program, "--json",
                                  "all.json", "--csv", "all.csv", "--junit", "all.xml"])
             [known] = json.loads(self.read("all.json"))["pairs"]
-            self.must(name, status == 2 and known["verdict"] == "not judged" and why in
-                      known["reason"] and b",not judged,2," in self.read("all.csv") and
-                      b'errors="1"' in self.read("all.xml") and "1 not judged" in out.getvalue(),
-                      (status, known, out.getvalue()))
-            is_kept = json.loads(self.read("out/one.json"))["verdict"] == "accepted"
-            self.must(f"{name}: the other's files", is_kept == os.path.exists("out/one.txt") == (
-                name != "no pair"))
-            if os.path.exists("out/one.html"):
+            self.check(f"{name}: status, verdict", (status, known["verdict"]), (2, "not judged"))
+            self.must(f"{name}: JSON", reason in known["reason"], known)
+            self.must(f"{name}: CSV", b",not judged,2," in self.read("all.csv"))
+            self.must(f"{name}: JUnit", b'errors="1"' in self.read("all.xml"))
+            self.must(f"{name}: table", "1 not judged" in out.getvalue(), out.getvalue())
+            is_kept = name != "a missing recording"
+            self.check(f"{name}: earlier result, earlier list", (json.loads(self.read(
+                "out/one.json"))["verdict"] == "accepted", os.path.exists("out/one.txt")),
+                (is_kept, is_kept))
+            if name.startswith("an output"):
                 os.unlink("out/one.html")
 
     def test_locks_the_files_of_a_pair_until_its_call_ends(self) -> None:
-        item, calls = BatchItem("one",
-                                make_example_request(self.path("one.stl"), self.path("one.ts")),
-                                None), \
-            self.make_runner()
+        """The call waits until it is stopped (`pause`), or ends at once without a result."""
+        runner = self.make_runner()
         for does in (signal.pause, time.tzset):
             with mock.patch.object(batch, "judge_forked_pair", lambda *_: does() or 2):
-                self.must("begun", calls.start(item) is None)
+                self.check("begun", runner.start(self.item), None)
             other = self.make_runner()
-            row = other.start(item)
-            self.must("another call", row and not row.is_judged
+            row = other.start(self.item)
+            self.must("not judged by another runner", row and not row.is_judged
                       and other.names_in_use == {"one"}
                       and "another run of qc" in other.unwritten_results["one"]["reason"]
                       and not other.running_pairs, row)
             if does == signal.pause:
-                calls.stop()
+                runner.stop()
             else:
-                self.must("its row", len([*calls.collect_rows(SECONDS)]) == 1)
+                self.check("rows", len([*runner.collect_rows(SECONDS)]), 1)
             with lock_pair(self.path("out"), "one"):
-                self.must("free again", not calls.running_pairs)
+                self.must("free again", not runner.running_pairs)
             self.must("no lock is left", ".one.lock" not in os.listdir(self.path("out")))
+
+    def test_does_not_start_a_pair_whose_files_are_locked_or_foreign(self) -> None:
+        runner = self.make_runner()
         with lock_pair(self.path("out"), "one"):
-            self.must("in use", calls.start(item) and calls.names_in_use == {"one"})
+            self.must("locked", runner.start(self.item) and runner.names_in_use == {"one"})
         self.write("out/one.html", b"theirs")
-        row = calls.start(item)
-        self.must("no result", row and "was not written by" in row.line
-                  and not calls.names_in_use, row)
+        row = runner.start(self.item)
+        self.must("foreign", row and "was not written by" in row.line and not runner.names_in_use,
+                  row)
 
     def test_runs_at_most_as_many_pairs_as_requested(self) -> None:
         for jobs, count in itertools.product((1, 2, 3), range(4)):
-            calls, waiting = self.make_runner(), deque(BatchItem(f"{at}", None, None) for at in
-                                                       range(count))
-            running: Any = calls.running_pairs
-            with mock.patch.object(calls, "start", lambda item: running.update({item: item})), \
-                    mock.patch.object(calls, "collect_rows", return_value=[]):
-                left = [*judge_next_items(calls, waiting, jobs)]
-            self.must(f"{jobs} of {count}", (len(running), len(waiting), left) == (
-                min(jobs, count), max(count - jobs, 0), []))
+            runner = self.make_runner()
+            waiting = deque(BatchItem(f"{at}", None, None) for at in range(count))
+            running: Any = runner.running_pairs
+            with mock.patch.object(runner, "start", lambda item: running.update({item: item})), \
+                    mock.patch.object(runner, "collect_rows", return_value=[]):
+                rows = [*judge_next_items(runner, waiting, jobs)]
+            self.check(f"--jobs {jobs}, {count} pairs: running, waiting, rows",
+                       (len(running), len(waiting), rows), (min(jobs, count), max(count - jobs, 0),
+                                                            []))
 
     def test_gives_each_pair_its_time_limit(self) -> None:
-        request = make_example_request(self.path("one.stl"), self.path("one.ts"))
         for limit, expected in ((None, MIN_SECONDS), (5, 5)):
-            calls = self.make_runner()
-            calls.limit = limit
+            runner = self.make_runner()
+            runner.limit = limit
             with mock.patch.object(batch, "ForkedProcess"):
-                calls.start(BatchItem("one", request, None))
-            [begun] = calls.running_pairs.values()
-            begun.pair_lock.close()
-            self.check(f"{limit}", begun.limit, expected)
-        for sizes, expected in (((0, None), 60), ((1, 9_999_999), 61), ((0, 10**9), 160),
-                                ((0, 2 * 10**12), 3600)):
-            self.check(f"{sizes} bytes", batch.compute_default_limit({
-                name: size and {"size": size}
-                for name, size in zip(("stl", "recording"), sizes)}), expected)
-        self.check("a process that is gone", batch.read_cpu_seconds("0"), 0.0)
+                runner.start(self.item)
+            [running_pair] = runner.running_pairs.values()
+            running_pair.pair_lock.close()
+            self.check(f"--limit {limit}", running_pair.limit, expected)
+
+    def test_the_default_time_limit_grows_with_the_files(self) -> None:
+        """60 seconds, and one more for each 10 MB of both files, up to an hour."""
+        for stl, recording, seconds in ((0, None, 60), (1, 9_999_999, 61), (0, 10**9, 160),
+                                        (0, 2 * 10**12, 3600)):
+            self.check(f"{stl} and {recording} bytes", batch.compute_default_limit({
+                "stl": {"size": stl}, "recording": recording and {"size": recording}}), seconds)
+
+    def test_a_process_that_is_gone_has_used_no_time(self) -> None:
+        self.check("process 0", batch.read_cpu_seconds("0"), 0.0)
 
     def test_lists_the_folder_once_for_all_pairs(self) -> None:
+        """Foreign files that appear later are found without another list of the folder."""
         for name in ("one.7.txt", "two.1.txt"):
             self.write(f"out/{name}", b"theirs")
         with mock.patch("os.listdir", side_effect=os.listdir) as listed:
-            calls = self.make_runner()
-            rows = [calls.start(BatchItem(f"{at}", None, "no pair")) for at in range(20)]
+            runner = self.make_runner()
+            rows = [runner.start(BatchItem(f"{at}", None, "no pair")) for at in range(20)]
             self.write("out/three.1.html", b"theirs")
-            rows += [calls.start(BatchItem(name, None, "no pair")) for name in
-                     ("one", "two", "three")]
-        self.check("listings", [call.args for call in listed.call_args_list],
+            rows += [runner.start(BatchItem(name, None, "no pair"))
+                     for name in ("one", "two", "three")]
+        self.check("folders listed", [call.args for call in listed.call_args_list],
                    [(self.path("out"),)])
         self.check("reasons", [row and row.line.replace(self.path(""), "") for row in rows],
                    ["no pair"] * 20 + [
                        f"out/{name} exists and was not written by these tools: move it away, or "
-                       "give another folder" for name in (
-                           "one.7.txt", "two.1.txt", "three.1.html")])
+                       "give another folder"
+                       for name in ("one.7.txt", "two.1.txt", "three.1.html")])
 
     def test_does_not_list_a_claimed_folder_again(self) -> None:
-        request = make_example_request(get_example_path("hello.stl"), get_example_path("hello.pes"),
-                                       "--origin", "0")
+        """`PartFiles` lists the folder. The process of a pair must not call it."""
+        request = make_example_request(*HELLO, "--origin", "0")
         call = PairOptions(self.bench.program, self.path("out"), name="one", is_claimed=True)
         with mock.patch("subtitles.request.commands.PartFiles", side_effect=ZeroDivisionError), \
-                mock.patch.object(single, "ignore_signals"), \
-                contextlib.redirect_stdout(io.StringIO()), \
-                contextlib.redirect_stderr(io.StringIO()):
+                mock.patch.object(single, "ignore_signals"), capture_output():
             verdict = single.judge_and_report(request, call, "tools/qc")
-            self.check("its verdict", verdict.word, "accepted")
+        self.check("verdict", verdict.word, "accepted")
 
     def test_refuses_a_pipe_that_replaces_a_file(self) -> None:
         os.mkfifo(self.path("pipe"))
         for pair in (("pipe", "one.ts"), ("one.stl", "pipe")):
             request = make_example_request(*map(self.path, pair))
             with mock.patch.object(batch, "judge_and_report", return_value=mock.Mock(status=0)), \
-                    contextlib.redirect_stderr(io.StringIO()) as errors:
+                    capture_output() as (_, errors):
                 status = batch.judge_forked_pair(request, PairOptions(None))
             self.check(f"{pair}", (status, f"{self.path('pipe')} is a pipe" in errors.getvalue()),
                        (2, True))
 
     def test_rejects_a_verdict_with_another_status(self) -> None:
-        request = make_example_request(self.path("one.stl"), self.path("one.ts"))
+        """A process ended with `status` and wrote a verdict. It may have exceeded 7 seconds."""
         rows: list[tuple[str, int, bool]] = [
             ("accepted", 0, True), ("refused", 1, True), ("accepted", 1, False),
             ("refused", 0, False), *((verdict, -number, False) for verdict in (
                 "accepted", "refused") for number in (1, 2, 9))]
-        for (verdict, status, counts), is_over in itertools.product(rows, (False, True)):
-            calls, call = self.make_runner(), mock.Mock(**{"wait.return_value": (status,
-                                                                                 ["qc: why"])})
-            calls.running_pairs[call] = batch.RunningPair(
-                BatchItem("one", request, None), 7, contextlib.ExitStack())
-            calls.overdue_processes |= {call} if is_over else {mock.Mock()}
+        for (verdict, status, is_valid), is_overdue in itertools.product(rows, (False, True)):
+            runner = self.make_runner()
+            call = mock.Mock(**{"wait.return_value": (status, ["qc: why"])})
+            runner.running_pairs[call] = batch.RunningPair(self.item, 7, contextlib.ExitStack())
+            runner.overdue_processes |= {call} if is_overdue else {mock.Mock()}
             write_result_file(self.path("out/one.json"), make_result(verdict))
-            row = calls.finish(call)
-            self.must(f"{verdict} {status} {is_over}", row.verdict == (
-                verdict if counts else "not judged") and call not in calls.overdue_processes and (
-                    "it used more than 7 seconds" in row.line) == (is_over and not counts) and
-                json.loads(self.read("out/one.json"))["verdict"] == row.verdict, row)
+            row = runner.finish(call)
+            name = f"{verdict}, status {status}, overdue: {is_overdue}"
+            expected = verdict if is_valid else "not judged"
+            self.check(f"{name}: row, result", (row.verdict, json.loads(self.read("out/one.json"))[
+                "verdict"]), (expected, expected))
+            self.check(f"{name}: names the limit", "it used more than 7 seconds" in row.line,
+                       is_overdue and not is_valid)
+            self.must(f"{name}: the process is forgotten", call not in runner.overdue_processes)
 
     def test_uses_the_last_message_as_the_reason(self) -> None:
-        calls = self.make_runner()
-        calls.overdue_processes.add(mock.Mock())
+        runner = self.make_runner()
+        runner.overdue_processes.add(mock.Mock())  # another process
         with mock.patch.object(batch, "judge_forked_pair", lambda *_: 2 * bool(os.write(
                 2, b"qc: first\nqc: caf\xe9: \x1b\n"))):
-            calls.start(BatchItem("one",
-                                  make_example_request(self.path("one.stl"), self.path("one.ts")),
-                                  None))
-        [row] = calls.collect_rows(SECONDS)
-        self.must("its line", (row.verdict, row.line) == ("not judged", "caf\ufffd: \x1b"), row)
+            runner.start(self.item)
+        [row] = runner.collect_rows(SECONDS)
+        self.check("row", (row.verdict, row.line), ("not judged", "caf\ufffd: \x1b"))
 
     def test_uses_the_national_option_of_the_judged_file(self) -> None:
-        path = self.write("one.stl", read_example_file("story.stl"))
-        request = make_example_request(path, get_example_path("story.pes"), "--option", "auto")
-        typed = make_example_request(path, get_example_path("story.pes"), "--option", "english")
+        """The file changes from English to German (language code 08) before it is judged."""
         data = read_example_file("story.stl")
+        path = self.write("one.stl", data)
+        automatic, english = (
+            make_example_request(path, get_example_path("story.pes"), "--option", word)
+            for word in ("auto", "english"))
         self.write("one.stl", data[:14] + b"08" + data[16:])
-        for item, option in ((request, "german"), (typed, "english")):
-            keep_stl(item, self.folder)
-            self.check("option", item.option, option)
+        for request, option in ((automatic, "german"), (english, "english")):
+            keep_stl(request, self.folder)
+            self.check("option", request.option, option)
 
-    def test_judges_one_line_while_a_batch_runs(self) -> None:
+    def test_judges_one_line_while_a_batch_runs_and_overwrites_no_input(self) -> None:
         names = ("two.stl", "two.ts", "levels")
         for name in names:
             self.write(name, b"72 warning\n")
@@ -219,22 +233,23 @@ class UnjudgedPairs(Case):
                               make_result("accepted"))
             return 0
 
-        self.addCleanup(os.chdir, os.getcwd())
-        os.chdir(self.folder)
+        self.enter_folder()
         words = ["--batch", "list", "--line", "1", "-o", "out", "-p", self.bench.program]
         with mock.patch.object(batch, "judge_forked_pair", judge), lock_folder("out"), \
-                contextlib.redirect_stdout(io.StringIO()), \
-                contextlib.redirect_stderr(io.StringIO()) as errors:
-            self.must("judged", run_qc(words) == 0 and
-                      sorted(os.listdir("out")) == [".lock", "one.json"], errors.getvalue())
+                capture_output() as (_, errors):
+            self.check("status", run_qc(words), 0)
+            self.check("files", sorted(os.listdir("out")), [".lock", "one.json"])
             for option, name in itertools.product(("--json", "--csv"), (*names, "list", "one.ts")):
                 before = self.read(name)
-                self.must(f"{option} {name}", run_qc([*words, option, name]) == 2 and
-                          before == self.read(name) and errors.getvalue().endswith(
-                              f"{name} is also an input: give another name\n"), errors.getvalue())
+                self.check(f"{option} {name}: status", run_qc([*words, option, name]), 2)
+                self.check(f"{option} {name}: contents", self.read(name), before)
+                self.must(f"{option} {name}: message", errors.getvalue().endswith(
+                    f"{name} is also an input: give another name\n"), errors.getvalue())
 
 
 class OutputsAndSignals(CallCase):
+    """An accepted pair: which outputs qc writes, and how it handles their failures and signals."""
+
     def test_prints_only_the_requested_file_to_standard_output(self) -> None:
         program = self.fake_program(ACCEPTED)
         os.mkdir(self.path("results"))
@@ -244,106 +259,120 @@ class OutputsAndSignals(CallCase):
                 ["--json"], ("/dev/stdout", "/dev/fd/1", "/proc/self/fd/1"))):
             for process in (self.judge(program, option, name),
                             self.qc("--collect", self.path("results"), option, name)):
-                reported = "\n".join(process.told)
-                self.must(f"{option} {name}", process.status == 0 and "accepted" in reported and
-                          process.printed[0].startswith(begins[option]) and not any(
+                self.check(f"{option} {name}: status", process.status, 0)
+                self.must(f"{option} {name}: verdict", "accepted" in "\n".join(process.told))
+                self.must(f"{option} {name}: output", process.printed[0].startswith(begins[option])
+                          and not process.printed[-1].startswith("accepted") and not any(
                               line.startswith(("pair ", "+ ", "1 pair"))
-                              for line in process.printed)
-                          and not process.printed[-1].startswith("accepted"), process)
+                              for line in process.printed), process)
 
-    def test_reports_an_output_that_fails_at_the_end(self) -> None:
-        class Full(io.StringIO):
+    def test_reports_a_standard_output_that_fails_at_the_end(self) -> None:
+        """The last flush fails: after --collect, and after calls that return status 0."""
+        class FullOutput(io.StringIO):
             def flush(self) -> None:
                 raise OSError(28, "No space left on device")
 
         os.mkdir(self.path("results"))
         write_result_file(self.path("results/one.json"), make_result("accepted"))
         words = ["--collect", self.path("results"), "--json", self.path("one.json")]
-        with mock.patch.object(sys, "stdout", Full()), contextlib.redirect_stderr(
-                io.StringIO()) as errors, \
-                mock.patch.object(collection, "discard_output") as silenced:
+        with capture_output() as (_, errors), mock.patch.object(sys, "stdout", FullOutput()), \
+                mock.patch.object(collection, "discard_output") as discard:
             statuses = [run_qc(words)]
-            self.must("not as for a reader that leaves", not silenced.called)
+            self.must("not treated as a closed pipe", not discard.called)
             with mock.patch("subtitles.cli.main.dispatch", return_value=0):
                 statuses += [run_main(lambda _: 0, []), run_qc(["--json", self.path("two.json")])]
-        self.must("told", statuses == [2] * 3 and errors.getvalue().count(
-            ": the output: No space left on device\n") == 3, errors.getvalue())
-        self.must("its file", [result["verdict"] for result in (
-            *self.object("one.json")["pairs"], self.object("two.json"))] == ["not judged"] * 2)
-        for count in (1, 2) if os.path.exists("/dev/full") else ():
-            os.symlink("/dev/full", self.path(f"full{count}"))
-            several = [f"full{at}" for at in range(1, count + 1)]
-            process = self.judge(self.fake_program(ACCEPTED), "--json", "one.json", *(
-                word for words in zip(("--csv", "--junit"), several) for word in words))
-            self.must(f"{count} of them", process.status == 2 and all(
-                name in self.object()["reason"] for name in several), process)
+        self.check("statuses", statuses, [2] * 3)
+        self.check("messages", errors.getvalue().count(
+            ": the output: No space left on device\n"), 3)
+        self.check("results", [result["verdict"] for result in (
+            *self.object("one.json")["pairs"], self.object("two.json"))], ["not judged"] * 2)
 
-    def test_prints_profile_options_first_and_each_hint_once(self) -> None:
-        program, words = self.fake_program(ACCEPTED), ("-o", "out", "--json", "one.json")
+    def test_the_reason_names_all_outputs_that_fail(self) -> None:
+        if not os.path.exists("/dev/full"):
+            self.skipTest("full outputs, since there is no /dev/full")
+        for name in ("full1", "full2"):
+            os.symlink("/dev/full", self.path(name))
+        for words in (["--csv", "full1"], ["--csv", "full1", "--junit", "full2"]):
+            process = self.judge(self.fake_program(ACCEPTED), "--json", "one.json", *words)
+            self.check(f"{words}: status", process.status, 2)
+            self.must(f"{words}: reason", all(name in self.object()["reason"]
+                                              for name in words[1::2]), self.object())
+
+    def test_prints_profile_options_first(self) -> None:
         self.write("house", b"--every 99\n")
-        process = self.judge(program, *words, "--profile", "house")
+        process = self.judge(self.fake_program(ACCEPTED), "--profile", "house")
         self.must("profile", process.printed[0].endswith("house: --every 99"), process)
-        for is_kept in (False, True):
-            request = make_example_request(HELLO[0],
-                                           write_pipe(self, read_example_file("hello.pes")),
-                                           "--origin", "0")
-            with mock.patch("subtitles.cli.single.list_hints", return_value=["a", "b", "a"]), \
-                    mock.patch.object(single, "ignore_signals"), \
-                    contextlib.redirect_stdout(io.StringIO()), \
-                    contextlib.redirect_stderr(io.StringIO()):
-                verdict = single.judge_and_report(request, PairOptions(
-                    program, self.path("out"), is_kept, name="own"), "tools/qc")
-            [part] = self.object("out/own.json")["parts"]
-            kept = part["judged_file"]["name"]
-            self.must(f"{is_kept}", verdict.hints == ["a", "b"] and bool(kept) == is_kept == any(
-                item.startswith("own.recording") for item in os.listdir(self.path("out"))), part)
 
-    def test_stores_the_recording_only_if_requested(self) -> None:
-        names = OutputNames("one", self.folder, self.folder)
+    def test_prints_each_hint_once_and_keeps_a_piped_recording_if_requested(self) -> None:
+        for is_kept in (False, True):
+            request = make_example_request(
+                HELLO[0], write_pipe(self, read_example_file("hello.pes")), "--origin", "0")
+            call = PairOptions(self.fake_program(ACCEPTED), self.path("out"), is_kept, name="own")
+            with mock.patch("subtitles.cli.single.list_hints", return_value=["a", "b", "a"]), \
+                    mock.patch.object(single, "ignore_signals"), capture_output():
+                verdict = single.judge_and_report(request, call, "tools/qc")
+            self.check("hints", verdict.hints, ["a", "b"])
+            [part] = self.object("out/own.json")["parts"]
+            is_there = any(name.startswith("own.recording")
+                           for name in os.listdir(self.path("out")))
+            self.check(f"--keep {is_kept}: named in the result, stored",
+                       (bool(part["judged_file"]["name"]), is_there), (is_kept, is_kept))
+
+    def make_output_files(self, is_kept: bool = False) -> OutputFiles:
         verdict = mock.Mock(parts=[], **{"request.moved_stl": None, "scope": "pair"})
+        return OutputFiles(PairOptions(None, self.folder, is_kept), verdict, CommandPaths(
+            "tools/qc", self.bench.program), OutputNames("one", self.folder, self.folder))
+
+    def test_stores_the_recording_only_if_requested_and_copied(self) -> None:
+        """A copied recording has `kept_ending`. It is stored if it has packets."""
         for is_kept, count, ending in itertools.product(
                 (False, True), (0, 1), (None, "recording.pes")):
-            files = OutputFiles(
-                PairOptions(None, self.folder, is_kept), verdict, mock.Mock(), names)
-            outputs = files.list_raw_outputs(mock.Mock(
+            outputs = self.make_output_files(is_kept).list_raw_outputs(mock.Mock(
                 **{"packets.count": count, "kept_ending": ending}))
-            self.must(f"{is_kept} {count} {ending}", [output.path for output in outputs] == [
-                self.path("one.recording.pes")] * bool(is_kept and count and ending), outputs)
-            self.must("none", files.list_raw_outputs(None) == [])
-        files = OutputFiles(PairOptions(None, self.folder), verdict, CommandPaths(
-            "tools/qc", self.bench.program), names)
-        self.must("the object is last",
-                  [os.path.basename(output.path) for output in files.list_outputs(
-            None)] == ["one.html", "one.json"])
+            self.check(f"--keep {is_kept}, {count} packets, {ending}",
+                       [output.path for output in outputs],
+                       [self.path("one.recording.pes")] * bool(is_kept and count and ending))
+        self.check("no recording", self.make_output_files().list_raw_outputs(None), [])
+
+    def test_writes_the_result_last(self) -> None:
+        outputs = self.make_output_files().list_outputs(None)
+        self.check("files", [os.path.basename(output.path) for output in outputs],
+                   ["one.html", "one.json"])
+
+    def test_a_result_replaces_a_link_but_another_output_follows_it(self) -> None:
         os.symlink(self.write("theirs", b""), self.path("link"))
         for is_result in (False, True):
-            files.write_output(Output(self.path("link"), lambda: iter([b"own"]), is_result))
-            self.must(f"a link {is_result}", os.path.islink(self.path("link")) != is_result and
-                      (self.read("link"), self.read("theirs")) == (
-                          b"own", b"" if is_result else b"own"))
             self.write("theirs", b"")
+            self.make_output_files().write_output(
+                Output(self.path("link"), lambda: iter([b"own"]), is_result))
+            self.check(f"is result: {is_result}: is a link, its contents, those of its target", (
+                os.path.islink(self.path("link")), self.read("link"), self.read("theirs")),
+                (not is_result, b"own", b"" if is_result else b"own"))
 
-    def test_handles_each_signal_until_the_last_line(self) -> None:
+    def test_handles_signals_that_were_not_ignored(self) -> None:
         for item in SIGNALS:
             self.addCleanup(signal.signal, item, signal.getsignal(item))
         for some in itertools.product((False, True), repeat=len(SIGNALS)):
             for item, is_ignored in zip(SIGNALS, some):
                 signal.signal(item, signal.SIG_IGN if is_ignored else signal.SIG_DFL)
             handle_signals()
-            self.must(f"{some}: heeded", [signal.getsignal(item) for item in SIGNALS] == [
-                signal.SIG_IGN if item else signal.default_int_handler for item in some])
+            self.check(f"ignored before: {some}", [signal.getsignal(item) for item in SIGNALS], [
+                signal.SIG_IGN if is_ignored else signal.default_int_handler
+                for is_ignored in some])
             ignore_signals()
-            self.must(f"{some}: ignored", {signal.getsignal(item) for item in SIGNALS} == {
-                signal.SIG_IGN})
-        seen: list[tuple[str, bool]] = []
+            self.check(f"{some}: at the end", {signal.getsignal(item) for item in SIGNALS},
+                       {signal.SIG_IGN})
+
+    def test_ignores_signals_only_from_the_last_line_on(self) -> None:
+        lines: list[tuple[str, bool]] = []  # printed lines, and whether all signals were ignored
         for item in SIGNALS:
-            signal.signal(item, signal.default_int_handler)
+            self.addCleanup(signal.signal, item, signal.signal(item, signal.default_int_handler))
 
-        def put(line: str, _: object) -> None:
-            seen.append((line, all(signal.getsignal(item) == signal.SIG_IGN for item in SIGNALS)))
+        def write_line(line: str, _: object) -> None:
+            lines.append((line, all(signal.getsignal(item) == signal.SIG_IGN for item in SIGNALS)))
 
-        with mock.patch.object(Printer, "write_line", staticmethod(put)):
+        with mock.patch.object(Printer, "write_line", staticmethod(write_line)):
             self.judge(self.fake_program(ACCEPTED))
-        last = f"{ACCEPTED}; not checked: no_video, losses"
-        self.must("the last line alone", seen[-1] == (last, True) and len(seen) > 2 and
-                  not any(is_ignored for _, is_ignored in seen[:-1]), seen)
+        self.check("last line", lines[-1], (f"{ACCEPTED}; not checked: no_video, losses", True))
+        self.must("earlier lines", len(lines) > 2 and not any(
+            is_ignored for _, is_ignored in lines[:-1]), lines)

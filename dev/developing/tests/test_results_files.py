@@ -29,7 +29,7 @@ from .bench import Case, read_example_file
 from .judged import judge_files
 from .parts import make_example_request, make_default_options
 from .results import (
-    REQUEST, FAULT, list_violations, make_result, make_validator, row)
+    REQUEST, FAULT, list_violations, make_result, make_table_row, make_validator)
 
 
 # Test that all results match the schema, and that other files are read as unjudged pairs.
@@ -253,9 +253,9 @@ class UntrustedResults(Case):
 
 
 class CollectedResults(Case):
-    ROWS = [row("one", "accepted", "accepted 5 frames"), row("second", "refused", "refused 72 "
-            "Content frame 1; more", "a hint", 12), row("c", "not judged", "why\nmore"),
-            row("d", "waived", "waived: refused 5 X", "", 3)]
+    ROWS = [make_table_row("one", "accepted", "accepted 5 frames"), make_table_row("second", "refused", "refused 72 "
+            "Content frame 1; more", "a hint", 12), make_table_row("c", "not judged", "why\nmore"),
+            make_table_row("d", "waived", "waived: refused 5 X", "", 3)]
 
     def test_notes_an_estimated_clock(self) -> None:
         for sources, expected in (("", ""), ("given", ""), ("recording", files.NO_CLOCK),
