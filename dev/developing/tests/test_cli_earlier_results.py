@@ -5,7 +5,6 @@ import argparse
 import collections
 import contextlib
 import dataclasses
-import io
 import itertools
 import json
 import os
@@ -22,15 +21,16 @@ from subtitles.judging.status import STATUSES
 from subtitles.request.lines import BatchItem
 from subtitles.request.request import Profile
 from subtitles.results.files import (
-    MAX_VALUES, Row, can_replace, describe_inputs, is_current, read_call_result, read_result,
-    read_results, make_row, make_unjudged)
+    MAX_VALUES, Row, can_replace, describe_inputs, is_current, make_row, make_unjudged,
+    read_call_result, read_result, read_results, write_result_file)
 from subtitles.results import schema
 from subtitles.results.schema import FORMAT, REQUEST
 from .bench import Case, get_example_path, read_example_file
 from .parts import make_example_request, make_default_options
-from .results import FAULT, make_result, row
+from .results import FAULT, capture_output, make_result, make_table_row
 
 PROGRAM = ProgramInfo("1", "ab" * 32, None)
+TIME_WIDTH = len("2026-01-02 03:04:05  ")  # characters before a verdict in a line of --watch
 # For each option, a value that differs from the value in the earlier run.
 OTHERS: dict[str, object] = {
     "page": (0, 0x87), "every": 25, "option": "german", "origin": 5, "is_complete": False,
@@ -41,6 +41,8 @@ OTHERS: dict[str, object] = {
 
 
 class CurrentResults(Case):
+    """An earlier result is current if its pair would be judged in the same way again."""
+
     def make_accepted_result(self) -> tuple[Any, dict[str, Any]]:
         """Return the request for a pair with a severity file, and its earlier result `accepted`."""
         paths = [self.write(name, data) for name, data in (
@@ -52,110 +54,117 @@ class CurrentResults(Case):
                                     program=PROGRAM._asdict())
 
     def test_a_result_is_current_only_for_the_same_options(self) -> None:
-        request, accepted_pair = self.make_accepted_result()
-        self.must("the same", is_current(accepted_pair, request, PROGRAM))
-        for name, value in OTHERS.items():
+        request, earlier = self.make_accepted_result()
+        self.must("the same options", is_current(earlier, request, PROGRAM))
+        files = {name: self.write(f"other.{name}", b"other")
+                 for name in ("stl", "recording", "severity")}
+        for name, value in [*OTHERS.items(), *files.items(), ("severity", None)]:
             other = dataclasses.replace(request, **{name: value})
-            self.must(name, not is_current(accepted_pair, other, PROGRAM))
-        for name in ("stl", "recording", "severity"):
-            path = self.write(f"other.{name}", b"other")
-            other = dataclasses.replace(request, **{name: path})
-            self.must(f"another {name}", not is_current(accepted_pair, other, PROGRAM))
-        item = BatchItem("one", request, None)
-        for verdict in ("accepted", "not judged"):
-            self.check(f"--resume keeps `{verdict}`", is_reusable(
-                {**accepted_pair, "verdict": verdict}, item, PROGRAM), verdict == "accepted")
-        none = dataclasses.replace(request, severity=None)
-        self.must("no severity", not is_current(accepted_pair, none, PROGRAM))
+            self.must(f"another {name}", not is_current(earlier, other, PROGRAM))
         names = {field.name for field in dataclasses.fields(request)}
-        self.must("all words", names == {*OTHERS, "stl", "recording", "severity", "from_time",
-                                         "to_time", "layout", "is_open", "may_keep",
-                                         "pace_word", "kept_stl", "moved_stl", "is_reading",
-                                         "language", "reference_call"},
-                  names)  # see test_request_options for the last members
+        self.check("all options", names, {
+            *OTHERS, *files, "from_time", "to_time", "layout", "is_open", "may_keep", "pace_word",
+            "kept_stl", "moved_stl", "is_reading", "language", "reference_call"})
+        # See test_request_options for the last members.
+
+    def test_resume_judges_an_unjudged_pair_again(self) -> None:
+        request, earlier = self.make_accepted_result()
+        for verdict in ("accepted", "not judged"):
+            self.check(f"is `{verdict}` kept", is_reusable(
+                {**earlier, "verdict": verdict}, BatchItem("one", request, None), PROGRAM),
+                verdict == "accepted")
 
     def test_removes_the_earlier_results_of_a_pair(self) -> None:
+        """The pair is first refused (status 1), and then not judged, since page 150 is not sent."""
         rows: list[tuple[tuple[str, ...], int, list[str]]] = [
             ((), 1, ["story.html", "story.json", "story.txt"]),
             (("--page", "150"), 2, ["story.html", "story.json"])]
-        for more, status, left in rows:
+        for more, status, files in rows:
             process = self.tool("qc", get_example_path("story.stl"),
                                 get_example_path("five-faults.pes"), "-o", "out", *more, "-p",
                                 self.bench.program)
-            self.must(f"{more}", (process.status, sorted(os.listdir(self.path("out")))) == (
-                status, left), sorted(os.listdir(self.path("out"))))
+            self.check(f"{more}: status, files", (
+                process.status, sorted(os.listdir(self.path("out")))), (status, files))
 
     def test_a_result_is_current_only_for_the_same_program(self) -> None:
-        request, accepted_pair = self.make_accepted_result()
+        request, earlier = self.make_accepted_result()
         for name in ("version", "sha256"):
-            other = PROGRAM._replace(**{name: "0" * 64})
-            self.must(name, not is_current(accepted_pair, request, other))
-        self.must("the prover's line is no matter",
-                  is_current(accepted_pair, request, PROGRAM._replace(proved="logic=proved")))
-        self.must("none", not is_current(make_unjudged("one", "why", "input"), request, PROGRAM))
+            self.must(f"another {name}", not is_current(earlier, request,
+                                                        PROGRAM._replace(**{name: "0" * 64})))
+        self.must("the prover's line does not matter",
+                  is_current(earlier, request, PROGRAM._replace(proved="logic=proved")))
+        self.must("no program", not is_current(make_unjudged("one", "why", "input"), request,
+                                               PROGRAM))
+
+    def test_the_checksum_detects_a_program_of_the_same_size_and_time(self) -> None:
         sums = set()
-        for data in (b"one", b"two"):  # contents of equal size
+        for data in (b"one", b"two"):
             os.utime(self.write("program", data), (0, 0))
             sums.add(describe_program(self.path("program")).sha256)
-        self.must("written anew", len(sums) == 2)
+        self.check("checksums", len(sums), 2)
 
     def test_a_result_is_current_only_for_unchanged_files(self) -> None:
+        """A file is a byte longer with the same time, a nanosecond newer, or missing."""
         for name in ("one.stl", "one.pes", "severity"):
-            for what in ("longer", "later", "gone"):
-                request, accepted_pair = self.make_accepted_result()
-                self.must(f"{name} as it was", is_current(accepted_pair, request, PROGRAM))
-                path, about = self.path(name), os.stat(self.path(name))
-                if what == "gone":
+            for what in ("longer", "newer", "missing"):
+                request, earlier = self.make_accepted_result()
+                self.must(f"{name} unchanged", is_current(earlier, request, PROGRAM))
+                path, before = self.path(name), os.stat(self.path(name))
+                if what == "missing":
                     os.unlink(path)
-                elif what == "later":
-                    os.utime(path, ns=(about.st_atime_ns, about.st_mtime_ns + 1))
+                elif what == "newer":
+                    os.utime(path, ns=(before.st_atime_ns, before.st_mtime_ns + 1))
                 else:
                     with open(path, "ab") as file:
                         file.write(b" ")
-                    os.utime(path, ns=(about.st_atime_ns, about.st_mtime_ns))
-                self.must(f"{name} {what}", not is_current(accepted_pair, request, PROGRAM))
+                    os.utime(path, ns=(before.st_atime_ns, before.st_mtime_ns))
+                self.must(f"{name} {what}", not is_current(earlier, request, PROGRAM))
 
 
 class StoredResults(Case):
-    def test_refuses_a_result_with_too_many_values(self) -> None:
-        for data, arguments in ((b"0," * MAX_VALUES, "has more than 2,000,000 values"),
-                                (b"[]," * (MAX_VALUES // 2), "has more than 2,000,000 values"),
-                                (b"{}," * (MAX_VALUES // 2), "has more than 2,000,000 values"),
-                                (b'0],"b":0,' + b'"b":0,' * MAX_VALUES + b'"c":[',
-                                 "has more than 2,000,000 values"),
-                                (b"0," * 1000, "")):
+    """JSON results that qc reads back."""
+
+    def test_refuses_a_result_with_too_many_values_before_it_is_loaded(self) -> None:
+        """`json.loads` would raise the error "loaded". Keys, lists and objects count as values."""
+        too_many = "has more than 2,000,000 values"
+        for data, reason in ((b"0," * MAX_VALUES, too_many), (b"[]," * (MAX_VALUES // 2), too_many),
+                             (b"{}," * (MAX_VALUES // 2), too_many),
+                             (b'0],"b":0,' + b'"b":0,' * MAX_VALUES + b'"c":[', too_many),
+                             (b"0," * 1000, "loaded")):
             path = self.write("many.json", b'{"verdict":0,"format":%d,"a":[' % FORMAT +
                               data + b"0]}")
             with mock.patch("json.loads", side_effect=ValueError("loaded")):
-                accepted_pair = read_result(path)
-            self.must(f"{data[:9]!r}", accepted_pair is not None and (arguments or "loaded") in
-                      accepted_pair["reason"], accepted_pair)
+                result = read_result(path) or {}
+            self.must(f"{data[:9]!r}", reason in result["reason"], result)
 
     def test_makes_a_table_row_of_each_result(self) -> None:
+        """A row has the counts of causes and faults by name, and the lines of 100 faults."""
         faults = [{**FAULT, "line": f"refused {number}", "number": 5, "name": "X"}
                   for number in range(120)]
         causes = {"late": 2, "early": 1}
-        found_row = make_row(make_result(faults=faults, fault_count=7, seconds=1.5,
-                                         cause_counts={**causes, "never": 0}, hints=["72: a hint"]),
-                             "name")
-        self.must("all", found_row == Row(
+        row = make_row(make_result(faults=faults, fault_count=7, seconds=1.5, hints=["72: a hint"],
+                                   cause_counts={**causes, "never": 0}), "name")
+        self.check("refused", row, Row(
             "name", "one.stl one.ts", "refused", 1, "refused 72 Content", 7,
             {**causes, "5 X": 120}, [f"refused {number}" for number in range(100)], 1.5, "a hint",
-            sentence=found_row.sentence, clock=found_row.clock),
-                  found_row)
-        self.must("none", make_row(make_unjudged("name", "why", "input"), "name") == Row(
+            sentence=row.sentence, clock=row.clock))
+        self.check("not judged", make_row(make_unjudged("name", "why", "input"), "name"), Row(
             "name", "name", "not judged", 2, "why", 0, {}, [], 0.0, ""))
-        none: dict[str, Any] = {"format": FORMAT, "verdict": "not judged", "status": 2, "name": "a",
-                                "reason": "why", "not_judged_kind": "input"}
-        self.must("not judged", make_unjudged("a", "why", "input") == none)
-        self.must("reason", make_row(make_result("not judged"), "x").line == "why")
-        self.must("the lead",
-                  make_row(make_result(line="refused 10 A", worst_fault="refused 72 B"),
-                           "x").line == "refused 72 B")
-        self.must("judged", make_row(make_result(), "x").is_judged and not make_row(
-            make_unjudged("x", "why", "input"), "x").is_judged)
+        for name, result, line, is_judged in (
+                ("reason", make_result("not judged"), "why", False),
+                ("worst fault", make_result(line="refused 10 A", worst_fault="refused 72 B"),
+                 "refused 72 B", True),
+                ("no pair", make_unjudged("x", "why", "input"), "why", False)):
+            row = make_row(result, "x")
+            self.check(name, (row.line, row.is_judged), (line, is_judged))
+
+    def test_makes_a_result_of_a_pair_that_is_not_judged(self) -> None:
+        self.check("result", make_unjudged("a", "why", "input"), {
+            "format": FORMAT, "verdict": "not judged", "status": 2, "name": "a", "reason": "why",
+            "not_judged_kind": "input"})
 
     def test_refuses_results_of_another_format_or_shape(self) -> None:
+        """A valid result with these changes does not match the schema at the second value."""
         path = self.path("one.json")
         changes: list[tuple[dict[str, Any], str]] = [
             ({"format": 3}, ""), ({"format": None}, ".format"), ({"status": 0}, ".verdict"),
@@ -171,27 +180,28 @@ class StoredResults(Case):
             ({"more": 1}, ".more"), ({"date": "2026-01-02T03:04:05Z\n"}, ".date"),
             ({"verdict": "not judged", "status": 2}, ".verdict")]
         for change, where in changes:
-            self.write("one.json", json.dumps({**make_result(), **change}).encode())
-            judged = f"does not match docs/verdict.schema.json at {where}: judge it again" \
+            write_result_file(path, {**make_result(), **change})
+            reason = f"does not match docs/verdict.schema.json at {where}: judge it again" \
                 if where else "has format 3, but this version reads format 8: judge it again"
-            result = read_result(path)
-            self.must(f"{change}", result == make_unjudged("one", f"its JSON result {judged}",
-                                                           "input"), result)
-        goods: list[dict[str, Any]] = [{}, {"faults": [FAULT, FAULT]}, {"seconds": 5},
-                                       make_result("not judged"), make_result("waived"),
-                                       make_result("lost")]
-        for change in goods:
-            accepted_pair = {**make_result(), **change}
-            self.write("one.json", json.dumps(accepted_pair).encode())
-            self.must(f"{change}", read_result(path) == accepted_pair)
-        for text, is_one in ((b"[]", False), (b"{}", False), (b"{", True), (b"\xff", True)):
-            self.write("one.json", text)
-            self.must(f"{text!r}", (read_result(path) is not None) == is_one)
-        self.must("not there", (read_result(self.path("none.json")) or {}).get("name") == "none")
+            self.check(f"{change}", read_result(path),
+                       make_unjudged("one", f"its JSON result {reason}", "input"))
+
+    def test_reads_back_valid_results(self) -> None:
+        path, changes = self.path("one.json"), list[dict[str, Any]]([
+            {}, {"faults": [FAULT, FAULT]}, {"seconds": 5}, make_result("not judged"),
+            make_result("waived"), make_result("lost")])
+        for change in changes:
+            write_result_file(path, {**make_result(), **change})
+            self.check(f"{change}", read_result(path), {**make_result(), **change})
+
+    def test_other_json_files_are_no_results_but_a_missing_file_is_unjudged(self) -> None:
+        for text in (b"[]", b"{}"):
+            self.check(f"{text!r}", read_result(self.write("one.json", text)), None)
+        self.check("missing", (read_result(self.path("none.json")) or {}).get("name"), "none")
 
     def test_collect_refuses_another_format(self) -> None:
         for name, number in (("a", 8), ("b", 7), ("c", 7)):
-            self.write(f"{name}.json", json.dumps({**make_result(), "format": number}).encode())
+            write_result_file(self.path(f"{name}.json"), {**make_result(), "format": number})
         process = self.tool("qc", "--collect", ".", "--json", "all.json")
         reason = "./b.json is in JSON format 7, but this version reads format 8: judge these " \
             "pairs again into another folder"
@@ -201,159 +211,178 @@ class StoredResults(Case):
                    [reason])
 
     def test_refuses_an_inconsistent_result_without_a_pair(self) -> None:
-        none = make_unjudged("one", "why", "input")
-        others: list[dict[str, Any]] = [{}, {"line": "accepted"}]
-        for word, status, reason, opened in itertools.product(
+        """Of all combinations, only `not judged` with status 2 and a reason is read as it is."""
+        path, others = self.path("one.json"), list[dict[str, Any]]([{}, {"line": "accepted"}])
+        for verdict, status, reason, more in itertools.product(
                 (*STATUSES, "other", None), (0, 1, 2, None), ("why", "", None), others):
-            accepted_pair = {**none, "verdict": word, "status": status, "reason": reason, **opened}
-            self.write("one.json", json.dumps(accepted_pair).encode())
-            is_one = (word, status, reason, opened) == ("not judged", 2, "why", {})
-            result = read_result(self.path("one.json")) or {}
-            if (result == accepted_pair) != is_one or make_row(result, "one").status != 2:
-                self.must(f"{accepted_pair}", False, result)
+            written = {**make_unjudged("one", "why", "input"), "verdict": verdict, "status": status,
+                       "reason": reason, **more}
+            write_result_file(path, written)
+            result = read_result(path) or {}
+            is_valid = (verdict, status, reason, more) == ("not judged", 2, "why", {})
+            self.assertEqual((result == written, make_row(result, "one").status), (is_valid, 2),
+                             written)
 
     def test_reads_only_visible_json_files_in_order(self) -> None:
         for name in ("b.json", "a.json", ".c.json", "d.txt", "e.jsonl"):
-            self.write(name, json.dumps(make_result()).encode())
+            write_result_file(self.path(name), make_result())
         os.mkdir(self.path("f.json"))
-        names = [os.path.basename(path) for path, _ in read_results(self.folder)]
-        self.must("names", names == ["a.json", "b.json"], names)
+        self.check("names", [os.path.basename(path) for path, _ in read_results(self.folder)],
+                   ["a.json", "b.json"])
 
     def test_reports_a_judging_process_without_a_result(self) -> None:
         path = self.path("one.json")
-        self.check("none", read_call_result(path, "one", 2, [])["reason"],
+        self.check("status 2", read_call_result(path, "one", 2, [])["reason"],
                    "the judging process wrote no result")
-        self.check("killed", read_call_result(path, "one", -9, ["qc: last"])["reason"],
+        self.check("killed by signal 9", read_call_result(path, "one", -9, ["qc: last"])["reason"],
                    "the process was killed")
 
-    def test_replaces_only_results_and_empty_files(self) -> None:
-        for data, expected in ((b"{", True), (b"", True), (b"GSI", False), (b" {", False),
-                               (b'{"a', True)):
-            self.must(f"{data!r}", can_replace(self.write("x", data)) == expected)
-        for data, expected in ((b"stl,recording,part", True), (b"", True), (b"stl", False),
-                               (b"{", False)):
-            self.must(f"{data!r}: a table", can_replace(self.write("x", data), b"stl,recording,") ==
-                      expected)
-        self.must("not there", can_replace(self.path("none")) and can_replace("/dev/zero"))
+    def test_replaces_only_results_tables_and_empty_files(self) -> None:
+        """A JSON result begins with a brace, and a CSV table with the given heads."""
+        for data, begin, expected in (
+                (b"{", b"{", True), (b"", b"{", True), (b"GSI", b"{", False),
+                (b" {", b"{", False), (b'{"a', b"{", True),
+                *((data, b"stl,recording,", is_own) for data, is_own in (
+                    (b"stl,recording,part", True), (b"", True), (b"stl", False), (b"{", False)))):
+            path = self.write("x", data)
+            self.check(f"{data!r}, {begin!r}", can_replace(path, begin), expected)
+        self.must("missing file, device", can_replace(self.path("none"))
+                  and can_replace("/dev/zero"))
 
 
 class WatchedFolders(Case):
+    """Runs of `qc --watch in -o out`, in which the judging of the pair `a` is simulated."""
+
     def arguments(self, **more: Any) -> argparse.Namespace:
-        arguments = argparse.Namespace(**vars(make_default_options()))
-        vars(arguments).update({"watch": self.path("in"), "out": self.path("out"), "settled": 0,
-                                "is_kept": True, "jobs": 3, "limit": 7, "every": 99,
-                                **more})
-        return arguments
+        return argparse.Namespace(**{
+            **vars(make_default_options()), "watch": self.path("in"), "out": self.path("out"),
+            "settled": 0, "is_kept": True, "jobs": 3, "limit": 7, "every": 99, **more})
 
     def write_pair(self) -> None:
         os.mkdir(self.path("in"))
         for name in ("in/a.stl", "in/a.ts"):
             self.write(name, b"1")
 
-    def test_requires_two_different_folders(self) -> None:
+    def test_requires_two_different_folders_and_makes_the_output_folder(self) -> None:
         self.assertRaises(Stop, refuse_folders, self.arguments(out=None))
-        self.assertRaises(Stop, refuse_folders, self.arguments())
+        self.assertRaises(Stop, refuse_folders, self.arguments())  # `in` is missing
         os.mkdir(self.path("in"))
         refuse_folders(self.arguments())
-        self.must("made", os.path.isdir(self.path("out")))
+        self.must("out", os.path.isdir(self.path("out")))
         os.symlink("in", self.path("link"))
         for name in ("in", "link"):
             self.assertRaises(Stop, refuse_folders, self.arguments(out=self.path(name)))
-        for name in ("out/index.html", "out/.lock"):
-            path = self.write(name, b"theirs")
-            self.assertRaises(Stop, refuse_folders, self.arguments(name=path))
-            os.unlink(self.path(name))
 
-    def test_prints_each_verdict_and_updates_the_index(self) -> None:
+    def test_refuses_a_folder_with_foreign_files(self) -> None:
         for name in ("in", "out"):
             os.mkdir(self.path(name))
+        for name in ("out/index.html", "out/.lock"):
+            path = self.write(name, b"theirs")
+            self.assertRaises(Stop, refuse_folders, self.arguments())
+            os.unlink(path)
+
+    def test_prints_each_verdict_and_updates_the_index(self) -> None:
+        """Results of two pairs are in `out` before. Printed lines begin with the date and time."""
+        os.mkdir(self.path("out"))
         for name in ("old", "older"):
-            self.write(f"out/{name}.json", json.dumps(make_result("accepted")).encode())
+            write_result_file(self.path(f"out/{name}.json"), make_result("accepted"))
         self.write("out/x.json", b"[]")
         results = collection.FolderRows(self.path("out"))
-        self.must("rows", list(results.rows) == ["old", "older"])
-        out = io.StringIO()
-        with contextlib.redirect_stdout(out):
-            results.add(row("b", "accepted", "accepted 5"))
-            results.add(row("a", "refused", "refused 72 X", "a hint"))
+        self.check("rows", list(results.rows), ["old", "older"])
+        with capture_output() as (out, _):
+            results.add(make_table_row("b", "accepted", "accepted 5"))
+            results.add(make_table_row("a", "refused", "refused 72 X", "a hint"))
         results.write_page(is_last=True)
-        self.must("lines", [line[21:] for line in out.getvalue().splitlines()] ==
-                  ["b  accepted", "a  refused: 72 X: a hint"], out.getvalue())
+        self.check("lines", [line[TIME_WIDTH:] for line in out.getvalue().splitlines()],
+                   ["b  accepted", "a  refused: 72 X: a hint"])
         page = self.read("out/index.html").decode()
-        self.must("page", "4 pairs" in page and page.index("<td>a<") < page.index("<td>b<"))
-        with contextlib.redirect_stdout(out):
-            results.add(row("b", "not judged", "why"))
+        self.must("index, refused pair first", "4 pairs" in page
+                  and page.index("<td>a<") < page.index("<td>b<"), page)
+        with capture_output():
+            results.add(make_table_row("b", "not judged", "why"))
         results.write_page(is_last=True)
-        results.next_page = 0.0
-        with contextlib.redirect_stdout(out), contextlib.redirect_stderr(io.StringIO()) as errors, \
-                mock.patch.object(collection, "open_result", side_effect=OSError(28, "full")):
-            # Pairs are still added if the index page cannot be written.
-            results.add(row("c", "accepted", "accepted 5"))
-        self.must("told", "full" in errors.getvalue() and "c  accepted" in out.getvalue())
-        self.must("once more", "4 pairs: 2 accepted, 1 not judged, 1 refused" in self.read(
+        self.must("new verdict of b", "4 pairs: 2 accepted, 1 not judged, 1 refused" in self.read(
             "out/index.html").decode())
 
+    def test_prints_a_verdict_if_the_index_cannot_be_written(self) -> None:
+        os.mkdir(self.path("out"))
+        results = collection.FolderRows(self.path("out"))
+        results.next_page = 0.0  # the next result writes the index
+        with capture_output() as (out, errors), mock.patch.object(
+                collection, "open_result", side_effect=OSError(28, "full")):
+            results.add(make_table_row("c", "accepted", "accepted 5"))
+        self.must("printed", "full" in errors.getvalue() and "c  accepted" in out.getvalue())
+
     def test_writes_the_index_of_many_pairs_less_often(self) -> None:
+        """With 10,000 pairs at most every 10 seconds, but always at the end if it has changed."""
         os.mkdir(self.path("out"))
         results, pages = collection.FolderRows(self.path("out")), list[int]()
-        results.rows = {f"{number}": row(f"{number}", "accepted") for number in range(9999)}
-        rows: list[tuple[float, str, int]] = [
-            (100.0, "new", 1), (100.1, "new", 0), (109.9, "look", 0), (110.0, "look", 1),
-            (150.0, "look", 0), (150.1, "new", 1), (150.2, "last", 0), (150.3, "new", 0),
-            (150.4, "last", 1)]
+        results.rows = {f"{at}": make_table_row(f"{at}", "accepted") for at in range(9999)}
+        events: list[tuple[float, str, int]] = [  # time in seconds, event, pages written
+            (100.0, "result", 1), (100.1, "result", 0), (109.9, "scan", 0), (110.0, "scan", 1),
+            (150.0, "scan", 0), (150.1, "result", 1), (150.2, "end", 0), (150.3, "result", 0),
+            (150.4, "end", 1)]
         with mock.patch.object(collection, "write_index", lambda *_: pages.append(1)), \
-                contextlib.redirect_stdout(io.StringIO()):
-            for now, what, count in rows:
+                capture_output():
+            for seconds, event, count in events:
                 pages.clear()
-                with mock.patch.object(time, "monotonic", return_value=now):
-                    if what == "new":
-                        results.add(row("one", "accepted"))
+                with mock.patch.object(time, "monotonic", return_value=seconds):
+                    if event == "result":
+                        results.add(make_table_row("one", "accepted"))
                     else:
-                        results.write_page(is_last=what == "last")
-                self.check(f"{now}: {what}", len(pages), count)
+                        results.write_page(is_last=event == "end")
+                self.check(f"{seconds}: {event}", len(pages), count)
 
-    def run_watch(self, looks: int, judged: Callable[[PairRunner, BatchItem], Row],
-                  change: Callable[[int], None] = lambda look: None) -> list[str]:
-        """Run `qc --watch` for `looks` searches of the folder, and return the printed lines."""
+    def run_watch(self, scans: int, judge_item: Callable[[PairRunner, BatchItem], Row],
+                  change: Callable[[int], None] = lambda scan: None) -> list[str]:
+        """Interrupt `qc --watch` after some scans of the folder. Return the printed verdicts.
+
+        `judge_item` judges a pair. `change` is called with the number of each finished scan.
+        """
         count = 0
 
-        def next_look(seconds: float) -> None:
+        def finish_scan(seconds: float) -> None:
             nonlocal count
             count += 1
             self.assertEqual(seconds, batch.SCAN_SECONDS)
-            if count == looks:
+            if count == scans:
                 raise KeyboardInterrupt
             change(count)
 
-        def judge(calls: PairRunner, waiting: collections.deque[BatchItem],
+        def judge(runner: PairRunner, waiting: collections.deque[BatchItem],
                   jobs: int) -> Iterator[Row]:
-            self.must("its words", (calls.command_paths.program_path, calls.is_kept, calls.limit,
-                                    jobs) ==
-                      (self.path("program"), True, 7, 3) and calls.inputs.names and
-                      waiting[0].request.every == 99)  # type: ignore[union-attr]
+            self.must("options", (runner.command_paths.program_path, runner.is_kept, runner.limit,
+                                  jobs) == (self.path("program"), True, 7, 3)
+                      and runner.inputs.names
+                      and waiting[0].request.every == 99)  # type: ignore[union-attr]
             while waiting:
-                yield judged(calls, waiting.popleft())
+                yield judge_item(runner, waiting.popleft())
 
-        with mock.patch("signal.signal"), mock.patch("time.sleep", next_look), \
+        with mock.patch("signal.signal"), mock.patch("time.sleep", finish_scan), \
                 mock.patch.object(batch, "judge_next_items", judge), \
-                contextlib.redirect_stdout(io.StringIO()) as out:
+                capture_output() as (out, _):
             os.symlink(self.bench.program, self.path("program"))
             status = batch.watch(self.arguments(program=self.path("program")), "tools/qc")
-        self.must("its status", status == 2, status)
-        return [line[21:] for line in out.getvalue().splitlines()]
+        self.check("status", status, 2)
+        return [line[TIME_WIDTH:] for line in out.getvalue().splitlines()]
+
+    def write_current_result(self, name: str, **more: Any) -> None:
+        """Write a result of a pair's present files, with the options of `arguments`."""
+        request = make_example_request(self.path(f"in/{name}.stl"), self.path(f"in/{name}.ts"),
+                                       "--every", "99")
+        program = schema.PROGRAM.to_json(describe_program(self.bench.program))
+        write_result_file(self.path(f"out/{name}.json"), make_result(
+            request=REQUEST.to_json(request), program=program,
+            files_at_start={**describe_inputs(request), **more}))
 
     def test_judges_only_pairs_without_a_current_result(self) -> None:
+        """The results of `a` and `c` are current, that of `b` names no subtitle file."""
         for name in ("in", "out"):
             os.mkdir(self.path(name))
-        program = describe_program(self.bench.program)
         for name in ("a", "b", "c"):
-            request = make_example_request(self.write(f"in/{name}.stl", b"1"),
-                                           self.write(f"in/{name}.ts", b"1"),
-                                           "--every", "99")
-            files = {**describe_inputs(request), **({"stl": None} if name == "b" else {})}
-            have = make_result(request=REQUEST.to_json(request), files_at_start=files,
-                               program=schema.PROGRAM.to_json(program))
-            self.write(f"out/{name}.json", json.dumps(have).encode())
+            for ending in ("stl", "ts"):
+                self.write(f"in/{name}.{ending}", b"1")
+            self.write_current_result(name, **({"stl": None} if name == "b" else {}))
         reads = []
 
         def read(path: str, is_refused: bool = False) -> dict[str, Any] | None:
@@ -362,95 +391,97 @@ class WatchedFolders(Case):
 
         with mock.patch("subtitles.results.files.read_result", read), \
                 mock.patch("subtitles.cli.batch.read_result", read):
-            lines = self.run_watch(6, lambda calls, item: row(item.name, "accepted"))
-        self.must("judged", lines == ["b  accepted"], lines)
-        self.must("read", sorted(reads) == ["a.json", "b.json", "c.json"], reads)
+            lines = self.run_watch(6, lambda _, item: make_table_row(item.name, "accepted"))
+        self.check("judged", lines, ["b  accepted"])
+        self.check("each result is read once", sorted(reads), ["a.json", "b.json", "c.json"])
 
     def test_keeps_the_state_of_a_watched_folder_for_monitoring(self) -> None:
         self.write_pair()
         states = []
 
-        def judged(calls: PairRunner, item: BatchItem) -> Row:
-            calls.report()
+        def judge_item(runner: PairRunner, item: BatchItem) -> Row:
+            runner.report()
             states.append(json.loads(self.read("out/state.json")))
-            return row(item.name, "accepted")
+            return make_table_row(item.name, "accepted")
 
         with mock.patch.object(collection, "STATE_SECONDS", 0.0):
-            self.run_watch(6, judged)
+            self.run_watch(6, judge_item)
         states.append(json.loads(self.read("out/state.json")))
-        self.check("waiting, verdicts, last result", [
+        self.check("waiting, verdicts, last result: before and after judging", [
             (state["waiting"], state["verdicts"], state["last_result"]) for state in states],
             [(1, {}, ""), (0, {"accepted": 1}, "a: accepted")])
+
+    def test_refuses_a_result_in_the_place_of_the_state(self) -> None:
+        self.write_pair()
+        os.mkdir(self.path("out"))
         self.write("out/state.json", b'{\n "format": 7,\n "verdict": "accepted"')
         self.assertRaises(Stop, refuse_folders, self.arguments())
 
     def test_reports_a_locked_pair_once_and_retries(self) -> None:
+        """The first of five scans finds the pair. The second to fifth begin to judge it."""
         self.write_pair()
         begun = list[str]()
 
-        def judged(calls: PairRunner, item: BatchItem) -> Row:
+        def judge_item(runner: PairRunner, item: BatchItem) -> Row:
             begun.append(item.name)
-            row_of = calls.start(item)
-            assert row_of
-            return row_of
+            row = runner.start(item)
+            assert row
+            return row
 
         with lock_pair(self.path("out"), "a"):
-            lines = self.run_watch(5, judged)
-        self.must("once", len(lines) == 1 and "another run of qc is writing the files of pair a" in
-                  lines[0] and not os.path.exists(self.path("out/a.json")), lines)
-        self.must("at each look but the first", begun == ["a"] * 4, begun)
+            [line] = self.run_watch(5, judge_item)
+        self.must("message", "another run of qc is writing the files of pair a" in line, line)
+        self.must("no result", not os.path.exists(self.path("out/a.json")))
+        self.check("begun", begun, ["a"] * 4)
 
     def test_judges_a_locked_pair_once_it_is_free(self) -> None:
+        """The pair is locked until the fourth of eight scans has ended."""
         self.write_pair()
         begun = list[bool]()
 
-        def judged(calls: PairRunner, item: BatchItem) -> Row:
-            row_of = calls.start(item)
-            begun.append(row_of is None)
-            return row_of or row(item.name, "accepted")
+        def judge_item(runner: PairRunner, item: BatchItem) -> Row:
+            row = runner.start(item)
+            begun.append(row is None)
+            return row or make_table_row(item.name, "accepted")
 
-        other = contextlib.ExitStack()
-        other.enter_context(lock_pair(self.path("out"), "a"))
-        with other, mock.patch.object(PairRunner, "start_locked_pair", return_value=None):
-            lines = self.run_watch(8, judged, lambda look: other.close() if look == 4 else None)
-        self.must("judged once", begun == [False, False, False, True] and len(lines) == 2 and
-                  lines[1] == "a  accepted", (begun, lines))
+        lock = contextlib.ExitStack()
+        lock.enter_context(lock_pair(self.path("out"), "a"))
+        with lock, mock.patch.object(PairRunner, "start_locked_pair", return_value=None):
+            lines = self.run_watch(8, judge_item, lambda scan: lock.close() if scan == 4 else None)
+        self.check("begun", begun, [False, False, False, True])
+        self.check("lines after that about the lock", lines[1:], ["a  accepted"])
 
     def test_judges_a_pair_again_when_it_changes(self) -> None:
+        """`a` changes after scans 2 and 5. `b` appears after scan 2, and changes after scan 5."""
         self.write_pair()
 
-        def change(look: int) -> None:
-            if look in (2, 5):
+        def change(scan: int) -> None:
+            if scan in (2, 5):
                 for name in ("in/a.ts", "in/b.stl", "in/b.ts"):
-                    self.write(name, b"1" * look)
+                    self.write(name, b"1" * scan)
 
-        lines = self.run_watch(9, lambda calls, item: row(item.name, "accepted"), change)
-        self.must("judged", lines == [f"{name}  accepted" for name in "aabab"], lines)
+        lines = self.run_watch(9, lambda _, item: make_table_row(item.name, "accepted"), change)
+        self.check("judged", lines, [f"{name}  accepted" for name in "aabab"])
 
     def test_judges_a_pair_again_when_it_changes_back(self) -> None:
+        """The recording grows after scan 2, and is as in its earlier result after scan 5."""
         self.write_pair()
         os.mkdir(self.path("out"))
-        request, path = make_example_request(self.path("in/a.stl"), self.path("in/a.ts"), "--every",
-                                             "99"), \
-            self.path("in/a.ts")
-        self.write("out/a.json", json.dumps(make_result(
-            request=REQUEST.to_json(request), files_at_start=describe_inputs(request),
-            program=schema.PROGRAM.to_json(describe_program(self.bench.program)))).encode())
-        before = os.stat(path).st_mtime_ns
+        self.write_current_result("a")
+        before = os.stat(self.path("in/a.ts")).st_mtime_ns
 
-        def change(look: int) -> None:
-            if look in (2, 5):
-                self.write("in/a.ts", b"1" * (1 + (look == 2)))
-                os.utime(path, ns=(before, before))
+        def change(scan: int) -> None:
+            if scan in (2, 5):
+                os.utime(self.write("in/a.ts", b"1" * (1 + (scan == 2))), ns=(before, before))
 
-        lines = self.run_watch(9, lambda calls, item: row(item.name, "accepted"), change)
-        self.must("each time", lines == ["a  accepted"] * 2, lines)
+        lines = self.run_watch(9, lambda _, item: make_table_row(item.name, "accepted"), change)
+        self.check("judged", lines, ["a  accepted"] * 2)
 
     def test_reports_each_reason_of_an_incomplete_pair_once(self) -> None:
         os.mkdir(self.path("in"))
-        watch, errors = FolderWatch(self.path("in"), 0), io.StringIO()
-        with contextlib.redirect_stderr(errors):
+        watch = FolderWatch(self.path("in"), 0)
+        with capture_output() as (_, errors):
             for reason in (*["first"] * 3, *["second"] * 3, *["first"] * 3):
-                self.must(reason, watch.find_ready_items([BatchItem("a", None, reason)]) == [])
-        lines = [line.partition(": ")[2] for line in errors.getvalue().splitlines()]
-        self.must("told", lines == ["first", "second", "first"], lines)
+                self.check(reason, watch.find_ready_items([BatchItem("a", None, reason)]), [])
+        self.check("lines", [line.partition(": ")[2] for line in errors.getvalue().splitlines()],
+                   ["first", "second", "first"])
