@@ -3,7 +3,6 @@ from __future__ import annotations
 
 import contextlib
 import functools
-import io
 import json
 import os
 import re
@@ -20,7 +19,7 @@ from subtitles.judging import faults, subtitles
 from subtitles.report import page as report
 from .bench import get_example_path
 from .parts import MEANINGS
-from .results import list_choice_errors, list_violations
+from .results import capture_output, list_choice_errors, list_violations
 
 VOLATILE_PATTERNS = [(re.compile(r"\d{4}-\d\d-\d\d[T ]\d\d:\d\d:\d\d(\.\d+)?"), "DATE"),
                      (re.compile('<dl class="made">.*?</dl>|PROGRAM</td><td.*?</tr>'), "MADE"),
@@ -41,14 +40,11 @@ class CallOutput(NamedTuple):
 
 def call_in_same_process(entry: Any, words: list[str]) -> tuple[int, str, str]:
     """Run a tool's `main` function. Return its exit status, output and error output."""
-    before, sys.argv = sys.argv, words[-len(words) + 1:] if words[0] == sys.executable else words
-    with contextlib.redirect_stdout(io.StringIO()) as out, \
-            contextlib.redirect_stderr(io.StringIO()) as errors:
+    with mock.patch.object(sys, "argv", words), capture_output() as (out, errors):
         try:
             run(entry)
         except SystemExit as ended:
             status = int(ended.code or 0)
-    sys.argv = before
     return status, out.getvalue(), errors.getvalue()
 
 

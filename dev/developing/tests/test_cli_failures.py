@@ -93,18 +93,14 @@ class CallCase(Case):
         received = [(item, signal.getsignal(item)) for item in SIGNALS]
         os.chdir(self.folder)
         try:
-            with open("out.txt", "w", encoding="utf-8") as printed, \
-                    open("told.txt", "w", encoding="utf-8") as reported, \
-                    mock.patch.multiple(sys, stdout=printed, stderr=reported, argv=[QC, *args]):
-                try:
-                    run(lambda line: main("", QC, line))
-                except SystemExit as ended:
-                    status = int(ended.code or 0)
-                except Exception as reason:
-                    raise AssertionError(f"it ended by {reason!r}") from reason
-            lines = self.text("out.txt").splitlines()
-            output = self.text("told.txt").splitlines()
-            return EndedCall(status, lines, [line for line in output if not line.endswith(FEW)])
+            # Output files named `-` are written to the file descriptor of standard output.
+            with open("out.txt", "w", encoding="utf-8") as out, \
+                    open("told.txt", "w", encoding="utf-8") as errors, \
+                    mock.patch.multiple(sys, stdout=out, stderr=errors, argv=[QC, *args]), \
+                    self.assertRaises(SystemExit) as ended:
+                run(lambda line: main("", QC, line))
+            return EndedCall(int(ended.exception.code or 0), self.text("out.txt").splitlines(), [
+                line for line in self.text("told.txt").splitlines() if not line.endswith(FEW)])
         finally:
             os.chdir(before)
             for item, handler in received:  # qc ignores signals while it exits

@@ -2,20 +2,15 @@
 from __future__ import annotations
 
 import argparse
-import contextlib
 import csv
-import functools
-import io
 import itertools
 import json
 import os
 import re
-import sys
 import tempfile
 import unittest
 import xml.etree.ElementTree as tree
 from types import ModuleType
-from typing import Any, Sequence
 from unittest import mock
 
 from subtitles.cli import batch, collection, main, measure, single
@@ -23,14 +18,14 @@ from subtitles.cli.main import (
     OPTION_MODES, find_mode, make_parser, find_output_path, find_pair_name, read_jobs,
     parse_line_number, read_seconds, refuse_options)
 from subtitles.common import command_line
-from subtitles.common.command_line import Stop, UsageError, run_main
+from subtitles.common.command_line import Stop, UsageError
 from subtitles.common.program import TOP, read
 from subtitles.request.commands import CommandPaths
 from subtitles.request.lines import make_line_request
 from subtitles.request.request import (
     ALONE, BATCH, COLLECT, LINE, MEASURE, MODES, Mode, PAIR, WATCH)
 from subtitles.results.files import FORMULA_BEGINNINGS
-from .bench import Case, CompletedCall, get_example_path, is_python, import_script, get_tool_path
+from .bench import Case, get_example_path, get_tool_path, is_python
 from .parts import make_default_options
 
 
@@ -277,22 +272,6 @@ def list_tool_names() -> list[str]:
             if os.access(get_tool_path(name), os.X_OK) and os.path.isfile(get_tool_path(name))]
 
 
-@functools.lru_cache(None)
-def load_tool_module(name: str) -> Any:
-    return import_script(name)
-
-
-def call_in_process(name: str, words: Sequence[str]) -> CompletedCall:
-    module, out, errors = load_tool_module(name), io.StringIO(), io.StringIO()
-    with mock.patch.object(sys, "argv", [get_tool_path(name), *words]), \
-            contextlib.redirect_stdout(out), contextlib.redirect_stderr(errors):
-        # The `main` that tools/air imports takes the text of its help first.
-        does = functools.partial(module.main, "text") if name == "air" else \
-            module.call_main if name in ("qc", "read") else module.main
-        status = run_main(does, words)
-    return CompletedCall(status, out.getvalue().encode(), errors.getvalue().splitlines())
-
-
 # Calls that must end with status 0. Each script has at least one, or stands in `CALLED_ELSEWHERE`.
 VALID: dict[str, list[list[str]]] = {
     "air": [["judge", "--help"]], "dist": [["to"]], "edits": [["--applies"]],
@@ -346,9 +325,7 @@ class WrongArguments(Case):
             for words, status in [*((words, 64) for words in usage),
                                   *((words, 2) for words in WRONG_FILES.get(name, []))]:
                 before = sorted(os.listdir(self.folder))
-                process = call_in_process(name, words) if is_python(get_tool_path(name)) else \
-                    self.tool(name, *words)
-                self.check_no_internal_error(process.told)
+                process = self.tool(name, *words)
                 self.must(f"{name} {' '.join(words)}", process.status == status and not process.out
                           and len(process.told) == 1
                           and process.told[0].startswith(os.path.basename(name) + ": ")
