@@ -1,13 +1,12 @@
 """Test the last lines, output files and report that qc writes for one pair."""
 from __future__ import annotations
 
-import contextlib
 import errno
 import fcntl
-import io
 import itertools
 import json
 import os
+import re
 import signal
 from typing import Any, Sequence
 from unittest import mock
@@ -21,7 +20,6 @@ from subtitles.clock.start import (
 from subtitles.common.command_line import ProgramInterrupted, Stop, UsageError
 from subtitles.common.markup import HEAD
 from subtitles.formats.listing import NamedFault
-from subtitles.judging.check import CheckOutput
 from subtitles.judging.coverage import describe_unchecked
 from subtitles.judging.part import Part
 from subtitles.judging.status import Severity
@@ -35,145 +33,165 @@ from subtitles.stream.gaps import LossPlace
 from .bench import Case, get_example_path
 from .judged import LineRecorder
 from .parts import make_answer, make_example_request, markup_text, make_part
+from .results import capture_output
 from .test_formats_files import refusal
 
 REFUSED = ["refused 72 Content frame 00:00:01:00 row 1 column 2", "refused 68 Parity frame "
            "00:00:02:00 packet 1", "2 faults"]
 
 
-def gap(is_judged: bool, mark: int | None = None) -> Gap:
-    return Gap("00:00:01:00", "00:00:02:00", "3 TS packets were lost",
-               LossPlace(1, 2, 3, gap_marker=mark), is_judged)
+def make_gap(is_judged: bool) -> Gap:
+    return Gap("00:00:01:00", "00:00:02:00", "3 TS packets were lost", LossPlace(1, 2, 3),
+               is_judged)
 
 
 class LastLines(Case):
+    """The last lines that qc prints about a verdict. Lines for standard error begin with "! "."""
+
     def verdict(self, parts: Sequence[Part], *args: str, **more: Any) -> Verdict:
+        """Return the verdict about 3 subtitles, with --origin 0; `more` sets attributes of it."""
         result = Verdict(make_example_request("one.stl", "one.pes", "--origin", "0", *args),
-                         Severity(
-            None, "--allow-lost" in args), "now", subtitle_count=3)
+                         Severity(None, "--allow-lost" in args), "now", subtitle_count=3)
         result.parts = list(parts)
         for name, value in more.items():
             setattr(result, name, value)
         return result
 
-    def said(self, verdict: Verdict) -> list[str]:
-        heard = LineRecorder()
-        print_verdict(verdict, heard)
-        return heard.lines
+    def print_lines(self, verdict: Verdict, page: str | None = None) -> list[str]:
+        recorder = LineRecorder()
+        print_verdict(verdict, recorder, page)
+        return recorder.lines
 
     def test_prints_notes_then_the_sentence_then_the_line(self) -> None:
-        said = self.said(self.verdict([make_part(0, 9, 0)], notes=["a note"], hints=["a hint"],
-                                      warnings=[Notice("kind", "strange")]))
-        self.must("lines", said == [
-            "! a note", said[1], "a hint",
+        note, warning, *others = self.print_lines(self.verdict(
+            [make_part(0, 9, 0)], notes=["a note"], hints=["a hint"],
+            warnings=[Notice("kind", "strange")]))
+        self.check("note", note, "! a note")
+        self.must("warning", warning.startswith("! ") and "strange" in warning, warning)
+        self.check("hint, sentence, line", others, [
+            "a hint",
             "Accepted: all 3 subtitles have the right text from the first frame to the last.",
-            "accepted 10 frames 2 transmissions"] and
-            "strange" in said[1] and said[1].startswith("! "), said)
-        said = self.said(self.verdict([make_part(0, 9, 0), make_part(
+            "accepted 10 frames 2 transmissions"])
+
+    def test_prints_a_line_for_each_part_and_then_their_sum(self) -> None:
+        """The clock of the second part was estimated from the recording."""
+        lines = self.print_lines(self.verdict([make_part(0, 9, 0), make_part(
             10, 19, 0, number=2, source=RECORDING)]))
-        self.must("parts", said[:2] == [
+        self.check("parts", lines[:2], [
             "part 1, from 00:00:00:00 to 00:00:00:09: accepted 10 frames 2 transmissions",
-            "part 2, from 00:00:00:10 to 00:00:00:19: accepted 10 frames 2 transmissions"], said)
-        self.must("estimated", ESTIMATED_LATER_NOTE in said and said[-1] ==
-                  "accepted 20 frames 4 transmissions in 2 parts", said)
-        rows: list[tuple[list[str], str, bool]] = [
-            (["accepted 10 frames 2 transmissions"], "relative 10 frames 2 transmissions", False),
-            (REFUSED, REFUSED[0], True)]
-        for lines, last, is_printed in rows:
-            said = self.said(self.verdict([make_part(0, 9, 0, make_answer(
-                lines, path=self.path("list")), source=RECORDING)]))
-            self.must("without a clock", said[-1] == last and any(
-                item.startswith(ESTIMATED_NOTE) for item in said) == is_printed, said)
+            "part 2, from 00:00:00:10 to 00:00:00:19: accepted 10 frames 2 transmissions"])
+        self.must("note about the clock", ESTIMATED_LATER_NOTE in lines, lines)
+        self.check("sum", lines[-1], "accepted 20 frames 4 transmissions in 2 parts")
+
+    def test_an_accepted_part_without_a_clock_is_relative(self) -> None:
+        for output, line, has_note in (
+                (["accepted 10 frames 2 transmissions"], "relative 10 frames 2 transmissions",
+                 False), (REFUSED, REFUSED[0], True)):
+            lines = self.print_lines(self.verdict([make_part(0, 9, 0, make_answer(
+                output, path=self.path("list")), source=RECORDING)]))
+            self.check(f"{line}: last line, note about the clock", (lines[-1], any(
+                item.startswith(ESTIMATED_NOTE) for item in lines)), (line, has_note))
+
+    def test_counts_the_causes_of_all_parts(self) -> None:
         causes: list[Any] = ["first", None, "third"]
-        with mock.patch.object(single, "format_cause_counts", lambda some: f"{some}"):
-            said = self.said(self.verdict([make_part(0, 9, 0, causes=item) for item in causes]))
-        self.must("causes of all parts", said[0] == "['first', 'third']", said)
+        with mock.patch.object(single, "format_cause_counts", lambda several: f"{several}"):
+            lines = self.print_lines(self.verdict([
+                make_part(0, 9, 0, causes=item) for item in causes]))
+        self.check("first line", lines[0], "['first', 'third']")
 
     def test_names_at_most_twenty_losses(self) -> None:
-        for count, more in ((1, None), (20, None), (21, "! and at 1 more place"),
-                            (23, "! and at 3 more places")):
-            said = self.said(self.verdict([make_part(0, 99, 0)], gaps=[gap(True)] * count))
-            place = "! between 00:00:01:00 and 00:00:02:00: 3 TS packets were lost"
-            self.must(f"{count}", said.count(place) == min(count, 20) and
-                      (more in said if more
-                       else not any("more place" in item for item in said[:-2])),
-                      said)
-            self.must("not recorded", "! record that part again: the missing frames were not "
-                                      "checked" in said, said)
-        said = self.said(self.verdict([make_part(0, 99, 0)], gaps=[gap(False)]))
-        self.must("outside", said[0].endswith("3 TS packets were lost, outside the judged range")
-                  and not any("record that part" in item for item in said), said)
-        said = self.said(self.verdict([make_part(0, 99, 0)], "--allow-lost", gaps=[gap(True)]))
-        self.must("allowed", not any("record that part" in item for item in said) and
-                  said[-1].startswith("accepted"), said)
-        said = self.said(self.verdict([make_part(0, 99, 0, make_answer(REFUSED))],
-                                      gaps=[gap(True)]))
-        self.must("refused too", "! record that part again: the missing frames were not "
-                                 "checked" in said, said)
+        place = "! between 00:00:01:00 and 00:00:02:00: 3 TS packets were lost"
+        for count, more in ((1, []), (20, []), (21, ["! and at 1 more place"]),
+                            (23, ["! and at 3 more places"])):
+            lines = self.print_lines(self.verdict([make_part(0, 99, 0)],
+                                                  gaps=[make_gap(True)] * count))
+            self.check(f"{count} losses", (lines.count(place), [
+                line for line in lines[:-2] if "more place" in line]), (min(count, 20), more))
+
+    def test_advises_to_record_again_after_a_loss_in_the_judged_range(self) -> None:
+        """Unless the loss is allowed."""
+        advice = "! record that part again: the missing frames were not checked"
+        accepted, refused = [make_part(0, 99, 0)], [make_part(0, 99, 0, make_answer(REFUSED))]
+        for name, parts, options, is_judged, is_advised in (
+                ("accepted", accepted, [], True, True), ("refused", refused, [], True, True),
+                ("allowed", accepted, ["--allow-lost"], True, False),
+                ("outside", accepted, [], False, False)):
+            lines = self.print_lines(self.verdict(parts, *options, gaps=[make_gap(is_judged)]))
+            self.check(f"{name}: advice", [line for line in lines if "record that part" in line],
+                       [advice] * is_advised)
+            self.check(f"{name}: loss outside", lines[0].endswith(
+                "3 TS packets were lost, outside the judged range"), name == "outside")
+            self.check(f"{name}: accepted", lines[-1].startswith("accepted"),
+                       name in ("allowed", "outside"))
+
+    ACCEPTED_AND_REFUSED = [make_part(0, 9, 0), make_part(10, 19, 0, make_answer(REFUSED), 2)]
 
     def test_prints_the_line_of_the_first_refused_part(self) -> None:
-        parts = [make_part(0, 9, 0), make_part(10, 19, 0, make_answer(REFUSED), 2)]
-        said = self.said(self.verdict(parts))
-        self.must("line", said[-2].startswith("Refused: ") and said[-1] == REFUSED[0] and
-                  "part 2, from 00:00:00:10 to 00:00:00:19: " + REFUSED[0] in said, said)
-        rows: list[tuple[Sequence[int], int, bool]] = [
-            ((0, 3), 1, True), ((), 1, False), ((0, 3), 0, False)]
-        for delays, within, is_printed in rows:
-            part = make_part(0, 9, 0, delays=delays)
-            said = self.said(self.verdict([part], *(["--within", str(within)] if within else [])))
-            self.must(f"{delays} {within}", len(said) == 2 + is_printed, said)
+        lines = self.print_lines(self.verdict(self.ACCEPTED_AND_REFUSED))
+        self.must("sentence", lines[-2].startswith("Refused: "), lines)
+        self.check("last line", lines[-1], REFUSED[0])
+        self.must("part", f"part 2, from 00:00:00:10 to 00:00:00:19: {REFUSED[0]}" in lines, lines)
+
+    def test_prints_the_delays_only_if_some_are_allowed(self) -> None:
+        """A line precedes the two last lines if --within is given and subtitles are late."""
+        for delays, within, count in (((0, 3), 1, 3), ((), 1, 2), ((0, 3), 0, 2)):
+            lines = self.print_lines(self.verdict([make_part(0, 9, 0, delays=delays)],
+                                                  "--within", f"{within}"))
+            self.check(f"{delays} --within {within}: lines", len(lines), count)
+
+    def test_the_sentence_names_the_report_or_the_page_about_the_fault(self) -> None:
         accepted = [make_part(0, 9, 0)]
-        for some, page, where in (
-                (parts, None, ". See docs/manual/refusals.md#n72."), (accepted, "a.html", "."),
-                (parts, "out/one.html", ". See out/one.html."), (accepted, None, ".")):
-            heard = LineRecorder()
-            print_verdict(self.verdict(some), heard, page)
-            self.must(f"{page}: where to look", heard.lines[-2] ==
-                      self.verdict(some).sentence.removesuffix(".") + where, heard.lines)
+        for parts, page, end in (
+                (self.ACCEPTED_AND_REFUSED, None, ". See docs/manual/refusals.md#n72."),
+                (self.ACCEPTED_AND_REFUSED, "out/one.html", ". See out/one.html."),
+                (accepted, "a.html", "."), (accepted, None, ".")):
+            verdict = self.verdict(parts)
+            self.check(f"{page}", self.print_lines(verdict, page)[-2],
+                       verdict.sentence.removesuffix(".") + end)
 
     def test_prints_why_a_pair_is_not_judged(self) -> None:
-        said = self.said(self.verdict([], unjudged=Unjudged(
+        lines = self.print_lines(self.verdict([], unjudged=Unjudged(
             "one\ntwo", "undecided", ("first", "second", "third"))))
-        self.must("why", said == ["! one", "! two", "! try: first", "! or: second", "! or: third"],
-                  said)
+        self.check("lines", lines, ["! one", "! two", "! try: first", "! or: second",
+                                    "! or: third"])
+
+    def test_prints_how_many_faults_were_found_before_a_stop(self) -> None:
         rows: list[tuple[list[Part], str]] = [
             ([], "nothing was judged so far"),
             ([make_part(0, 9, 0, make_answer(REFUSED))], "2 faults so far")]
         for parts, words in rows:
-            said = self.said(self.verdict(parts, unjudged=Unjudged(
+            lines = self.print_lines(self.verdict(parts, unjudged=Unjudged(
                 "stopped at x", "signal", is_stopped=True)))
-            self.must(words, said[-2:] == [words, "! not judged: stopped at x"], said)
+            self.check(words, lines[-2:], [words, "! not judged: stopped at x"])
 
     def test_prints_not_judged_after_a_line_of_the_program(self) -> None:
-        rows: list[tuple[str, list[str]]] = [
-            ("accepted 5 frames 2 transmissions", ["not judged"]), ("3 faults", ["not judged"]),
-            ("+ a command", []), ("", [])]
-        for last, expected in rows:
-            heard = LineRecorder()
-            heard.last_line = last
-            print_verdict(self.verdict([], unjudged=Unjudged("why", "undecided")), heard)
-            self.must(last, heard.lines == [*expected, "! why"], heard.lines)
+        """So that no verdict of the program is the last line."""
+        for last, expected in (("accepted 5 frames 2 transmissions", ["not judged"]),
+                               ("3 faults", ["not judged"]), ("+ a command", []), ("", [])):
+            recorder = LineRecorder()
+            recorder.last_line = last
+            print_verdict(self.verdict([], unjudged=Unjudged("why", "undecided")), recorder)
+            self.check(last, recorder.lines, [*expected, "! why"])
 
 
 class OutputFilesOfPair(Case):
+    """Output files of the pair `one`, story.stl and an empty recording, which is refused."""
+
     def setUp(self) -> None:
         super().setUp()
         os.mkdir(self.path("out"))
         self.write("one.pes", b"")
 
-    def files(self, verdict: Verdict, **words: Any) -> OutputFiles:
-        known = PairOptions(None, **words)
+    def files(self, verdict: Verdict, **options: Any) -> OutputFiles:
+        known = PairOptions(None, **options)
         names = OutputNames("one", self.folder, known.out)
         return OutputFiles(known, verdict, CommandPaths("tools/qc", self.bench.program), names)
 
     def part(self, number: int = 1, lines: Sequence[str] = REFUSED) -> Part:
-        said = CheckOutput(self.path(f"list{number}"))
-        for line in lines:
-            said.read_line(line)
-        said.finish(1)
         names = OutputNames("a", self.folder, self.folder)
         names.program_stl = get_example_path("story.stl")
-        return make_part(0, 9, 0, said, number, names=names)
+        output = make_answer(lines, 1, self.path(f"list{number}"))
+        return make_part(0, 9, 0, output, number, names=names)
 
     def verdict(self, lines: Sequence[str] = REFUSED) -> Verdict:
         result = Verdict(make_example_request(get_example_path("story.stl"), self.path("one.pes")),
@@ -182,37 +200,34 @@ class OutputFilesOfPair(Case):
         result.parts = [self.part(1, lines)]
         return result
 
-    def refusal(self, asked: Request, **words: Any) -> str:
-        known = PairOptions(None, **words)
-        return refusal(lambda: refuse_outputs(known, asked, words.get("out"), "one"))
+    def refusal(self, request: Request, **options: Any) -> str:
+        """Return the message if qc refuses the paths of its outputs, or an empty string."""
+        known = PairOptions(None, **options)
+        return refusal(lambda: refuse_outputs(known, request, options.get("out"), "one"))
 
-    def test_removes_earlier_results_and_never_writes_an_input(self) -> None:
+    def test_removes_the_earlier_results_of_this_pair_only(self) -> None:
         others = {"two.json", "one~2.json", "onex.1.txt", "one.0.txt", "one.1.json", "one.x.txt"}
         for name in ("one.json", "one.html", "one.txt", "one.1.html", "one.12.txt", *others):
             self.write(f"out/{name}", b"")
         os.symlink("nowhere", self.path("out/one.3.txt"))
         remove_results(self.path("out"), "one")
-        self.must("left", {*os.listdir(self.path("out"))} == others)
-        os.symlink(get_example_path("story.stl"), self.path("link"))
-        asked = self.verdict().request
-        for name in ("json", "csv", "junit"):
-            for path in (self.path("one.pes"), get_example_path("story.stl"), self.path("link")):
-                self.must(f"{name} {path}",
-                          "is also an input: give another "
-                          "name" in self.refusal(asked, **{name: path}))
-        self.must("none", not self.refusal(asked, json=self.path("new.json")))
+        self.check("left", {*os.listdir(self.path("out"))}, others)
+
+    def test_never_writes_a_file_of_the_pair_over_an_input(self) -> None:
         for name in ("one.cut.pes", "one.recording.pes", "one.json", "one.2.txt", ".one.lock"):
-            for at in ("stl", "recording", "severity"):
-                asked, path = self.verdict().request, self.write(f"out/{name}", b"")
-                setattr(asked, at, path)
-                self.must(f"{name} as {at}", "is also an input: give another name" in self.refusal(
-                    asked, out=self.path("out")))
+            for role in ("stl", "recording", "severity"):
+                request, path = self.verdict().request, self.write(f"out/{name}", b"")
+                setattr(request, role, path)
+                self.must(f"{name} as {role}", "is also an input: give another name" in
+                          self.refusal(request, out=self.path("out")))
                 os.unlink(path)
+        self.check("a new file", self.refusal(self.verdict().request, json=self.path("new.json")),
+                   "")
 
     def test_refuses_to_replace_files_that_are_no_results(self) -> None:
-        asked, out = self.verdict().request, self.path("out")
+        request, out = self.verdict().request, self.path("out")
         page, like = HEAD.page(), b'<!DOCTYPE html>\n<html lang="en"><head><meta charset="UTF-8">'
-        rows: list[tuple[str, bytes, bool]] = [
+        rows: list[tuple[str, bytes, bool]] = [  # name, contents, and whether qc wrote the file
             ("one.json", b'{\n "format": 3,\n "verdict": "accepted",', True),
             ("one.json", b'{"format": 2, "verdict": "refused"', True), ("one.json", b"{}", False),
             ("one.json", b' {"format": 3, "verdict": "accepted"', False),
@@ -225,54 +240,63 @@ class OutputFilesOfPair(Case):
             (".one.lock", b"1", False), ("one.recording.ts", b"", False)]
         for name, data, is_own in rows:
             path = self.write(f"out/{name}", data)
-            told = self.refusal(asked, out=out)
-            self.must(f"{name} {data!r}", bool(told) != is_own and (is_own or told.startswith(
-                f"{path} exists and was not written by")) and self.read(f"out/{name}") == data,
-                      told)
+            message = self.refusal(request, out=out)
+            self.must(f"{name} {data!r}", bool(message) != is_own and (is_own or message.startswith(
+                f"{path} exists and was not written by")), message)
+            self.check(f"{name} {data!r}: contents", self.read(f"out/{name}"), data)
             os.unlink(path)
             os.symlink(self.path("one.pes"), path)
-            self.must(f"{name}: a link", not self.refusal(asked, out=out))
+            self.check(f"{name}: a link", self.refusal(request, out=out), "")
             os.unlink(path)
             for make in (os.mkdir, os.mkfifo):
                 make(path)
-                self.must(f"{name}: {make}", "was not written by" in self.refusal(asked, out=out))
+                self.must(f"{name}: {make}", "was not written by" in self.refusal(request, out=out))
                 os.rmdir(path) if make is os.mkdir else os.unlink(path)
-        result = self.write("out/one.json", rows[0][1])
-        kept = self.write("out/one.recording.ts", b"")
-        at = 1_700_000_000 * 10**9
+
+    def test_replaces_a_recording_that_was_kept_with_a_result(self) -> None:
+        """qc keeps the recording of a pipe up to KEPT_SECONDS before it writes the result."""
+        result = self.write("out/one.json", b'{\n "format": 3,\n "verdict": "accepted",')
+        recording, at = self.write("out/one.recording.ts", b""), 1_700_000_000 * 10**9
         os.utime(result, ns=(at, at))
         for before, is_own in ((0, True), (1, True), (KEPT_SECONDS * 10**9 - 1, True),
                                (KEPT_SECONDS * 10**9, False), (-1, False)):
-            os.utime(kept, ns=(at - before, at - before))
-            self.must(f"{before} ns before a result", bool(self.refusal(asked, out=out)) != is_own)
+            os.utime(recording, ns=(at - before, at - before))
+            self.check(f"{before} ns before the result", self.refusal(
+                self.verdict().request, out=self.path("out")) == "", is_own)
 
-    def test_acquires_a_free_lock(self) -> None:
-        path, kept, calls = self.path("out/.one.lock"), self.write("kept", b"1"), list[int]()
+    def test_acquires_a_free_lock_and_deletes_it(self) -> None:
+        """A link in the place of the lock is replaced. A lock that is deleted is acquired again."""
+        path, target, calls = self.path("out/.one.lock"), self.write("target", b"1"), list[int]()
 
-        def taken(handle: int, _: int) -> None:
+        def delete_first_lock(handle: int, _: int) -> None:
             calls.append(handle)
             if len(calls) == 1:
                 os.unlink(path)
 
         rows: list[tuple[object, int]] = [
-            (fcntl.flock, 1), (taken, 2), (OSError(errno.ENOLCK, "none"), 1)]
+            (fcntl.flock, 1), (delete_first_lock, 2), (OSError(errno.ENOLCK, "none"), 1)]
         for does, count in rows:
-            os.symlink(kept, path)
+            os.symlink(target, path)
             before = os.listdir("/proc/self/fd")
-            with mock.patch("fcntl.flock", side_effect=does) as open_locked, \
+            with mock.patch("fcntl.flock", side_effect=does) as flock, \
                     lock_pair(self.path("out"), "one"):
-                self.must(f"{does}", open_locked.call_count == count and os.path.isfile(path) and
-                          not os.path.islink(path), calls)
-            self.must("left", (os.listdir("/proc/self/fd"), os.listdir(self.path("out")),
-                               self.read("kept")) == (before, [], b"1"))
+                self.must(f"{does}: a lock", os.path.isfile(path) and not os.path.islink(path))
+                self.check(f"{does}: calls of flock", flock.call_count, count)
+            self.check(f"{does}: open files, files, target", (
+                os.listdir("/proc/self/fd"), os.listdir(self.path("out")), self.read("target")),
+                (before, [], b"1"))
+
+    def test_refuses_a_lock_that_is_in_use(self) -> None:
         with lock_pair(self.path("out"), "one"):
             before = os.listdir("/proc/self/fd")
             for _ in range(2):
                 self.assertRaises(FilesInUse, lock_pair(self.path("out"), "one").__enter__)
-            self.must("in use", os.listdir("/proc/self/fd") == before and os.path.exists(path))
-            os.unlink(path)  # another process replaces the lock
+            self.check("open files", os.listdir("/proc/self/fd"), before)
+            os.unlink(self.path("out/.one.lock"))  # another process replaces the lock
             self.write("out/.one.lock", b"another one's")
         self.check("another one's lock is left", os.listdir(self.path("out")), [".one.lock"])
+
+    def test_refuses_a_folder_into_which_a_batch_is_judged(self) -> None:
         with lock_folder(self.path("out")), self.assertRaisesRegex(
                 FilesInUse, f"^another run of qc is judging a batch into {self.path('out')}$"):
             lock_folder(self.path("out")).__enter__()
@@ -281,43 +305,48 @@ class OutputFilesOfPair(Case):
         rows: list[tuple[dict[str, str], bool]] = [
             ({}, False), ({"json": "x"}, True), ({"csv": "x"}, True), ({"junit": "x"}, False),
             ({"out": self.path("out")}, True)]
-        for words, expected in rows:
-            self.must(f"{words}", self.files(self.verdict(), **words).needs_sums() == expected)
+        for options, expected in rows:
+            self.check(f"{options}", self.files(self.verdict(), **options).needs_sums(), expected)
 
     def test_writes_each_requested_file(self) -> None:
         files = self.files(self.verdict(), json=self.path("one.json"), csv=self.path("one.csv"),
                            junit=self.path("one.xml"), out=self.path("out"))
         files.write()
-        self.must("nothing failed", not files.verdict.failed_outputs, files.verdict.failed_outputs)
+        self.check("failed outputs", files.verdict.failed_outputs, [])
         for name in ("one.json", "out/one.json"):
-            have = json.loads(self.read(name))
-            self.must(name, have["verdict"] == "refused" and len(have["faults"]) == 2, have)
-        self.must("lines", len(self.read("one.csv").splitlines()) == 2)
-        self.must("case", b"refused 68 Parity" in self.read("one.xml"))
-        self.must("page", b"part 1" not in self.read("out/one.html"), files.verdict.failed_outputs)
-        verdict = self.verdict()
-        verdict.parts.append(self.part(2))
-        several = self.files(verdict, out=self.path("out"))
-        several.write()
-        self.must("page of parts", b"part 2" in self.read("out/one.html"), verdict.failed_outputs)
+            result = json.loads(self.read(name))
+            self.check(name, (result["verdict"], len(result["faults"])), ("refused", 2))
+        self.check("CSV rows", len(self.read("one.csv").splitlines()), 2)
+        self.must("JUnit", b"refused 68 Parity" in self.read("one.xml"))
+
+    def test_the_report_numbers_the_parts_if_there_are_several(self) -> None:
+        verdict, pages = self.verdict(), list[bytes]()
+        for parts in (verdict.parts, [*verdict.parts, self.part(2)]):
+            verdict.parts = parts
+            self.files(verdict, out=self.path("out")).write()
+            pages.append(self.read("out/one.html"))
+        self.check("part 1", [b"part 1" in page for page in pages], [False, True])
+        self.must("part 2", b"part 2" in pages[1])
 
     def test_reports_a_failed_output_in_all_others(self) -> None:
+        """One of three outputs is in a missing folder or on a full device. JSON is written last."""
         for name, nowhere in itertools.product(("csv", "junit", "json"), (
                 self.path("no/where"), *["/dev/full"] * os.path.exists("/dev/full"))):
             outputs = {item: self.path(f"{name}.{item}") for item in ("csv", "junit", "json")}
             outputs[name] = nowhere
             files = self.files(self.verdict(), **outputs, out=self.path("out"))
             files.write()
-            self.must(name, len(files.verdict.failed_outputs) == 1
-                      and nowhere in files.verdict.failed_outputs[0].reason)
-            self.must(f"{name}: object", json.loads(self.read("out/one.json"))["verdict"] ==
-                      "not judged")
+            [failed] = files.verdict.failed_outputs
+            self.must(name, nowhere in failed.reason, failed)
+            self.check(f"{name}: JSON", json.loads(self.read("out/one.json"))["verdict"],
+                       "not judged")
             if name != "csv":
-                self.must(f"{name}: lines", b"not judged" in self.read(f"{name}.csv"))
+                self.must(f"{name}: CSV", b"not judged" in self.read(f"{name}.csv"))
             if name != "junit":
-                self.must(f"{name}: case", b"<error" in self.read(f"{name}.junit"))
+                self.must(f"{name}: JUnit", b"<error" in self.read(f"{name}.junit"))
 
     def test_writes_a_pipe_last(self) -> None:
+        """The CSV file is a pipe, which gets the reason of a JUnit file that fails."""
         pipe = self.path("pipe")
         os.mkfifo(pipe)
         reader = os.open(pipe, os.O_RDONLY | os.O_NONBLOCK)
@@ -325,50 +354,55 @@ class OutputFilesOfPair(Case):
         files.write()
         text = os.read(reader, 1 << 16).decode()
         os.close(reader)
-        self.must("once", text.count("stl,recording") == 1 and "not judged" in text, text)
+        self.must("not judged", "not judged" in text, text)
+        self.check("tables in the pipe", text.count("stl,recording"), 1)
 
     def test_writes_the_reason_if_a_result_cannot_be_made(self) -> None:
         def fail() -> Any:
             raise ValueError("wrong")
 
-        for is_json, is_raw in ((True, False), (False, False), (False, True)):
-            files = self.files(self.verdict())
-            path = self.path(f"{is_json}.json")
-            self.must("failed", not files.try_to_write(
-                Output(path, fail, is_json=is_json, is_raw=is_raw)))
-            self.must(f"{is_json} {is_raw}", os.path.exists(path) == is_json and
-                      "wrong" in files.verdict.failed_outputs[0].reason
-                      and files.verdict.status == 70, files.verdict.failed_outputs)
-        self.must("why", "wrong" in json.loads(self.read("True.json"))["reason"])
+        for kind, is_written in (("is_json", True), ("", False), ("is_raw", False)):
+            files, path = self.files(self.verdict()), self.path(f"{kind}.json")
+            output = Output(path, fail, is_json=kind == "is_json", is_raw=kind == "is_raw")
+            self.check(f"{kind}: result, file, status", (
+                files.try_to_write(output), os.path.exists(path), files.verdict.status),
+                (False, is_written, 70))
+            self.must(f"{kind}: reason", "wrong" in files.verdict.failed_outputs[0].reason)
+        self.must("reason in the file", "wrong" in json.loads(self.read("is_json.json"))["reason"])
 
     def test_writes_the_first_hundred_faults_of_all_parts(self) -> None:
-        many = [f"refused 68 Parity frame 00:00:01:00 packet {at}" for at in range(70)]
-        verdict = self.verdict([*many, "70 faults"])
-        verdict.parts += [make_part(0, 9, 0), self.part(2, [*many, "70 faults"])]
-        lines = self.files(verdict).list_lines()
-        self.must("lines", lines == [*many, "70 faults", *many[:29]], lines[65:75])
-        self.must("name", make_pair_title(make_example_request("a.stl", None)) == "a.stl" and
-                  make_pair_title(make_example_request("a.stl", "b.ts")) == "a.stl b.ts")
+        faults = [f"refused 68 Parity frame 00:00:01:00 packet {at}" for at in range(70)]
+        verdict = self.verdict([*faults, "70 faults"])
+        verdict.parts += [make_part(0, 9, 0), self.part(2, [*faults, "70 faults"])]
+        self.check("lines", self.files(verdict).list_lines(), [*faults, "70 faults", *faults[:29]])
+
+    def test_the_title_of_a_pair_is_its_files(self) -> None:
+        for recording, title in ((None, "a.stl"), ("b.ts", "a.stl b.ts")):
+            self.check(title, make_pair_title(make_example_request("a.stl", recording)), title)
 
     def test_is_not_judged_if_the_verdict_cannot_be_printed(self) -> None:
+        """The JSON file already has status 1, and is written again with status 2."""
         for reason in (OSError(28, "No space left on device"), KeyboardInterrupt()):
-            verdict, heard = self.verdict(), LineRecorder()
+            verdict, recorder = self.verdict(), LineRecorder()
             files = self.files(verdict, json=self.path("one.json"))
             files.write()
-            self.must("before", json.loads(self.read("one.json"))["status"] == 1)
-            with contextlib.redirect_stderr(io.StringIO()), mock.patch.object(
-                    single, "ignore_signals"), mock.patch.object(single, "discard_output"), \
-                    mock.patch.object(heard, "print_line", side_effect=[reason, *[None] * 9]):
-                report_pair(verdict, heard, files)
-            self.must(f"{reason!r}", json.loads(self.read("one.json"))["status"] == 2 and
-                      verdict.status == 2, verdict.failed_outputs)
-        pair = mock.Mock(verdict=self.verdict())
+            self.check("before", json.loads(self.read("one.json"))["status"], 1)
+            with capture_output(), mock.patch.object(single, "ignore_signals"), \
+                    mock.patch.object(single, "discard_output"), mock.patch.object(
+                        recorder, "print_line", side_effect=[reason, *[None] * 9]):
+                report_pair(verdict, recorder, files)
+            self.check(f"{reason!r}: statuses", (json.loads(self.read("one.json"))["status"],
+                                                 verdict.status), (2, 2))
+
+    def test_writes_the_outputs_again_if_a_signal_interrupts_that(self) -> None:
+        pair, files = mock.Mock(verdict=self.verdict()), self.files(self.verdict())
         with mock.patch.object(single, "ignore_signals"), mock.patch.object(
-                files, "write", side_effect=[KeyboardInterrupt(), None]) as written:
+                files, "write", side_effect=[KeyboardInterrupt(), None]) as write:
             judge_pair(pair, files)
-        self.must("written again", pair.verdict.status == 2 and written.call_count == 2)
+        self.check("status, calls", (pair.verdict.status, write.call_count), (2, 2))
 
     def test_each_error_ends_as_final_or_not(self) -> None:
+        # The error, whether judging again would give the same, its kind, and the exit status.
         rows: list[tuple[BaseException | None, bool, str | None, int]] = [
             (None, True, None, 1), (Unclear("a", "b"), True, "undecided", 2),
             (IncompleteAnswer("a", -signal.SIGKILL), False, "signal", 2),
@@ -392,21 +426,25 @@ class OutputFilesOfPair(Case):
                                        verdict.not_judged_kind, verdict.status),
                        (is_final, is_stopped, kind, status))
         verdict.unjudged, verdict.failed_outputs = None, [FailedOutput("an output", "resource")]
-        self.must("an output", not verdict.is_final)
+        self.must("a failed output is not final", not verdict.is_final)
 
     def test_a_bug_in_a_forked_call_leaves_a_result(self) -> None:
-        asked = make_example_request(get_example_path("hello.stl"), get_example_path("hello.pes"))
-        with mock.patch.object(batch, "judge_and_report", side_effect=ZeroDivisionError("one")), \
-                contextlib.redirect_stderr(io.StringIO()):
-            status = batch.judge_forked_pair(asked, PairOptions(
+        request = make_example_request(get_example_path("hello.stl"), get_example_path("hello.pes"))
+        with mock.patch.object(batch, "judge_and_report", side_effect=ZeroDivisionError("odd")), \
+                capture_output():
+            status = batch.judge_forked_pair(request, PairOptions(
                 self.bench.program, json=self.path("one.json"), name="one"))
         known = json.loads(self.read("one.json"))
-        self.must("not judged", (status, known["status"], known["not_judged_kind"]) ==
-                  (70, 70, "bug") and "one" in known["reason"], known)
+        self.check("statuses, kind", (status, known["status"], known["not_judged_kind"]),
+                   (70, 70, "bug"))
+        self.must("reason", "odd" in known["reason"], known)
 
 
 class Pages(Case):
-    def several(self) -> Verdict:
+    """Reports on one pair, and the index page of several pairs."""
+
+    def verdict(self) -> Verdict:
+        """Return the verdict about three parts, of which the second has two faults."""
         verdict = Verdict(make_example_request(get_example_path("story.stl"), "one.pes"),
                           Severity(None), "2026-01-02T03:04:05Z")
         verdict.parts = [make_part(0, 9, 7), make_part(50, 99, 9, make_answer(REFUSED), 2),
@@ -415,91 +453,134 @@ class Pages(Case):
             part.names.program_stl = get_example_path("story.stl")
         return verdict
 
-    def test_links_a_row_to_each_part(self) -> None:
-        verdict = self.several()
-        for delay, words in ((0, "Clock given: --origin 7."),
-                             (2, "Clock given: --origin 7. All 2 frames late."),
-                             (-1, "Clock given: --origin 7. All 1 frame early.")):
+    def test_names_the_clock_and_delay_of_a_part(self) -> None:
+        for delay, text in ((0, "Clock given: --origin 7."),
+                            (2, "Clock given: --origin 7. All 2 frames late."),
+                            (-1, "Clock given: --origin 7. All 1 frame early.")):
             part = make_part(0, 9, 7, alignment=TimedPart(0, 9, Clock(7, GIVEN, delay)))
             table = markup_text(report_page.make_parts_table([part]))
-            self.must(words, f'<td data-name="Clock">{words}</td>' in table, table)
-        table = markup_text(report_page.make_parts_table(verdict.parts))
+            self.must(text, f'<td data-name="Clock">{text}</td>' in table, table)
+
+    def test_links_a_row_to_each_part(self) -> None:
+        table = markup_text(report_page.make_parts_table(self.verdict().parts))
         for number in (1, 2, 3):
-            self.must(f"part {number}", table.count(
-                f'<a href="#part{number}">part {number}</a>') == 1, table)
-        self.must("faults", '<td data-name="Faults">2</td>' in table and
-                  table.count('<td data-name="Faults">0</td>') == 2, table)
-        verdict.gaps, verdict.warnings = [gap(True), gap(False)], [Notice("kind", "strange")]
+            self.check(f"part {number}", table.count(
+                f'<a href="#part{number}">part {number}</a>'), 1)
+        self.check("fault counts", re.findall(r'<td data-name="Faults">(\d)</td>', table),
+                   ["0", "2", "0"])
+
+    def test_shows_losses_in_the_judged_range_and_warnings_beside_the_verdict(self) -> None:
+        verdict = self.verdict()
+        verdict.gaps, verdict.warnings = [make_gap(True), make_gap(False)], [
+            Notice("kind", "strange")]
         box = markup_text(report_page.make_verdict_box(verdict))
         self.must("box", box.startswith('<div class="verdict refused">') and verdict.sentence in
-                  box and box.count("3 TS packets were lost") == 1 and "strange" in box, box)
-        for verdict.gaps, count in ((verdict.gaps, 1), (verdict.gaps[:1], 0)):
-            listed = "".join(describe_unchecked(verdict))
-            self.must("outside", listed.count("3 TS packets were lost, outside") == count, listed)
+                  box and "strange" in box, box)
+        self.check("losses", box.count("3 TS packets were lost"), 1)
+
+    def test_lists_losses_and_packets_outside_the_judged_range_as_unchecked(self) -> None:
+        verdict = self.verdict()
+        for gaps, count in (([make_gap(True), make_gap(False)], 1), ([make_gap(True)], 0)):
+            verdict.gaps = gaps
+            self.check(f"{gaps}", "".join(describe_unchecked(verdict)).count(
+                "3 TS packets were lost, outside"), count)
+        verdict.parts = [make_part(0, 9, 7, packets=mock.MagicMock(count=9), pes=(2, 4))]
+        text = "".join(describe_unchecked(verdict))
+        self.must("PES packets 2-4 of 9", "6 PES packets of 9, before" in text, text)
+
+    def test_names_the_programme_and_its_range(self) -> None:
+        """The second subtitle file was read from a pipe, and stored."""
+        verdict = self.verdict()
         scope = markup_text(report_page.make_scope_section(verdict))
-        self.must("scope", "00:00:00:00 to 00:00:05:24, " in scope, scope)
-        # a pipe is judged by its stored copy
+        self.must("range", "00:00:00:00 to 00:00:05:24, " in scope and "Programme" in scope, scope)
         verdict.request = make_example_request("piped.stl", "one.pes")
         verdict.request.kept_stl = get_example_path("story.stl")
-        self.must("a pipe", "Programme" in scope and "piped.stl" in
-                  markup_text(report_page.make_scope_section(verdict)), scope)
-        verdict.parts = [make_part(0, 9, 7, packets=mock.MagicMock(count=9), pes=(2, 4))]
-        listed = "".join(describe_unchecked(verdict))
-        self.must("packets", "6 PES packets of 9, before" in listed, listed)
+        scope = markup_text(report_page.make_scope_section(verdict))
+        self.must("a pipe", "Programme" in scope and "piped.stl" in scope, scope)
+
+    def test_lists_waived_faults(self) -> None:
+        verdict = self.verdict()
         verdict.named_faults = [NamedFault("never sent", "a"), NamedFault("not shown", "b")]
         verdict.severity.severity_by_fault = {"not shown": "warning"}
-        self.must("waived", [*report_page.list_waived(verdict)] == ["not shown: b"])
+        self.check("waived", [*report_page.list_waived(verdict)], ["not shown: b"])
 
-    def test_has_a_page_if_not_judged(self) -> None:
-        verdict = self.several()
+    def test_has_a_page_without_a_timeline_if_not_judged(self) -> None:
+        paths, verdict = CommandPaths("tools/qc", self.bench.program), self.verdict()
         verdict.unjudged = Unjudged("no clock <\nnone", "undecided", ("tools/qc a b --origin T",))
         verdict.notes, verdict.warnings = ["a note"], [Notice("kind", "strange")]
-        page = markup_text(report_page.make_report_page(verdict, CommandPaths(
-            "tools/qc", self.bench.program)))
+        page = markup_text(report_page.make_report_page(verdict, paths))
         for words in ("Not judged: no clock &lt;", "<p>none</p>", "a note", "strange",
                       'Type <code class="long">tools/qc a b --origin T</code>',
                       '<dt>Recording</dt><dd>one.pes</dd>', 'id="files"', "<dd>Story</dd>"):
             self.must(words, words in page, page)
-        self.must("no part", "Timeline" not in page)
+        self.must("no timeline", "Timeline" not in page, page)
 
-    def test_lists_refused_pairs_first(self) -> None:
-        def one(name: str, verdict: str, status: int, line: str, faults: int = 0,
-                causes: int = 0, hint: str = "") -> Row:
-            return Row(name, f"{name}.stl", verdict, status, line, faults, {
-                f"cause {at}": at for at in range(causes)}, [], 0.0, hint)
+    @staticmethod
+    def make_pair(name: str, verdict: str, status: int, line: str, faults: int = 0,
+                  causes: int = 0, hint: str = "") -> Row:
+        return Row(name, f"{name}.stl", verdict, status, line, faults, {
+            f"cause {at}": at for at in range(causes)}, [], 0.0, hint)
 
-        rows = [one("a", "accepted", 0, "accepted 5"),
-                one("b", "not judged", 2, "why\nmore\nand\nfour"),
-                one("c", "waived", 0, "waived: x", 1, 1),
-                one("d<", "refused", 1, "refused 72", 9, 7, "a hint"),
-                one("e", "lost", 1, "not accepted")]
-        self.must("order", [row.name for row in sorted(rows, key=collection.make_sort_key)] ==
-                  ["d<", "e", "b", "c", "a"])
+    def make_pairs(self) -> list[Row]:
+        return [self.make_pair("a", "accepted", 0, "accepted 5"),
+                self.make_pair("b", "not judged", 2, "why\nmore\nand\nfour"),
+                self.make_pair("c", "waived", 0, "waived: x", 1, 1),
+                self.make_pair("d<", "refused", 1, "refused 72", 9, 7, "a hint"),
+                self.make_pair("e", "lost", 1, "not accepted")]
+
+    def make_index(self, rows: list[Row]) -> str:
+        return collection.make_index_page(self.folder, rows, "now").decode()
+
+    def test_the_index_lists_refused_pairs_first(self) -> None:
+        pairs = sorted(self.make_pairs(), key=collection.make_sort_key)
+        self.check("order", [pair.name for pair in pairs], ["d<", "e", "b", "c", "a"])
+
+    def test_the_index_counts_verdicts_and_causes(self) -> None:
+        page = self.make_index(self.make_pairs())
+        self.check("title and heading", page.count(
+            "5 pairs: 1 accepted, 1 lost, 1 not judged, 1 refused, 1 waived"), 2)
+        self.must("cause 6", "<b>6</b> cause 6 in 1 pair; " in page, page)
+
+    def test_the_index_lists_only_the_worst_pairs_of_many(self) -> None:
+        for limit, is_limited in ((2, True), (5, False)):
+            with mock.patch.object(collection, "MAX_PAGE_PAIRS", limit):
+                page = self.make_index(self.make_pairs())
+            self.check(f"{limit} pairs", (
+                "only the worst 2 of 5 pairs" in page, page.count('<td class="verdict">'),
+                "refused 72" in page, "waived: x" in page),
+                (is_limited, limit, True, not is_limited))
+
+    def test_the_index_counts_pairs_without_a_clock(self) -> None:
+        page = self.make_index([self.make_pairs()[0]._replace(clock=clock)
+                                for clock in (NO_CLOCK, LATER_CLOCK, "")])
+        self.must("count", ">No clock was given: 1 of 3 pairs." in page, page)
+
+    def make_rows(self) -> dict[str, str]:
+        """Return the HTML table row of each pair. `a` has two files, and `b` two others."""
         for name in ("a.html", "a.json", "b.json", "b.txt"):
             self.write(name, b"")
-        page = collection.make_index_page(self.folder, rows, "now").decode()
-        self.must("counts", page.count("5 pairs: 1 accepted, 1 lost, 1 not judged, 1 refused, "
-                                       "1 waived") == 2, page[:900])
-        self.must("pairs by cause", "<b>6</b> cause 6 in 1 pair; " in page, page)
-        with mock.patch.object(collection, "MAX_PAGE_PAIRS", 2):
-            short_page = collection.make_index_page(self.folder, rows, "now").decode()
-        self.must("the worst two", "only the worst 2 of 5 pairs" in short_page and
-                  "only the worst" not in page and short_page.count('<td class="verdict">') == 2
-                  and "refused 72" in short_page and "waived: x" not in short_page, short_page)
-        page = collection.make_index_page(self.folder, [
-            rows[0]._replace(clock=clock) for clock in (NO_CLOCK, LATER_CLOCK, "")], "now").decode()
-        self.must("pairs without a clock", ">No clock was given: 1 of 3 pairs." in page, page)
-        lines = {row.name: collection.make_pair_row(self.folder, row).source for row in rows}
-        self.must("links", [lines[name].count("<a ") for name in "abc"] == [2, 2, 0] and
-                  ">list</a>" in lines["b"] and 'href="./a.html">a</a>' in lines["a"], lines)
-        self.must("why", "why" in lines["b"] and "refused 72" in lines["d<"], lines)
-        self.must("causes", lines["d<"].count("&times;") == 6 and "&hellip;" in lines["d<"] and
-                  "&hellip;" not in lines["c"] and "9 faults</b><br/>" in lines["d<"] and
-                  "1 fault</b><br/>" in lines["c"] and "faults" not in lines["e"] and
-                  "fault" not in lines["b"], lines)
-        six = collection.make_pair_row(self.folder, one("f", "refused", 1, "refused 72", 9,
-                                                        6)).source
-        self.must("all causes", six.count("&times;") == 6 and "&hellip;" not in six, six)
-        self.must("name", "d&lt;" in lines["d<"] and 'class="not-judged"' in lines["b"])
-        worst = [collection.worst_fault(one("g", "relative", 3, "72 a", count)) for count in (0, 1)]
-        self.must("relative", worst == ["no clock was given", "72 a"], worst)
+        return {pair.name: collection.make_pair_row(self.folder, pair).source
+                for pair in self.make_pairs()}
+
+    def test_a_row_of_the_index_links_its_files(self) -> None:
+        rows = self.make_rows()
+        self.check("links", [rows[name].count("<a ") for name in "abc"], [2, 2, 0])
+        self.must("report", 'href="./a.html">a</a>' in rows["a"], rows["a"])
+        self.must("list", ">list</a>" in rows["b"], rows["b"])
+
+    def test_a_row_of_the_index_has_name_reason_faults_and_six_causes(self) -> None:
+        rows = self.make_rows()
+        for name, texts in {"b": ("why", 'class="not-judged"'), "c": ("1 fault</b><br/>",),
+                            "d<": ("d&lt;", "refused 72", "9 faults</b><br/>")}.items():
+            self.must(name, all(text in rows[name] for text in texts), rows[name])
+        self.must("no faults", "fault" not in rows["b"] and "faults" not in rows["e"], rows)
+        rows["f"] = collection.make_pair_row(self.folder, self.make_pair(
+            "f", "refused", 1, "refused 72", 9, causes=6)).source
+        self.check("causes, and more", [(rows[name].count("&times;"), "&hellip;" in rows[name])
+                                        for name in ("c", "f", "d<")],
+                   [(1, False), (6, False), (6, True)])
+
+    def test_the_worst_fault_of_a_relative_pair_may_be_the_missing_clock(self) -> None:
+        for count, line in ((0, "no clock was given"), (1, "72 a")):
+            pair = self.make_pair("g", "relative", 3, "72 a", count)
+            self.check(f"{count} faults", collection.worst_fault(pair), line)
