@@ -2,7 +2,6 @@
 from __future__ import annotations
 
 import glob
-import itertools
 import json
 import os
 import re
@@ -11,7 +10,6 @@ import signal
 import subprocess
 import sys
 import tarfile
-import time
 import xml.etree.ElementTree as tree
 from typing import Any
 from urllib.parse import unquote
@@ -22,6 +20,7 @@ from ..compiled import make_plain_environment
 from ..proved import find_crates_without_line, parse_proved
 from .bench import Case, CompletedCall, SECONDS, get_example_path, get_tool_path, read_example_file
 from .programmes import wait_until
+from .test_cli_pairs import qc
 
 
 COMPLETE = '''source "$1"
@@ -261,16 +260,11 @@ class Installation(Case):
             self.bench.over.append("the package by lintian, which is not there")
 
 
-SETTLED_SECONDS = 2  # a file is judged after this number of seconds without a change
 HOSTILE_NAMES = [b"\xff\xfe", b"caf\xe9", "caf\u00e9".encode(), b"-o", b"--help", b"=1+2",
                  b"\x1b[31mred", b"two\nlines", b"tab\there", b" leading", b"trailing ", b"a  b",
                  b"$(date)", b"`date`",
                  b"*", b"?", b"[a]", b"a;b", b"a|b&c", b"#one", b"100%", b"back\\slash", b"it's\"",
                  b"<b>&amp;", b"+s", "it's \\ \u202e".encode()]
-
-
-def qc(case: Case, *args: str) -> CompletedCall:
-    return case.tool("qc", *args, "-p", case.bench.program)
 
 
 def fill(case: Case, folder: str, count: int) -> None:
@@ -315,57 +309,6 @@ def read_results_in(case: Case, folder: str) -> dict[str, Any]:
         if name.endswith(".json") and not name.startswith("."):
             result[name.removesuffix(".json")] = json.loads(case.read(f"{folder}/{name}"))
     return result
-
-
-def write_slowly(case: Case, name: str) -> float:
-    """Write a recording for longer than the settle time. Return the longest pause in seconds."""
-    data, longest = read_example_file("recording.ts"), 0.0
-    case.write(f"{name}.stl", read_example_file("story.stl"))
-    last = time.monotonic()
-    for part in range(8):
-        before = time.monotonic()
-        with open(case.path(f"{name}.ts"), "ab") as file:
-            file.write(data[part * len(data) // 8:(part + 1) * len(data) // 8])
-        longest, last = max(longest, time.monotonic() - last), before
-        time.sleep(SETTLED_SECONDS / 5)
-    return longest
-
-
-def copy_example_atomically(case: Case, name: str, of: str) -> None:
-    """Copy an example so that the final name appears only with the complete contents."""
-    os.rename(case.write("whole", read_example_file(of)), case.path(name))
-
-
-def check_watch(case: Case, process: subprocess.Popen[bytes]) -> None:
-    """Check how a run with --watch judges slow files, complete files and changed files."""
-    def lines() -> list[str]:
-        reported = [line.partition("  ")[2] for line in case.read("log").decode().splitlines()
-                    if line[:1].isdecimal()]
-        return [line for line in reported if line.partition("  ")[0] not in too_slow]
-
-    too_slow = set[str]()
-    case.write("in/lone.stl", read_example_file("story.stl"))
-    for name in map("slow {}".format, itertools.count()):
-        if write_slowly(case, f"in/{name}") < SETTLED_SECONDS:
-            break
-        too_slow.add(name)
-    whole = [f"{name}  relative: no clock was given; not checked: no_video, losses, clock"]
-    case.must("not before it is whole", lines() in ([], whole), lines())
-    case.must("when it is whole", wait_until(lambda: lines() == whole), lines())
-    case.must("a file without a partner, once", wait_until(
-        lambda: case.read("log").count(b"lone.stl: no recording") == 1), case.read("log"))
-    copy_example_atomically(case, "in/now.stl", "hello.stl")
-    copy_example_atomically(case, "in/now.pes", "no-erase.pes")
-    case.write("in/now.done", b"")
-    case.must("at once", wait_until(lambda: any(line.startswith("now  refused: 67 Control ")
-                                                for line in lines())), lines())
-    copy_example_atomically(case, "in/now.pes", "hello.pes")
-    case.must("again", wait_until(
-        lambda: whole[0].replace(name, "now") in lines()), lines())
-    process.send_signal(signal.SIGTERM)
-    case.must("it ends", process.wait(SECONDS) == 2)
-    case.must("no more than that", len(lines()) == 3 and b"Traceback" not in case.read("log"),
-              case.read("log"))
 
 
 class StoppedCalls(Case):
@@ -436,17 +379,6 @@ class StoppedCalls(Case):
         self.must("no mark of a name is one of the page", "<b>" not in page, page)
         self.must("files for machines", self.read("all.csv").decode() and
                   len(tree.fromstring(self.read("all.xml"))[0]) == len(HOSTILE_NAMES))
-
-    def test_judges_a_watched_pair_when_it_is_complete_or_changes(self) -> None:
-        os.mkdir(self.path("in"))
-        words = [get_tool_path("qc"), "--watch", "in", "-o", "out", "--settled",
-                 str(SETTLED_SECONDS), "-p", self.bench.program]
-        with open(self.path("log"), "wb") as log, subprocess.Popen(
-                words, cwd=self.folder, stdout=log, stderr=log) as process:
-            try:
-                check_watch(self, process)
-            finally:
-                process.kill()
 
     def test_an_interrupted_pair_has_no_result(self) -> None:
         os.mkdir(self.path("in"))

@@ -10,7 +10,6 @@ from unittest import mock
 
 from subtitles.common.command_line import counted
 from subtitles.common.program import TOP
-from subtitles.formats.stl import MAX_STL
 from subtitles.recording import recording
 from .bench import Case, CompletedCall, SECONDS, get_example_path, get_tool_path, read_example_file
 from .programmes import wait_until
@@ -227,7 +226,3 @@ class SubtitlePipes(Case):
                              get_tool_path("qc"), "endless", PES, "-p", self.bench.program])
         self.check("endless", process, (2, b"", [
             "qc: endless is text: export the subtitles as EBU STL"]))
-
-    def test_reads_at_most_the_largest_subtitle_file(self) -> None:
-        """A GSI block and 99,999 TTI blocks, and one byte more to detect a larger file."""
-        self.assertEqual(MAX_STL, 1024 + 128 * 99_999 + 1)

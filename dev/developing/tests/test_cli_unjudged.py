@@ -26,7 +26,6 @@ from subtitles.results.files import write_result_file
 from .bench import Case, SECONDS, get_example_path, read_example_file
 from .parts import make_example_request, run_qc
 from .results import capture_output, make_result
-from .transmissions import write_pipe
 from .test_cli_failures import ACCEPTED, CallCase, HELLO
 
 
@@ -303,20 +302,13 @@ class OutputsAndSignals(CallCase):
         process = self.judge(self.fake_program(ACCEPTED), "--profile", "house")
         self.must("profile", process.printed[0].endswith("house: --every 99"), process)
 
-    def test_prints_each_hint_once_and_keeps_a_piped_recording_if_requested(self) -> None:
-        for is_kept in (False, True):
-            request = make_example_request(
-                HELLO[0], write_pipe(self, read_example_file("hello.pes")), "--origin", "0")
-            call = PairOptions(self.fake_program(ACCEPTED), self.path("out"), is_kept, name="own")
-            with mock.patch("subtitles.cli.single.list_hints", return_value=["a", "b", "a"]), \
-                    mock.patch.object(single, "ignore_signals"), capture_output():
-                verdict = single.judge_and_report(request, call, "tools/qc")
-            self.check("hints", verdict.hints, ["a", "b"])
-            [part] = self.object("out/own.json")["parts"]
-            is_there = any(name.startswith("own.recording")
-                           for name in os.listdir(self.path("out")))
-            self.check(f"--keep {is_kept}: named in the result, stored",
-                       (bool(part["judged_file"]["name"]), is_there), (is_kept, is_kept))
+    def test_prints_each_hint_once(self) -> None:
+        request = make_example_request(*HELLO, "--origin", "0")
+        with mock.patch("subtitles.cli.single.list_hints", return_value=["a", "b", "a"]), \
+                mock.patch.object(single, "ignore_signals"), capture_output():
+            verdict = single.judge_and_report(request, PairOptions(
+                self.fake_program(ACCEPTED), self.path("out"), name="own"), "tools/qc")
+        self.check("hints", verdict.hints, ["a", "b"])
 
     def make_output_files(self, is_kept: bool = False) -> OutputFiles:
         verdict = mock.Mock(parts=[], **{"request.moved_stl": None, "scope": "pair"})

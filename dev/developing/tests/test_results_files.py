@@ -297,19 +297,12 @@ class CollectedResults(Case):
             status = collection.write_collection(args, self.ROWS, paths)
         return status, out.getvalue(), errors.getvalue()
 
-    TABLE = "".join(f"{line}\n" for line in collection.format_summary(ROWS))
-
-    def test_prints_the_table_unless_a_file_uses_standard_output(self) -> None:
-        self.check("no file", self.write_collection(), (2, self.TABLE, ""))
-        for name in ("csv", "junit", "json"):
-            with mock.patch.object(collection, "write_file"):
-                self.check(f"{name} to -", self.write_collection(**{name: "-"}),
-                           (2, "", self.TABLE))
-
-    def test_reports_outputs_that_could_not_be_written(self) -> None:
+    def test_prints_the_table_and_outputs_that_could_not_be_written(self) -> None:
+        table = "".join(f"{line}\n" for line in collection.format_summary(self.ROWS))
+        self.check("no file", self.write_collection(), (2, table, ""))
         status, out, errors = self.write_collection(csv=self.path("no/x"), junit=self.path("no/y"))
         self.check("status, table", (status, out), (
-            2, f"{self.TABLE.rstrip()}; an output was not written\n"))
+            2, f"{table.rstrip()}; an output was not written\n"))
         first, second = errors.splitlines()
         self.must("messages", "no/x" in first and "no/y" in second, errors)
 
