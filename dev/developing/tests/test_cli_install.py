@@ -32,6 +32,7 @@ printf '%s\\n' "${COMPREPLY[@]}"
 
 
 def check_installation(case: Case, prefix: str) -> None:
+    """Check that the tools in `prefix`/bin extract and judge story.pes, and name each other."""
     def run(name: str, *words: str) -> CompletedCall:
         return case.call([os.path.join(prefix, "bin", name), *words], env=make_plain_environment())
 
@@ -39,20 +40,18 @@ def check_installation(case: Case, prefix: str) -> None:
     stream = case.tool("pes2ts", get_example_path("story.pes"), "0x101")
     process = run("subttx", "extract", case.write("story.ts", stream.out), "recording.pes", "--pid",
                   "0x101")
-    case.must("extract", process.out == b"written 5 pes 0 gaps\n", process)
+    case.check("extract", process.out, b"written 5 pes 0 gaps\n")
     process = run("subttx", "check", stl, "recording.pes", "--pes", "0-4")
-    case.must("check", process.out == b"accepted 226 frames 5 transmissions\n", process)
+    case.check("check", process.out, b"accepted 226 frames 5 transmissions\n")
     process = run("subttx-qc", stl, "story.ts", "-o", "report")
     last = process.out.splitlines()[-1]
     case.must("qc", last.startswith(b"relative 226 frames 5 transmissions") and
               os.path.join(prefix, "bin", "subttx").encode() in process.out and
               os.path.exists(case.path("report/story.html")), process)
-    process = run("subttx-air", "--help")
-    case.must("its own names in the help", b"subttx-air" in process.out
-              and b"tools/" not in process.out, process)
-    process = run("subttx-qc", "--help")
-    named = re.findall(r"\S+/docs/manual/\w+\.md", process.out.decode())
-    case.must("documents in the help", len(named) == 2 and all(map(os.path.isfile, named)), named)
+    text = run("subttx-air", "--help").out
+    case.must("installed names in the help", b"subttx-air" in text and b"tools/" not in text, text)
+    documents = re.findall(r"\S+/docs/manual/\w+\.md", run("subttx-qc", "--help").out.decode())
+    case.check("existing documents in the help", [*map(os.path.isfile, documents)], [True] * 2)
 
 
 def get_proof_file(case: Case) -> str:
@@ -81,19 +80,25 @@ def is_compiled(folder: str) -> bool:
 
 
 class Installation(Case):
+    """Folders into which tools/install writes, the completion of bash, and packages of dev/dist."""
+
+    def install(self, folder: str) -> CompletedCall:
+        return self.tool("install", "-p", self.bench.program, folder)
+
     def test_installed_tools_run_from_a_moved_folder(self) -> None:
-        process = self.tool("install", "-p", self.bench.program, "first/prefix")
-        self.must("status", process.status == 0, process)
+        """The tools are also installed again over the moved folder."""
+        process = self.install("first/prefix")
+        self.check("status", process.status, 0)
         os.rename(self.path("first/prefix"), self.path("moved"))
         paths = [path.replace("first/prefix", self.path("moved"))
                  for path in process.out.decode().splitlines()]
-        self.must("each file that is told", paths and all(map(os.path.exists, paths)), paths)
-        again = self.tool("install", "-p", self.bench.program, "moved")
-        self.must("once more over it", again.status == 0, again)
+        self.must("each printed file exists", paths and all(map(os.path.exists, paths)), paths)
+        self.check("installed again", self.install("moved").status, 0)
         self.must("compiled", is_compiled(self.path("moved/lib/subttx/tools/subtitles")))
         check_installation(self, self.path("moved"))
 
     def test_others_can_use_what_a_private_clone_installs(self) -> None:
+        """The umask 077 keeps the files of the clone private."""
         self.call(["sh", "-c", """umask 077 && mkdir clone &&
             cp -r "$1"/tools "$1"/docs "$1"/examples "$1"/*.md "$1"/VERSION clone &&
             clone/tools/install -p "$2" prefix""", "sh", TOP, self.bench.program])
@@ -101,65 +106,69 @@ class Installation(Case):
                  for path in glob.glob(self.path("prefix/**"), recursive=True)}
         self.check("modes of files and folders", modes, {0o644, 0o755})
 
-    def test_removes_only_what_was_installed(self) -> None:
-        tool = ("install", "--remove")
-        process = self.tool("install", "-p", self.bench.program, "own/prefix")
-        reported = process.out.decode().splitlines()
-        process = self.tool(*tool, "own/prefix")
-        self.must("what is told",
-                  process.status == 0 and {*reported} <= {*process.out.decode().splitlines()},
-                  process)
+    def test_removes_and_lists_what_was_installed(self) -> None:
+        installed = self.install("own/prefix").out.decode().splitlines()
+        process = self.tool("install", "--remove", "own/prefix")
+        self.must("status, printed files", process.status == 0 and
+                  {*installed} <= {*process.out.decode().splitlines()}, process)
         self.must("its folder", not os.path.exists(self.path("own/prefix"))
                   and os.path.isdir(self.path("own")))
-        self.tool("install", "-p", self.bench.program, "linked")
+
+    def test_removes_nothing_through_a_link(self) -> None:
+        self.install("linked")
         os.rename(self.path("linked/lib/subttx"), self.path("elsewhere"))
         os.symlink(self.path("elsewhere"), self.path("linked/lib/subttx"))
-        process = self.tool(*tool, "linked")
+        process = self.tool("install", "--remove", "linked")
         self.must("a link", process.status == 2
                   and "linked/lib/subttx is a link" in process.told[0]
                   and os.path.exists(self.path("linked/bin/subttx")), process)
+
+    def test_removes_no_other_files(self) -> None:
+        """Others have two files and an empty folder. A link of an earlier version is removed."""
         os.makedirs(self.path("shared/bin"))
         os.makedirs(self.path("shared/share/man/man1"))
         self.write("shared/bin/subttx-own", b"of somebody else")
-        self.tool("install", "-p", self.bench.program, "shared")
-        self.tool("install", "-p", self.bench.program, "shared")  # replace the first installation
+        for _ in ("first", "second, which replaces the first"):
+            self.install("shared")
         self.write("shared/share/man/other", b"")
         os.symlink("../lib/subttx/tools/older", self.path("shared/bin/subttx-older"))
-        process = self.tool(*tool, "shared")
-        left = sorted(os.path.relpath(os.path.join(place, name), self.path("shared"))
-                      for place, folders, names in os.walk(self.path("shared"))
-                      for name in [*folders, *names])
-        self.must("of others nothing", process.status == 0 and left == [
-            "bin", "bin/subttx-own", "share", "share/man", "share/man/man1", "share/man/other"],
-                  left)
-        cases: list[tuple[list[str], int]] = [
-            (["shared"], 2), (["none"], 2), (["-p", self.bench.program, "shared"], 64), ([], 64)]
-        for words, status in cases:
-            process = self.tool(*tool, *words)
-            self.must(" ".join(words), process.status == status and len(process.told) == 1,
-                      process)
+        self.check("status", self.tool("install", "--remove", "shared").status, 0)
+        self.check("left", sorted(os.path.relpath(os.path.join(place, name), self.path("shared"))
+                                  for place, folders, names in os.walk(self.path("shared"))
+                                  for name in [*folders, *names]), [
+            "bin", "bin/subttx-own", "share", "share/man", "share/man/man1", "share/man/other"])
+
+    def test_remove_refuses_wrong_arguments_in_one_line(self) -> None:
+        os.mkdir(self.path("empty"))
+        rows: list[tuple[list[str], int]] = [
+            (["empty"], 2), (["none"], 2), (["-p", self.bench.program, "empty"], 64), ([], 64)]
+        for words, status in rows:
+            process = self.tool("install", "--remove", *words)
+            self.check(" ".join(words), (process.status, len(process.told)), (status, 1))
 
     def test_installed_documents_have_no_dead_links(self) -> None:
-        self.tool("install", "-p", self.bench.program, "prefix")
+        self.install("prefix")
         home = self.path("prefix/lib/subttx")
         paths = [path for path in glob.glob(os.path.join(home, "**", "*.md"), recursive=True)
                  if os.path.relpath(path, home) in list_documents()]
         self.must("documents", len(paths) > 20, paths)
-        count = 0
+        link_count = 0
         for path in paths:
-            text = read(path) or ""
+            text, name = read(path) or "", os.path.relpath(path, home)
             for target in re.findall(r"\]\(([^)\s#]+)", text):
-                count += 1
-                self.must(f"{os.path.relpath(path, home)}: {target}", ":" in target or
+                link_count += 1
+                self.must(f"{name}: {target}", ":" in target or
                           os.path.exists(os.path.join(os.path.dirname(path), target)))
-            called = set(re.findall(r"^\$ .*?\btools/(\w+)", text, re.MULTILINE)) \
+            tools = set(re.findall(r"^\$ .*?\btools/(\w+)", text, re.MULTILINE)) \
                 if "/manual/" in path else set()
-            self.must(f"{os.path.relpath(path, home)}: tools", all(
-                os.path.exists(os.path.join(home, "tools", name)) for name in called
-                if name not in ("install", "dist")), called)
-        self.must("links", count > 40, count)
+            self.check(f"{name}: tools that are not installed", [
+                tool for tool in tools - {"install", "dist"}
+                if not os.path.exists(os.path.join(home, "tools", tool))], [])
+        self.must("links", link_count > 40, link_count)
+
+    def test_a_dead_link_becomes_its_text(self) -> None:
         text = remove_dead_links("![a](x.png) [`b`](y.md#z) [c](http://d) [e](f.md)", self.folder)
-        self.must("their words", text == "a `b` [c](http://d) e", text)
+        self.check("text", text, "a `b` [c](http://d) e")
 
     def test_completes_commands_and_options(self) -> None:
         if not shutil.which("bash"):
@@ -173,16 +182,14 @@ class Installation(Case):
         paths = glob.glob(os.path.join(TOP, "docs", "manual", "*.md"))
         manual = "".join(read(path) or "" for path in paths)
         headings = re.findall(r"^##+ `(\w+) (.*)`$", manual, re.MULTILINE)
-        self.must("commands",
-                  complete_words("subttx", "") == {name for name, _ in headings}, headings)
+        self.check("commands", complete_words("subttx", ""), {name for name, _ in headings})
         for name, words in headings:
             options = set(re.findall(r"--[\w-]+", words))
-            self.must(name, options <= complete_words("subttx", name, "-"), (options, name))
-        self.must("values", complete_words("subttx", "check", "--option", "g") == {"german"})
-        tool = os.path.join(TOP, "tools", "qc")
-        self.must("qc",
-                  {"--batch", "--allow-lost", "--severity", "-o"} <= complete_words(tool, "-"),
-                  complete_words(tool, "-"))
+            self.check(f"missing options of {name}",
+                       options - complete_words("subttx", name, "-"), set())
+        self.check("values", complete_words("subttx", "check", "--option", "g"), {"german"})
+        words = complete_words(get_tool_path("qc"), "-")
+        self.must("qc", {"--batch", "--allow-lost", "--severity", "-o"} <= words, words)
 
     def test_manual_pages_and_change_log_have_the_version(self) -> None:
         version = (read(os.path.join(TOP, "VERSION")) or "none").strip()
@@ -190,31 +197,28 @@ class Installation(Case):
             page = read(os.path.join(TOP, "docs", name)) or ""
             self.must(name, re.search(rf'^\.TH .*"subttx {re.escape(version)}"', page, re.M))
         log = re.search(r"^## (\S+), \d", read(os.path.join(TOP, "CHANGELOG.md")) or "", re.M)
-        self.must("the first of the change log with a date", log and log[1] == version, log)
+        self.must("first dated heading of the change log", log and log[1] == version, log)
 
     def test_makes_a_reproducible_archive(self) -> None:
         proved = get_proof_file(self)
         process = self.tool("dist")
         path = self.path(process.out.decode().strip())
-        self.must("status", process.status == 0, process)
-        before = self.read(path)
-        process = self.tool("dist", "new/folder")
-        self.must("the same bytes again, in a folder that is made",
-                  self.read(process.out.decode().strip()) == before, process)
-        process = self.tool("dist", self.write("file", b""))
-        self.must("no folder", process.status == 2 and process.told == [
-            f"dist: {self.path('file')} is not a folder"], process)
+        self.check("status", process.status, 0)
+        again = self.tool("dist", "new/folder").out.decode().strip()
+        self.must("the same bytes in a new folder", self.read(again) == self.read(path))
+        self.check("a file as folder", self.tool("dist", self.write("file", b"")), (2, b"", [
+            f"dist: {self.path('file')} is not a folder"]))
         with tarfile.open(path) as archive:
             archive.extractall(self.folder)
             folder = self.path(archive.getnames()[0])
         for name, sums in (folder, "SHA256SUMS"), (self.folder, f"{path}.sha256"):
             process = self.call(["sha256sum", "--quiet", "-c", sums], folder=name)
-            self.must(f"the sums in {sums}", process.status == 0, process)
+            self.check(f"checksums in {sums}", process, (0, b"", []))
         names = re.findall(r"  (.+)", read(f"{path}.sha256") or "")
         self.check("files with a sum beside the archive", names,
                    [os.path.basename(path), os.path.basename(f"{path}.PROVED")])
         for name in os.path.join(folder, "PROVED"), f"{path}.PROVED":
-            self.must(f"{name}: what was proved", read(name) == read(proved))
+            self.check(f"{name}: proof", read(name), read(proved))
         check_installation(self, folder)
 
     def test_makes_a_reproducible_debian_package(self) -> None:
@@ -223,21 +227,19 @@ class Installation(Case):
             self.skipTest("dev/dist --deb, since there is no dpkg-deb")
         process = self.tool("dist", "--deb")
         path = self.path(process.out.decode().strip())
-        self.must("status", process.status == 0, process)
         before = self.read(path)
         os.remove(path)
-        process = self.tool("dist", "--deb")
-        self.must("the same bytes again", process.status == 0 and self.read(path) == before,
-                  process)
+        again = self.tool("dist", "--deb")
+        self.must("the same bytes again", (process.status, again.status) == (0, 0)
+                  and self.read(path) == before, again)
         process = self.call(["dpkg-deb", "-f", path, "Version", "Depends"])
-        self.must("version, and what it needs", process.out.decode().splitlines() == [
+        self.check("version, dependencies", process.out.decode().splitlines(), [
             f"Version: {(read(os.path.join(TOP, 'VERSION')) or '').strip()}",
-            "Depends: libc6 (>= 2.34), python3 (>= 3.9)"], process)
-        process = self.call(["dpkg-deb", "-x", path, "empty"])
-        self.must("unpacked", process.status == 0, process)
+            "Depends: libc6 (>= 2.34), python3 (>= 3.9)"])
+        self.check("unpacked", self.call(["dpkg-deb", "-x", path, "empty"]).status, 0)
         folder = self.path("empty/usr/share/doc/subttx")
-        self.must("the manual", os.path.isfile(os.path.join(folder, "docs", "manual", "qc.md")))
-        self.must("what was proved", read(os.path.join(folder, "PROVED")) == read(proved))
+        self.must("manual", os.path.isfile(os.path.join(folder, "docs", "manual", "qc.md")))
+        self.check("proof", read(os.path.join(folder, "PROVED")), read(proved))
         self.call(["dpkg-deb", "-e", path, "control"])
         shared = "/usr/lib/subttx/tools/subtitles"
         # The scripts must not change users and services of this machine.
@@ -246,16 +248,16 @@ class Installation(Case):
             os.chmod(self.write(f"harmless/{command}", b"#!/bin/sh\n"), 0o755)
         env = os.environ | {"PYTHONPYCACHEPREFIX": "", "PATH": os.pathsep.join([
             self.path("harmless"), os.environ["PATH"]])}
-        for name, is_there in (("postinst", True), ("prerm", False)):
+        for name, is_installed in (("postinst", True), ("prerm", False)):
             script = self.read(f"control/{name}").decode().replace(shared, f"empty{shared}")
             process = self.call(["sh", "-c", script], env=env)
-            self.must(name, process.status == 0 and is_compiled(self.path(f"empty{shared}"))
-                      == is_there, process)
-            if is_there:
+            self.check(f"{name}: status, compiled", (
+                process.status, is_compiled(self.path(f"empty{shared}"))), (0, is_installed))
+            if is_installed:
                 check_installation(self, self.path("empty/usr"))
         if shutil.which("lintian"):
             process = self.call(["lintian", "--allow-root", "--fail-on", "error", path])
-            self.must("lintian", process.status == 0, process)
+            self.check("lintian", process.status, 0)
         else:
             self.bench.over.append("the package by lintian, which is not there")
 
@@ -267,17 +269,16 @@ HOSTILE_NAMES = [b"\xff\xfe", b"caf\xe9", "caf\u00e9".encode(), b"-o", b"--help"
                  b"<b>&amp;", b"+s", "it's \\ \u202e".encode()]
 
 
-def fill(case: Case, folder: str, count: int) -> None:
-    """Write `count` pairs to a new folder; the second pair has faults."""
+def write_pairs(case: Case, folder: str, count: int) -> None:
+    """Write `count` pairs to a new folder; the second pair is refused, the others are relative."""
     os.mkdir(case.path(folder))
     for number in range(1, count + 1):
-        is_broken = number == 2
         case.write(f"{folder}/{number}.stl", read_example_file("hello.stl"))
         case.write(f"{folder}/{number}.pes",
-                   read_example_file("no-erase.pes" if is_broken else "hello.pes"))
+                   read_example_file("no-erase.pes" if number == 2 else "hello.pes"))
 
 
-def blocking_program(case: Case, count: int) -> str:
+def make_blocking_program(case: Case, count: int) -> str:
     """Write a script that runs the program under test. Return its path.
 
     After `count` pairs, the script waits until a file exists before it judges the next pair. Runs
@@ -304,57 +305,52 @@ def reaches_pair(case: Case, folder: str, count: int) -> bool:
 
 
 def read_results_in(case: Case, folder: str) -> dict[str, Any]:
-    result = {}
-    for name in os.listdir(case.path(folder)):
-        if name.endswith(".json") and not name.startswith("."):
-            result[name.removesuffix(".json")] = json.loads(case.read(f"{folder}/{name}"))
-    return result
+    return {name: json.loads(case.read(f"{folder}/{name}"))
+            for name in os.listdir(case.path(folder))
+            if name.endswith(".json") and not name.startswith(".")}
 
 
 class StoppedCalls(Case):
+    """Batches of a folder and watched folders (--watch), of which a signal stops some."""
+
     def test_resumes_after_a_kill(self) -> None:
-        fill(self, "in", 4)
-        program = blocking_program(self, 1)
+        """qc is killed while it judges the second of four pairs, whose process goes on."""
+        write_pairs(self, "in", 4)
+        program = make_blocking_program(self, 1)
         words = [get_tool_path("qc"), "--batch", "in", "-o", "out", "--jobs", "1", "-p", program]
         with subprocess.Popen(words, cwd=self.folder, stdout=subprocess.DEVNULL,
                               stderr=subprocess.DEVNULL) as process:
-            came = reaches_pair(self, "out", 1)
+            self.must("the second pair begins", reaches_pair(self, "out", 1))
             process.kill()
         self.write("goes on", b"")
-        self.must("both are judged", came
-                  and wait_until(lambda: len(read_results_in(self, "out")) == 2))
-        kept = set(read_results_in(self, "out"))
-        for again in (2, 0):
+        self.must("both are judged", wait_until(lambda: len(read_results_in(self, "out")) == 2))
+        for count in (2, 0):
             before = count_judged(self)
             result = self.tool("qc", "--batch", "in", "-o", "out", "--resume", "-p", program)
-            judged = count_judged(self) - before
-            self.must(f"{again} are judged", judged == again, (judged, kept, before))
-            self.must("all are told", result.status == 1 and
-                      result.out.decode().splitlines()[-1] == "4 pairs: 3 relative, 1 refused",
-                      result)
+            self.check("pairs judged by --resume", count_judged(self) - before, count)
+            self.check("status, counts", (result.status, result.out.decode().splitlines()[-1]),
+                       (1, "4 pairs: 3 relative, 1 refused"))
 
     def test_writes_results_finished_before_a_signal(self) -> None:
-        fill(self, "in", 6)
+        """The signal arrives while the third of six pairs is judged."""
+        write_pairs(self, "in", 6)
         for item in (signal.SIGINT, signal.SIGTERM, signal.SIGHUP):
-            name, out, program = item.name, f"out.{item.name}", blocking_program(self, 2)
+            name, out, program = item.name, f"out.{item.name}", make_blocking_program(self, 2)
             words = [get_tool_path("qc"), "--batch", "in", "-o", out, "--jobs", "1", "-p", program,
                      "--json", "all.json"]
             with subprocess.Popen(words, cwd=self.folder, stdout=subprocess.PIPE,
                                   stderr=subprocess.PIPE) as process:
-                came = reaches_pair(self, out, 2)
+                self.must(f"{name}: the third pair begins", reaches_pair(self, out, 2))
                 process.send_signal(item)
                 lines, errors = (text.decode().splitlines() for text in process.communicate())
             known = json.loads(self.read("all.json"))
-            count = len(known["pairs"])
-            self.must(f"{name}: status", came and (process.returncode, known["status"]) == (2, 2),
-                      (lines, errors))
-            self.must(f"{name}: is said", count == 2 and errors == [
-                f"qc: stopped when {count} of 6 pairs were judged; --resume judges the others"],
-                      errors)
-            self.must(f"{name}: the table", len(lines) == count + 2
-                      and lines[-1].startswith(f"{count} pair"), lines)
-            self.must(f"{name}: the page", self.read(f"{out}/index.html").count(
-                b'.html">') == count)
+            self.check(f"{name}: statuses, pairs", (
+                process.returncode, known["status"], len(known["pairs"])), (2, 2, 2))
+            self.check(f"{name}: message", errors, [
+                "qc: stopped when 2 of 6 pairs were judged; --resume judges the others"])
+            self.must(f"{name}: table", len(lines) == 4 and lines[-1].startswith("2 pair"), lines)
+            self.check(f"{name}: links of the index", self.read(f"{out}/index.html").count(
+                b'.html">'), 2)
 
     def test_a_batch_judges_hostile_names(self) -> None:
         os.mkdir(self.path("in"))
@@ -364,23 +360,23 @@ class StoppedCalls(Case):
                 with open(path, "wb") as file:
                     file.write(read_example_file(data))
         process = qc(self, "--batch", "in", "-o", "out", "--csv", "all.csv", "--junit", "all.xml")
-        lines = process.out.decode().splitlines()
-        self.must("all are right", process.status == 3 and
-                  lines[-1] == f"{len(HOSTILE_NAMES)} pairs: {len(HOSTILE_NAMES)} relative",
-                  process)
-        self.must("a line each", len(lines) == len(HOSTILE_NAMES) + 2, lines)
-        self.must("nothing that a terminal obeys", not re.search(
+        lines, count = process.out.decode().splitlines(), len(HOSTILE_NAMES)
+        self.check("status, counts", (process.status, lines[-1]),
+                   (3, f"{count} pairs: {count} relative"))
+        self.check("lines: heads, pairs, counts", len(lines), 1 + count + 1)
+        self.must("control characters are escaped", not re.search(
             "[\x00-\x09\x0b-\x1f\x7f\x9b\u202e]", process.out.decode()), process.out)
-        self.must("an object each", len(read_results_in(self, "out")) == len(HOSTILE_NAMES))
+        self.check("results", len(read_results_in(self, "out")), count)
         page = self.read("out/index.html").decode()
         links = [unquote(link) for link in re.findall(r'href="\./([^"]+)"', page)]
-        self.must("its links", len(links) == 3 * len(HOSTILE_NAMES) and all(
+        self.must("links", len(links) == 3 * count and all(
             os.path.exists(self.path(f"out/{link}")) for link in links), links)
-        self.must("no mark of a name is one of the page", "<b>" not in page, page)
-        self.must("files for machines", self.read("all.csv").decode() and
-                  len(tree.fromstring(self.read("all.xml"))[0]) == len(HOSTILE_NAMES))
+        self.must("markup in a name is escaped", "<b>" not in page, page)
+        self.must("the CSV file is UTF-8", self.read("all.csv").decode())
+        self.check("JUnit cases", len(tree.fromstring(self.read("all.xml"))[0]), count)
 
     def test_an_interrupted_pair_has_no_result(self) -> None:
+        """With --watch. The signal arrives during the check, or after the verdict was printed."""
         os.mkdir(self.path("in"))
         for name in ("one.stl", "one.pes"):
             self.write(f"in/{name}", read_example_file(name.replace("one", "hello")))
@@ -388,16 +384,14 @@ class StoppedCalls(Case):
         slow = self.make_program_with_exception("*check*",
                                                 f"touch '{self.path('begun')}'; exec sleep "
                                                 f"{SECONDS}")
-        # A signal does not stop a pair whose line has already been printed.
-        for program, expected, words_in in ((slow, "begun", b""),
-                                            (self.bench.program, "said", b"relative")):
+        for program, name, text in ((slow, "begun", b""),
+                                    (self.bench.program, "printed", b"relative")):
             words = [get_tool_path("qc"), "--watch", "in", "-o", "out", "-p", program]
-            with open(self.path("said"), "wb") as printed, \
+            with open(self.path("printed"), "wb") as printed, \
                     subprocess.Popen(words, cwd=self.folder, stdout=printed) as process:
-                wait_until(lambda: os.path.exists(self.path(expected)) and
-                      words_in in self.read(expected))
+                self.must(name, wait_until(lambda: os.path.exists(self.path(name))
+                                           and text in self.read(name)))
                 process.send_signal(signal.SIGTERM)
-                self.must(f"{expected}: it ends", process.wait(SECONDS) == 2)
-            self.must(f"{expected}: its result", os.path.exists(self.path("out/one.json")) ==
-                      (program != slow), os.listdir(self.path("out")))
-        self.must("judged", json.loads(self.read("out/one.json"))["verdict"] == "relative")
+                self.check(f"{name}: status", process.wait(SECONDS), 2)
+            self.check(f"{name}: verdicts", [result["verdict"] for result in read_results_in(
+                self, "out").values() if "verdict" in result], ["relative"] * (program != slow))
