@@ -39,52 +39,60 @@ BACK = {"--complete", "--no-allow-lost", "--no-keeping"}  # options that restore
 
 
 class OptionRows(Case):
+    """The table OPTIONS of the options of qc, and the requests to judge a pair with them."""
+
     def test_each_option_survives_all_conversions(self) -> None:
-        names = [item.name for item in OPTIONS]
-        self.must("all", {*names} == {*BACK, "--profile", *(name for name, _, _ in ROWS)})
+        """From arguments to a request, and back to arguments, a JSON result and a list's line."""
+        self.check("all options", {item.name for item in OPTIONS},
+                   {*BACK, "--profile", *(name for name, _, _ in ROWS)})
         parser = ToolParser("")
         add_options(parser)
-        plain_words = parser.parse_args([])
+        default_args = parser.parse_args([])
         without = REQUEST.to_json(make_example_request("one.stl", "one.pes"))
         for name, value, member in ROWS:
             words = [name, value] if value else [name]
             words += ["--within", "5"] if name == "--late" else []
             request = make_example_request("one.stl", "one.pes", *words)
-            self.must(f"{name}: a call",
-                      sorted(list_call_arguments(request)) == sorted([*words, "--", "one.stl",
-                                                                      "one.pes"]))
-            once_more = make_file_request("one.stl", "one.pes", parser.parse_args(words))
-            self.must(f"{name}: again", once_more == request)
-            known = REQUEST.to_json(request)
+            self.check(f"{name}: arguments", sorted(list_call_arguments(request)),
+                       sorted([*words, "--", "one.stl", "one.pes"]))
+            self.check(f"{name}: parsed again", make_file_request(
+                "one.stl", "one.pes", parser.parse_args(words)), request)
             key = name.replace("--no-", "--").strip("-").replace("-", "_")
-            self.must(f"{name}: result", known == {
-                **without, **({"within": 5} if name == "--late" else {}), key: member}, known)
-            self.must(f"{name}: pages", request.list_schedule_arguments() == (
-                words if name in ("--layout", "--open") else []), request.list_schedule_arguments())
-            self.check(f"{name}: check of a file", request.list_check_arguments(True),
+            self.check(f"{name}: JSON", REQUEST.to_json(request), {
+                **without, **({"within": 5} if name == "--late" else {}), key: member})
+            self.check(f"{name}: `schedule`", request.list_schedule_arguments(),
+                       words if name in ("--layout", "--open") else [])
+            self.check(f"{name}: `check` of a file alone", request.list_check_arguments(True),
                        words if name in FOR_A_FILE else [])
-            line = make_line_request(["one.stl", "one.pes", *words], plain_words)
-            self.must(f"{name}: line", line == request, line)
-        every = [word for name, value, _ in ROWS if name != "--start"
+            self.check(f"{name}: line of a list", make_line_request(
+                ["one.stl", "one.pes", *words], default_args), request)
+
+    def test_an_advised_command_has_all_options(self) -> None:
+        """--start is left out, since --origin is given too."""
+        words = [word for name, value, _ in ROWS if name != "--start"
                  for word in ([name, value] if value else [name])]
-        request = make_example_request("one.stl", "one.pes", *every)
-        typed = make_command(request, CommandPaths("tools/qc", self.bench.program))
+        request = make_example_request("one.stl", "one.pes", *words)
+        command = make_command(request, CommandPaths("tools/qc", self.bench.program))
         for name, _, _ in ROWS:
-            self.must(f"{name}: typed", (f" {name}" in typed) == (name != "--start"), typed)
-        self.check("a default needs no argument", list_arguments(make_example_request(
-            "a", "b", "--complete")), [[]] * len(OPTIONS))
+            self.check(name, f" {name}" in command, name != "--start")
+
+    def test_a_default_needs_no_argument(self) -> None:
+        self.check("--complete", list_arguments(make_example_request("a", "b", "--complete")),
+                   [[]] * len(OPTIONS))
 
     def test_each_row_is_complete(self) -> None:
         for item in OPTIONS:
             self.must(item.name, bool(item.description and item.default_text and item.modes) and
                       {*item.modes} <= {*JUDGED, MEASURE} and not {*item.help} & {*"`["}, item)
-            self.must(f"{item.name}: member",
-                      (item.member is None) == item.name.startswith("--no-"))
-            self.must(f"{item.name}: lines", LINE in item.modes, item.modes)
-        self.must("of a file", [item.name for item in OPTIONS if ALONE in item.modes] == [
+            self.check(f"{item.name}: has no member of results", item.member is None,
+                       item.name.startswith("--no-"))
+            self.must(f"{item.name}: is allowed in lists", LINE in item.modes, item.modes)
+        self.check("options with --file-only", [
+            item.name for item in OPTIONS if ALONE in item.modes], [
             "--option", "--severity", "--strict", "--from", "--to", "--layout", "--open"])
 
     def test_selects_subtitles_by_time(self) -> None:
+        """The selected frames of a day begin with the first value and end before the second."""
         day = FRAMES_OF_A_DAY
         for words, first, end in (
                 ("", 0, day), ("--from 00:00:00:00", 0, day), ("--to 00:00:00:00", 0, 0),
@@ -105,7 +113,7 @@ class OptionRows(Case):
         for item, value, words in ((number, 5, []), (number, None, []), (number, 0, ["--n", "0"]),
                                    (flag, False, []), (flag, True, ["--f"]), (other, True, []),
                                    (other, False, ["--no-f"])):
-            self.must(f"{item.name} {value}", item.format_arguments(value, item.default) == words)
+            self.check(f"{item.name} {value}", item.format_arguments(value, item.default), words)
 
 
 STORY, RECORDING = get_example_path("story.stl"), get_example_path("recording.ts")
@@ -115,6 +123,8 @@ PROFILE_OPTIONS = "--page, --every, --option, --origin, --complete, --no-complet
 
 
 class ProfileFiles(Case):
+    """Profiles: files with one option on each line."""
+
     def test_reads_an_option_from_each_line(self) -> None:
         rows: list[tuple[str, dict[str, object]]] = [
             ("", {}), ("# nothing\n\n  # here\n", {}), ("--every 25", {"every": 25}),
@@ -132,12 +142,13 @@ class ProfileFiles(Case):
             ("--origin 5", {"origin": 5})]
         for text, expected in rows:
             profile = read_profile(self.write("house", text.encode()))
-            result = {field: setting.value for field, setting in profile.settings.items()}
-            self.must(text, result == expected, result)
-            self.must(f"{text}: sum", (profile.name, profile.sha256) == (
+            self.check(text, {field: setting.value for field, setting in profile.settings.items()},
+                       expected)
+            self.check(f"{text}: name, checksum", (profile.name, profile.sha256), (
                 self.path("house"), hashlib.sha256(text.encode()).hexdigest()))
 
     def test_stores_a_subtitle_file_from_a_pipe(self) -> None:
+        """The file is in German (language code 08), so its option is known after it is read."""
         path = write_subtitle_file(self, [(0, 9, b"text")], "one.stl", language=b"08")
         data = self.read("one.stl")
         for name, words, expected in (
@@ -156,14 +167,14 @@ class ProfileFiles(Case):
             self.check(f"{name}: copy", self.read(kept), data)
 
     def test_refuses_wrong_lines_with_their_number(self) -> None:
-        not_there = f"is not allowed in a profile: use {PROFILE_OPTIONS}"
-        for text, number, printed in (
-                ("--every 25\n\n--breaks 1", 3, f"--breaks {not_there}"),
-                *((f"{name}=1", 1, f"{name} {not_there}") for name in (
+        not_allowed = f"is not allowed in a profile: use {PROFILE_OPTIONS}"
+        for text, number, message in (
+                ("--every 25\n\n--breaks 1", 3, f"--breaks {not_allowed}"),
+                *((f"{name}=1", 1, f"{name} {not_allowed}") for name in (
                     "--from", "--to", "--pes", "--profile")),
-                *((name, 1, f"{name} {not_there}") for name in (
+                *((name, 1, f"{name} {not_allowed}") for name in (
                     "--no-keeping", "--no-allow-lost", "--strict", "--open")),
-                *((text, 1, f"its first word {not_there}") for text in (
+                *((text, 1, f"its first word {not_allowed}") for text in (
                     "--json=1", "--new=1", "keeping=1", "one.stl", "root:*:20228:0")),
                 ("--every 0", 1, "argument --every: 0 is not a repeat interval: give 1 to 2160000 "
                  "frames"),
@@ -178,10 +189,10 @@ class ProfileFiles(Case):
             path = self.write("house", text.encode())
             with self.assertRaises(Stop) as refused:
                 read_profile(path)
-            self.must(text, str(refused.exception) == f"{path}, line {number}: {printed}",
-                      refused.exception)
+            self.check(text, str(refused.exception), f"{path}, line {number}: {message}")
 
     def test_reads_delay_counts(self) -> None:
+        """--late has the number of in-cues, and after a slash of out-cues, with each delay."""
         for text, begins, ends in (
                 ("0:1/0:1", {0: 1}, {0: 1}),
                 ("1:31,50:1000000/0:7,2:1", {1: 31, 50: 1_000_000}, {0: 7, 2: 1})):
@@ -197,12 +208,17 @@ class ProfileFiles(Case):
 
 
 class Overrides(Case):
+    """Options of a call of qc, of its profile, and of the line of a list, which override others."""
+
     def request(self, call: str, line: str | None) -> Request:
-        words = make_default_options(*call.split())
-        return make_example_request("a.stl", "a.ts", *call.split()) if line is None else \
-            make_line_request(["a.stl", "a.ts", *line.split()], words, self.folder)
+        """Return the request for a pair of the call, or of a line of its list."""
+        if line is None:
+            return make_example_request("a.stl", "a.ts", *call.split())
+        return make_line_request(["a.stl", "a.ts", *line.split()],
+                                 make_default_options(*call.split()), self.folder)
 
     def test_given_options_override_the_profile(self) -> None:
+        # The call, the line, and the values of --every, --keeping, --within, --late, --complete.
         house = self.write("house", b"--every 25\n--keeping\n--within 2\n--late 0:1,2:1/0:1\n")
         self.write("other", b"--every 50\n--no-complete\n")
         shares = Lateness({0: 1, 2: 1}, {0: 1})
@@ -230,13 +246,13 @@ class Overrides(Case):
                 ("--every 9", "--profile house --within 3", (25, True, 3, None, True)),
                 ("--within 1 --late 0:1,1:1/0:1", "--within 0", (250, False, 0, None, True))):
             request = self.request(call, line)
-            result = (request.every, request.may_keep, request.within, request.late,
-                      request.is_complete)
-            self.must(f"{call} | {line}", result == expected, result)
+            self.check(f"{call} | {line}", (request.every, request.may_keep, request.within,
+                                            request.late, request.is_complete), expected)
             again = make_example_request("a.stl", "a.ts", *list_call_arguments(request)[:-3])
-            self.must(f"{call} | {line}: again", again == request, again)
+            self.check(f"{call} | {line}: parsed again", again, request)
 
     def test_replaces_one_clock_by_another(self) -> None:
+        """Expected: the values of --origin and --start."""
         self.write("other", b"--every 50\n")
         tcp = self.write("tcp", b"--start tcp\n")
         rows: list[tuple[str, str | None, tuple[int | None, str | None]]] = [
@@ -253,7 +269,9 @@ class Overrides(Case):
             ("--start tcp", "--profile other --origin=0", (0, None))]
         for call, line, expected in rows:
             request = self.request(call, line)
-            self.must(f"{call} | {line}", (request.origin, request.start) == expected, request)
+            self.check(f"{call} | {line}", (request.origin, request.start), expected)
+
+    def test_refuses_two_clocks(self) -> None:
         two = self.write("two", b"--start tcp\n--origin 0\n")
         for words in ("--start tcp --origin 0", f"--profile {two}"):
             with self.assertRaisesRegex(Stop, "--start and --origin both give the clock"):
@@ -274,16 +292,18 @@ class Overrides(Case):
             self.write(name, data)
         pair = f"{self.path('a.stl')} {self.path('a.ts')} --profile"
         path = self.write("in/list", f"{pair} house\n{pair} bad\n{pair} none\n".encode())
-        good, bad, none = read_pairs(path, make_default_options())
-        self.must("good", good.request and good.request.every == 25 and self.path("in/house") in
-                  good.files, good)
-        printed = f"{path}, line 2: {self.path('in/bad')}, line 2: --breaks is not allowed in a "
-        self.must("bad", bad.request is None and str(bad.reason).startswith(printed), bad.reason)
-        self.must("none", none.request is None and f"{self.path('in/none')}" in str(none.reason),
-                  none.reason)
+        good, bad, missing = read_pairs(path, make_default_options())
+        self.must("good", good.request and good.request.every == 25
+                  and self.path("in/house") in good.files, good)
+        message = f"{path}, line 2: {self.path('in/bad')}, line 2: --breaks is not allowed in a "
+        self.must("bad", bad.request is None and str(bad.reason).startswith(message), bad.reason)
+        self.must("missing", missing.request is None
+                  and self.path("in/none") in str(missing.reason), missing.reason)
 
 
 class ProfileVerdicts(Case):
+    """How qc names the options of a profile, and protects its file."""
+
     def test_names_the_lenient_options_of_the_profile(self) -> None:
         self.write("some", b"--every 250\n")
         self.write("waive", b"--allow-lost\n--severity levels\n")
@@ -303,26 +323,27 @@ class ProfileVerdicts(Case):
         data = b"--every 25  # each second\n--no-complete\n--layout 'fit,up'\n"
         path = self.write("house", data)
         request = make_example_request("a.stl", "a.ts", "--profile", path, "--every", "50")
-        self.must("line", request.profile and format_profile(request.profile) ==
-                  f"profile {path}: --every 25 --no-complete --layout fit,up")
-        none = read_profile(self.write("none", b"#\n"))
-        self.must("nothing", format_profile(none) == f"profile {none.name}: no options")
-        judged_pair = judge_files(self, STORY, RECORDING, "--profile", path, "--layout", "up",
-                                  "--every", "50")
-        known = judged_pair.result["request"]
-        self.must("result", known["profile"] == {
-            "name": path, "sha256": hashlib.sha256(data).hexdigest()} and
-            (known["every"], known["complete"], known["layout"]) == (50, False, "up"), known)
+        assert request.profile
+        self.check("printed line", format_profile(request.profile),
+                   f"profile {path}: --every 25 --no-complete --layout fit,up")
+        empty = read_profile(self.write("none", b"#\n"))
+        self.check("no options", format_profile(empty), f"profile {empty.name}: no options")
+        known = judge_files(self, STORY, RECORDING, "--profile", path, "--layout", "up",
+                            "--every", "50").result["request"]
+        self.check("JSON", known["profile"], {
+            "name": path, "sha256": hashlib.sha256(data).hexdigest()})
+        self.check("JSON: options", (known["every"], known["complete"], known["layout"]),
+                   (50, False, "up"))
 
     def test_never_overwrites_a_profile(self) -> None:
         path = self.write("house", b"--every 25\n")
-        bad = self.write("bad", b"\n--every")
-        for words, printed in (
-                (["--profile", path, "--json", path], f"{path} is also an input: give another "
-                                                      "name"),
-                (["--profile", bad, "--json", "x.json"],
-                 f"{bad}, line 2: argument --every: expected one argument")):
-            process = self.tool("qc", STORY, RECORDING, *words)
-            self.must(printed, process.status == 2 and process.told == [f"qc: {printed}"], process)
-        self.must("as it was", self.read("house") == b"--every 25\n" and
-                  b"line 2" in self.read("x.json"))
+        process = self.tool("qc", STORY, RECORDING, "--profile", path, "--json", path)
+        self.check("status, messages, contents", (process.status, process.told, self.read("house")),
+                   (2, [f"qc: {path} is also an input: give another name"], b"--every 25\n"))
+
+    def test_stores_the_error_of_a_profile(self) -> None:
+        path = self.write("bad", b"\n--every")
+        process = self.tool("qc", STORY, RECORDING, "--profile", path, "--json", "x.json")
+        self.check("call", process, (2, b"", [
+            f"qc: {path}, line 2: argument --every: expected one argument"]))
+        self.must("JSON", b"line 2" in self.read("x.json"))
