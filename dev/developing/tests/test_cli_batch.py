@@ -2,12 +2,13 @@
 from __future__ import annotations
 
 import argparse
-import contextlib
 import itertools
 import json
 import os
+import resource
 import shutil
 import signal
+import subprocess
 import sys
 import time
 from typing import Any, Callable
@@ -272,56 +273,42 @@ class CompleteBatches(Case):
             self.check(f"{more}", self.seen, None)
 
 
-# A script in place of the process that judges a pair. It writes the verdict that the subtitle file
-# contains, and ends with its status. Other contents: `other` (accepted with status 9), `silent` (no
-# result), `waits` (sleeps), `busy` (computes), `deaf` (ignores SIGTERM, and starts a process that
-# computes and whose ID it writes to `its`). It may use 20 seconds of processor time.
-CALL = """#!/bin/sh
-words="$*" out= object=
-while [ $# -gt 0 ]; do
-    case $1 in
-        --name=*) name=${1#*=} ;; --json) object=$2 ;; -o) out=$2 ;; --) stl=$2 ;;
-    esac
-    shift
-done
-kind=$(cat "$stl")
-[ "$kind" = waits ] && exec sleep SECONDS
-ulimit -t 20
-[ "$kind" = busy ] && while :; do :; done
-[ "$kind" = deaf ] && { trap '' TERM; sh -c 'echo $$ >"$0"; while :; do :; done' "${0%/*}/its"; }
-case $kind in accepted | other | silent) status=0 ;; refused) status=1 ;; *) status=2 ;; esac
-case $kind in other) kind=accepted ends=9 ;; *) ends=$status ;; esac
-echo "qc: one" >&2; echo "qc: told last" >&2
-[ "$kind" = silent ] || sed "s|WORDS|$words|" "${0%/*}/$kind" >"${object:-$out/$name.json}"
-exit $ends
-"""
+def judge_as_told(request: Request, call: PairOptions) -> int:
+    """Write the verdict that the subtitle file contains. Return its status.
+
+    Other contents: `other` (accepted with status 9), `silent` (no result), `waits`, `busy`
+    (computes), and `deaf` (ignores SIGTERM, and starts a process that computes).
+    """
+    resource.setrlimit(resource.RLIMIT_CPU, (20, 20))  # seconds
+    with open(request.stl, encoding="ascii") as file:
+        kind = file.read()
+    if kind == "waits":
+        time.sleep(SECONDS)
+    while kind == "busy":
+        pass
+    if kind == "deaf":
+        signal.signal(signal.SIGTERM, signal.SIG_IGN)
+        os.chdir(os.path.dirname(request.stl))
+        subprocess.call(["sh", "-c", "echo $$ >process; while :; do :; done"])
+    print("qc: first\nqc: last", file=sys.stderr)
+    verdict = "accepted" if kind == "other" else kind
+    if kind != "silent":
+        options = [call.name, call.is_claimed, call.out, call.json, call.is_kept, call.program]
+        write_result_file(call.json or os.path.join(call.out or "", f"{call.name}.json"),
+                          make_result(verdict, notes=[json.dumps([
+                              *options, *list_call_arguments(request)])]))
+    return {"other": 9, "silent": 0}.get(kind, STATUSES.get(verdict, 0))
 
 
 class ForkedPairs(Case):
-    """Processes that judge pairs, with the output folder `out`. The script `CALL` replaces qc."""
+    """Processes that judge pairs, with the output folder `out`. `judge_as_told` replaces qc."""
 
     def setUp(self) -> None:
         super().setUp()
-        path = self.write_program("call", CALL.replace("SECONDS", f"{SECONDS}"))
-        for verdict in ("accepted", "refused", "not judged"):
-            self.write(verdict, json.dumps(make_result(verdict, notes=["WORDS"])).encode())
         self.command_paths = CommandPaths("tools/qc", self.bench.program)
-
-        def execute(request: Request, call: PairOptions) -> int:
-            kept = ["-o", call.out] if call.out else ["--json", call.json or ""]
-            words = [f"--name={call.name}", *["--claimed"] * call.is_claimed, *kept,
-                     *["--keep"] * call.is_kept, "-p", call.program or "",
-                     *list_call_arguments(request)]
-            # The parent process waits until the child closes an inherited file descriptor.
-            for file in os.listdir("/proc/self/fd"):
-                with contextlib.suppress(OSError):
-                    os.set_inheritable(int(file), True)
-            signal.signal(signal.SIGTERM, signal.SIG_DFL)  # let a pending signal end the process
-            os.execv(path, [path, *words])
-
-        asking = mock.patch.object(batch, "judge_forked_pair", execute)
-        asking.start()
-        self.addCleanup(asking.stop)
+        judging = mock.patch.object(batch, "judge_forked_pair", judge_as_told)
+        judging.start()
+        self.addCleanup(judging.stop)
         os.mkdir(self.path("temporary"))
         os.mkdir(self.path("out"))
         self.write("one.ts", b"1")
@@ -332,7 +319,7 @@ class ForkedPairs(Case):
                           limit)
 
     def item(self, kind: str, name: str = "one", *args: str) -> BatchItem:
-        """Return a pair whose subtitle file contains `kind`, which tells `CALL` how to end."""
+        """Return a pair whose subtitle file contains `kind`, which tells how judging ends."""
         stl = self.write(f"{name}.stl", kind.encode())
         return BatchItem(name, make_example_request(stl, self.path("one.ts"), *args), None)
 
@@ -340,19 +327,18 @@ class ForkedPairs(Case):
         return runner.start(item) or next(runner.collect_rows(SECONDS))
 
     def test_gives_each_call_its_files_and_options(self) -> None:
-        """`CALL` writes its arguments to the notes of its result."""
+        """`judge_as_told` writes its arguments to the notes of its result."""
         for out, is_kept in ((None, False), (self.path("out"), False), (self.path("out"), True)):
             runner = PairRunner(self.command_paths, self.path("temporary"), out, is_kept)
             item = self.item("refused", "one", "--every", "50")._replace(name="pair")
             path = os.path.join(out or self.path("temporary"), "pair.json")
             self.check("name, result", (self.judge_item(runner, item).name,
                                         runner.get_result_path(item)), ("pair", path))
-            [arguments] = (read_result(path) or {})["notes"]
-            kept = f"-o {out}{' --keep' * is_kept}" if out else f"--json {path}"
-            self.must("arguments", arguments.startswith(
-                f"--name=pair --claimed {kept} -p {self.command_paths.program_path} --every 50 ")
-                and arguments.endswith(f" -- {self.path('one.stl')} {self.path('one.ts')}"),
-                arguments)
+            [note] = (read_result(path) or {})["notes"]
+            self.check("name, claimed, -o, --json, --keep, -p, others", json.loads(note), [
+                "pair", True, out, None if out else path, is_kept,
+                self.command_paths.program_path, "--every", "50", *list_call_arguments(
+                    make_example_request(self.path("one.stl"), self.path("one.ts")))])
             self.must("the call has ended", not runner.running_pairs)
 
     def test_reads_the_verdict_from_the_pairs_result(self) -> None:
@@ -360,8 +346,8 @@ class ForkedPairs(Case):
         for kind, verdict, line in (
                 ("accepted", "accepted", "accepted 72 Content"),
                 ("refused", "refused", "refused 72 Content"),
-                ("not judged", "not judged", "why"), ("silent", "not judged", "told last"),
-                ("other", "not judged", "told last")):
+                ("not judged", "not judged", "why"), ("silent", "not judged", "last"),
+                ("other", "not judged", "last")):
             item = self.item(kind, "one", "--severity", self.write("levels", b"72 error\n"))
             write_result_file(self.path("out/one.json"), make_result("accepted"))
             row = self.judge_item(self.runner, item)
@@ -409,7 +395,7 @@ class ForkedPairs(Case):
                 "reason"], reason)
             self.must(f"{kind}: none is overdue", not runner.overdue_processes)
         self.must("the process of the deaf one is gone", wait_until(
-            lambda: not os.path.exists(f"/proc/{int(self.read('its'))}/fd/0")))
+            lambda: not os.path.exists(f"/proc/{int(self.read('process'))}/fd/0")))
 
     def test_kills_a_pair_ten_seconds_after_it_was_stopped(self) -> None:
         """The limit is 60 seconds. Another process uses none, and is never stopped."""
@@ -447,8 +433,7 @@ class ForkedPairs(Case):
                       in rows["dies"].line, rows)
 
     def test_a_forked_call_has_its_own_session_and_signals(self) -> None:
-        """Standard files are /dev/null, others are closed, and only ignored signals stay ignored.
-        """
+        """Standard files are /dev/null, others are closed. Only ignored signals stay ignored."""
         opened = open(self.write("opened", b""), "rb")
         self.addCleanup(opened.close)
 
@@ -530,8 +515,7 @@ class ForkedPairs(Case):
                    (names, names))
 
     def test_resumes_only_from_current_results(self) -> None:
-        """Only `one` and `four` have a verdict of this program on these files with these options.
-        """
+        """Only `one` and `four` have a verdict of this program on these files and options."""
         program = describe_program(self.command_paths.program_path)
         earlier: dict[str, tuple[str, dict[str, Any]]] = {  # verdicts and other members of results
             "one": ("refused", {}), "two": ("not judged", {}),

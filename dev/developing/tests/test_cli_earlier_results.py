@@ -25,7 +25,7 @@ from subtitles.results.files import (
     read_call_result, read_result, read_results, write_result_file)
 from subtitles.results import schema
 from subtitles.results.schema import FORMAT, REQUEST
-from .bench import Case, get_example_path, read_example_file
+from .bench import Case, read_example_file
 from .parts import make_example_request, make_default_options
 from .results import FAULT, capture_output, make_result, make_table_row
 
@@ -73,18 +73,6 @@ class CurrentResults(Case):
             self.check(f"is `{verdict}` kept", is_reusable(
                 {**earlier, "verdict": verdict}, BatchItem("one", request, None), PROGRAM),
                 verdict == "accepted")
-
-    def test_removes_the_earlier_results_of_a_pair(self) -> None:
-        """The pair is first refused (status 1), and then not judged, since page 150 is not sent."""
-        rows: list[tuple[tuple[str, ...], int, list[str]]] = [
-            ((), 1, ["story.html", "story.json", "story.txt"]),
-            (("--page", "150"), 2, ["story.html", "story.json"])]
-        for more, status, files in rows:
-            process = self.tool("qc", get_example_path("story.stl"),
-                                get_example_path("five-faults.pes"), "-o", "out", *more, "-p",
-                                self.bench.program)
-            self.check(f"{more}: status, files", (
-                process.status, sorted(os.listdir(self.path("out")))), (status, files))
 
     def test_a_result_is_current_only_for_the_same_program(self) -> None:
         request, earlier = self.make_accepted_result()
@@ -253,29 +241,28 @@ class StoredResults(Case):
 class WatchedFolders(Case):
     """Runs of `qc --watch in -o out`, in which the judging of the pair `a` is simulated."""
 
+    def setUp(self) -> None:
+        super().setUp()
+        for name in ("in", "out"):
+            os.mkdir(self.path(name))
+        for name in ("in/a.stl", "in/a.ts"):
+            self.write(name, b"1")
+
     def arguments(self, **more: Any) -> argparse.Namespace:
         return argparse.Namespace(**{
             **vars(make_default_options()), "watch": self.path("in"), "out": self.path("out"),
             "settled": 0, "is_kept": True, "jobs": 3, "limit": 7, "every": 99, **more})
 
-    def write_pair(self) -> None:
-        os.mkdir(self.path("in"))
-        for name in ("in/a.stl", "in/a.ts"):
-            self.write(name, b"1")
-
     def test_requires_two_different_folders_and_makes_the_output_folder(self) -> None:
         self.assertRaises(Stop, refuse_folders, self.arguments(out=None))
-        self.assertRaises(Stop, refuse_folders, self.arguments())  # `in` is missing
-        os.mkdir(self.path("in"))
-        refuse_folders(self.arguments())
-        self.must("out", os.path.isdir(self.path("out")))
+        self.assertRaises(Stop, refuse_folders, self.arguments(watch=self.path("missing")))
+        refuse_folders(self.arguments(out=self.path("new")))
+        self.must("new", os.path.isdir(self.path("new")))
         os.symlink("in", self.path("link"))
         for name in ("in", "link"):
             self.assertRaises(Stop, refuse_folders, self.arguments(out=self.path(name)))
 
     def test_refuses_a_folder_with_foreign_files(self) -> None:
-        for name in ("in", "out"):
-            os.mkdir(self.path(name))
         for name in ("out/index.html", "out/.lock"):
             path = self.write(name, b"theirs")
             self.assertRaises(Stop, refuse_folders, self.arguments())
@@ -283,7 +270,6 @@ class WatchedFolders(Case):
 
     def test_prints_each_verdict_and_updates_the_index(self) -> None:
         """Results of two pairs are in `out` before. Printed lines begin with the date and time."""
-        os.mkdir(self.path("out"))
         for name in ("old", "older"):
             write_result_file(self.path(f"out/{name}.json"), make_result("accepted"))
         self.write("out/x.json", b"[]")
@@ -305,7 +291,6 @@ class WatchedFolders(Case):
             "out/index.html").decode())
 
     def test_prints_a_verdict_if_the_index_cannot_be_written(self) -> None:
-        os.mkdir(self.path("out"))
         results = collection.FolderRows(self.path("out"))
         results.next_page = 0.0  # the next result writes the index
         with capture_output() as (out, errors), mock.patch.object(
@@ -315,7 +300,6 @@ class WatchedFolders(Case):
 
     def test_writes_the_index_of_many_pairs_less_often(self) -> None:
         """With 10,000 pairs at most every 10 seconds, but always at the end if it has changed."""
-        os.mkdir(self.path("out"))
         results, pages = collection.FolderRows(self.path("out")), list[int]()
         results.rows = {f"{at}": make_table_row(f"{at}", "accepted") for at in range(9999)}
         events: list[tuple[float, str, int]] = [  # time in seconds, event, pages written
@@ -377,8 +361,6 @@ class WatchedFolders(Case):
 
     def test_judges_only_pairs_without_a_current_result(self) -> None:
         """The results of `a` and `c` are current, that of `b` names no subtitle file."""
-        for name in ("in", "out"):
-            os.mkdir(self.path(name))
         for name in ("a", "b", "c"):
             for ending in ("stl", "ts"):
                 self.write(f"in/{name}.{ending}", b"1")
@@ -396,7 +378,6 @@ class WatchedFolders(Case):
         self.check("each result is read once", sorted(reads), ["a.json", "b.json", "c.json"])
 
     def test_keeps_the_state_of_a_watched_folder_for_monitoring(self) -> None:
-        self.write_pair()
         states = []
 
         def judge_item(runner: PairRunner, item: BatchItem) -> Row:
@@ -412,14 +393,11 @@ class WatchedFolders(Case):
             [(1, {}, ""), (0, {"accepted": 1}, "a: accepted")])
 
     def test_refuses_a_result_in_the_place_of_the_state(self) -> None:
-        self.write_pair()
-        os.mkdir(self.path("out"))
         self.write("out/state.json", b'{\n "format": 7,\n "verdict": "accepted"')
         self.assertRaises(Stop, refuse_folders, self.arguments())
 
     def test_reports_a_locked_pair_once_and_retries(self) -> None:
         """The first of five scans finds the pair. The second to fifth begin to judge it."""
-        self.write_pair()
         begun = list[str]()
 
         def judge_item(runner: PairRunner, item: BatchItem) -> Row:
@@ -436,7 +414,6 @@ class WatchedFolders(Case):
 
     def test_judges_a_locked_pair_once_it_is_free(self) -> None:
         """The pair is locked until the fourth of eight scans has ended."""
-        self.write_pair()
         begun = list[bool]()
 
         def judge_item(runner: PairRunner, item: BatchItem) -> Row:
@@ -453,7 +430,6 @@ class WatchedFolders(Case):
 
     def test_judges_a_pair_again_when_it_changes(self) -> None:
         """`a` changes after scans 2 and 5. `b` appears after scan 2, and changes after scan 5."""
-        self.write_pair()
 
         def change(scan: int) -> None:
             if scan in (2, 5):
@@ -465,8 +441,6 @@ class WatchedFolders(Case):
 
     def test_judges_a_pair_again_when_it_changes_back(self) -> None:
         """The recording grows after scan 2, and is as in its earlier result after scan 5."""
-        self.write_pair()
-        os.mkdir(self.path("out"))
         self.write_current_result("a")
         before = os.stat(self.path("in/a.ts")).st_mtime_ns
 
@@ -478,7 +452,6 @@ class WatchedFolders(Case):
         self.check("judged", lines, ["a  accepted"] * 2)
 
     def test_reports_each_reason_of_an_incomplete_pair_once(self) -> None:
-        os.mkdir(self.path("in"))
         watch = FolderWatch(self.path("in"), 0)
         with capture_output() as (_, errors):
             for reason in (*["first"] * 3, *["second"] * 3, *["first"] * 3):

@@ -210,16 +210,6 @@ class UsageErrors(CallCase):
             self.assertEqual((process.status, json.loads("".join(process.printed))["status"]),
                              (status, status), process)
 
-    def test_never_overwrites_a_file_named_in_wrong_arguments(self) -> None:
-        for name in ("one.stl", "one.pes", "list"):
-            self.write(name, b"an input")
-            for words in (["one.stl", "one.pes", "--every", "x"], ["one.stl", "--none"],
-                          ["--batch", "list", "--every", "x"],
-                          ["--severity", "list", "one.stl", "one.pes"]):
-                process = self.qc(*words, "--json", name)
-                self.assertEqual((process.status, self.read(name)), (
-                    2 if "--severity" in words else 64, b"an input"), (name, words))
-
     def test_never_overwrites_an_input(self) -> None:
         program = self.fake_program(ACCEPTED)
         os.mkdir(self.path("in"))

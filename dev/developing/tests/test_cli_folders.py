@@ -60,8 +60,7 @@ class NamesCase(Case):
 
 
 class HostileNames(NamesCase):
-    """The story example, which matches its recording: relative (status 3), since no clock is given.
-    """
+    """The story example, which matches its recording: relative (status 3) without a clock."""
 
     def test_judges_files_with_hostile_names(self) -> None:
         for what, name in NAMES.items():

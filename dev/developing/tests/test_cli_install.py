@@ -298,12 +298,6 @@ def count_judged(case: Case) -> int:
     return len(case.read("checked").splitlines())
 
 
-def reaches_pair(case: Case, folder: str, count: int) -> bool:
-    """Return whether a folder has `count` results and the next check begins in time."""
-    return wait_until(lambda: os.path.isdir(case.path(folder)) and count_judged(case) == count + 1
-                 and len(read_results_in(case, folder)) == count)
-
-
 def read_results_in(case: Case, folder: str) -> dict[str, Any]:
     return {name: json.loads(case.read(f"{folder}/{name}"))
             for name in os.listdir(case.path(folder))
@@ -320,7 +314,8 @@ class StoppedCalls(Case):
         words = [get_tool_path("qc"), "--batch", "in", "-o", "out", "--jobs", "1", "-p", program]
         with subprocess.Popen(words, cwd=self.folder, stdout=subprocess.DEVNULL,
                               stderr=subprocess.DEVNULL) as process:
-            self.must("the second pair begins", reaches_pair(self, "out", 1))
+            self.must("the second pair begins", wait_until(
+                lambda: count_judged(self) == 2 and len(read_results_in(self, "out")) == 1))
             process.kill()
         self.write("goes on", b"")
         self.must("both are judged", wait_until(lambda: len(read_results_in(self, "out")) == 2))
@@ -331,21 +326,23 @@ class StoppedCalls(Case):
             self.check("status, counts", (result.status, result.out.decode().splitlines()[-1]),
                        (1, "4 pairs: 3 relative, 1 refused"))
 
-    def test_writes_results_finished_before_a_signal(self) -> None:
+    def test_a_stopped_batch_writes_the_results_before_the_signal(self) -> None:
         """The signal arrives while the third of six pairs is judged."""
         write_pairs(self, "in", 6)
-        for item in (signal.SIGINT, signal.SIGTERM, signal.SIGHUP):
-            name, out, program = item.name, f"out.{item.name}", make_blocking_program(self, 2)
+        for number in (signal.SIGINT, signal.SIGTERM, signal.SIGHUP):
+            name, out, program = number.name, f"out.{number.name}", make_blocking_program(self, 2)
             words = [get_tool_path("qc"), "--batch", "in", "-o", out, "--jobs", "1", "-p", program,
                      "--json", "all.json"]
             with subprocess.Popen(words, cwd=self.folder, stdout=subprocess.PIPE,
                                   stderr=subprocess.PIPE) as process:
-                self.must(f"{name}: the third pair begins", reaches_pair(self, out, 2))
-                process.send_signal(item)
+                self.must(f"{name}: the third pair begins", wait_until(
+                    lambda: self.read("checked").count(b"\n") == 3
+                    and len(read_results_in(self, out)) == 2))
+                process.send_signal(number)
                 lines, errors = (text.decode().splitlines() for text in process.communicate())
-            known = json.loads(self.read("all.json"))
+            result = json.loads(self.read("all.json"))
             self.check(f"{name}: statuses, pairs", (
-                process.returncode, known["status"], len(known["pairs"])), (2, 2, 2))
+                process.returncode, result["status"], len(result["pairs"])), (2, 2, 2))
             self.check(f"{name}: message", errors, [
                 "qc: stopped when 2 of 6 pairs were judged; --resume judges the others"])
             self.must(f"{name}: table", len(lines) == 4 and lines[-1].startswith("2 pair"), lines)

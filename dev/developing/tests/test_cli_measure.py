@@ -265,8 +265,7 @@ class Parts(Case):
     """A recording of 24 subtitles in two parts, with a break of 130 frames between them."""
 
     def test_measures_each_part_of_a_recording(self) -> None:
-        """One part has a missing repeat, an in-cue 2 frames late, or two headers with other bits.
-        """
+        """One part lacks a repeat, has an in-cue 2 frames late, or two headers with other bits."""
         stl = write_programme(self, subtitle_times(24))
         sent = schedule_pages(self, stl)
         repeats = [next(at for at, (pts, _) in enumerate(sent) if pts == frame * TICKS)

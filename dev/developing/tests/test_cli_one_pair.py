@@ -126,12 +126,6 @@ class LastLines(Case):
 
     ACCEPTED_AND_REFUSED = [make_part(0, 9, 0), make_part(10, 19, 0, make_answer(REFUSED), 2)]
 
-    def test_prints_the_line_of_the_first_refused_part(self) -> None:
-        lines = self.print_lines(self.verdict(self.ACCEPTED_AND_REFUSED))
-        self.must("sentence", lines[-2].startswith("Refused: "), lines)
-        self.check("last line", lines[-1], REFUSED[0])
-        self.must("part", f"part 2, from 00:00:00:10 to 00:00:00:19: {REFUSED[0]}" in lines, lines)
-
     def test_prints_the_delays_only_if_some_are_allowed(self) -> None:
         """A line precedes the two last lines if --within is given and subtitles are late."""
         for delays, within, count in (((0, 3), 1, 3), ((), 1, 2), ((0, 3), 0, 2)):
@@ -307,17 +301,6 @@ class OutputFilesOfPair(Case):
             ({"out": self.path("out")}, True)]
         for options, expected in rows:
             self.check(f"{options}", self.files(self.verdict(), **options).needs_sums(), expected)
-
-    def test_writes_each_requested_file(self) -> None:
-        files = self.files(self.verdict(), json=self.path("one.json"), csv=self.path("one.csv"),
-                           junit=self.path("one.xml"), out=self.path("out"))
-        files.write()
-        self.check("failed outputs", files.verdict.failed_outputs, [])
-        for name in ("one.json", "out/one.json"):
-            result = json.loads(self.read(name))
-            self.check(name, (result["verdict"], len(result["faults"])), ("refused", 2))
-        self.check("CSV rows", len(self.read("one.csv").splitlines()), 2)
-        self.must("JUnit", b"refused 68 Parity" in self.read("one.xml"))
 
     def test_the_report_numbers_the_parts_if_there_are_several(self) -> None:
         verdict, pages = self.verdict(), list[bytes]()

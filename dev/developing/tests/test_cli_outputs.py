@@ -226,15 +226,6 @@ class Members(unittest.TestCase):
             2, 7, "00:00:01:00", "00:00:01:24", "accepted", 10, 2, 0, None, None, None, None])
         self.assertEqual(result["clock"], {"origin": 7, "source": GIVEN, "delay_frames": None})
 
-    def test_writes_the_verdict_and_fault_count_of_a_part(self) -> None:
-        for count in (0, 1, 1_000_000):
-            output: Any = SimpleNamespace(verdict="refused", line="l", frames=3, transmissions=1,
-                                          fault_count=count)
-            part = dataclasses.replace(self.PART, check_output=output)
-            result = JUDGED_PART.to_json(PartResult(part, False))
-            self.assertEqual((result["fault_count"], result["verdict"], result["line"]),
-                             (count, "refused", "l"), count)
-
     def test_writes_the_judged_file_of_a_part_without_a_clock(self) -> None:
         """A cut PES file from PID 0x101, with 204-byte packets. Only a kept file has a name."""
         recording: Any = SimpleNamespace(stream=lambda: (0x101, 204))

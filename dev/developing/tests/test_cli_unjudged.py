@@ -286,17 +286,6 @@ class OutputsAndSignals(CallCase):
         self.check("results", [result["verdict"] for result in (
             *self.object("one.json")["pairs"], self.object("two.json"))], ["not judged"] * 2)
 
-    def test_the_reason_names_all_outputs_that_fail(self) -> None:
-        if not os.path.exists("/dev/full"):
-            self.skipTest("full outputs, since there is no /dev/full")
-        for name in ("full1", "full2"):
-            os.symlink("/dev/full", self.path(name))
-        for words in (["--csv", "full1"], ["--csv", "full1", "--junit", "full2"]):
-            process = self.judge(self.fake_program(ACCEPTED), "--json", "one.json", *words)
-            self.check(f"{words}: status", process.status, 2)
-            self.must(f"{words}: reason", all(name in self.object()["reason"]
-                                              for name in words[1::2]), self.object())
-
     def test_prints_profile_options_first(self) -> None:
         self.write("house", b"--every 99\n")
         process = self.judge(self.fake_program(ACCEPTED), "--profile", "house")

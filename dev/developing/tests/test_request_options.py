@@ -340,10 +340,3 @@ class ProfileVerdicts(Case):
         process = self.tool("qc", STORY, RECORDING, "--profile", path, "--json", path)
         self.check("status, messages, contents", (process.status, process.told, self.read("house")),
                    (2, [f"qc: {path} is also an input: give another name"], b"--every 25\n"))
-
-    def test_stores_the_error_of_a_profile(self) -> None:
-        path = self.write("bad", b"\n--every")
-        process = self.tool("qc", STORY, RECORDING, "--profile", path, "--json", "x.json")
-        self.check("call", process, (2, b"", [
-            f"qc: {path}, line 2: argument --every: expected one argument"]))
-        self.must("JSON", b"line 2" in self.read("x.json"))

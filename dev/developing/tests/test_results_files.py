@@ -14,15 +14,14 @@ from unittest import mock
 from subtitles.cli import collection
 from subtitles.cli.batch import PairRunner, read_resumed_rows
 from subtitles.common.command_line import Stop
-from subtitles.common.program import ProgramInfo, TOP, read
+from subtitles.common.program import TOP, read
 from subtitles.common.shapes import Integer, ListOf
 from subtitles.formats.listing import SILENT, UNDECIDED
-from subtitles.judging.verdict import Unjudged
 from subtitles.request.commands import CommandPaths
 from subtitles.request.lines import BatchItem
 from subtitles.results import files
 from subtitles.results.files import (
-    make_result_chunks, make_table_lines, make_unjudged, read_result, write_result_file)
+    make_table_lines, make_unjudged, read_result, write_result_file)
 from subtitles.results.schema import (
     FAULT as ROWS_OF_FAULT, FORMAT, LISTS, VERDICT, find_misfit, schema)
 from ..pages import SCHEMA, format_json
@@ -137,8 +136,7 @@ class WrittenResults(Case):
                 self.check(f"{limit} bytes", self.judge()["omitted"]["subtitles"], omitted)
 
     def test_rejects_a_status_or_request_that_contradicts_the_verdict(self) -> None:
-        """`accepted` needs a clock, `valid` no recording. Status 0 of `relative` needs --relative.
-        """
+        """`accepted` needs a clock, `valid` no recording, `relative` with status 0 --relative."""
         self.require_validator()
         # The verdict, the status, members of the request, and whether the result is valid.
         rows: list[tuple[str, int, dict[str, Any], bool]] = [
@@ -161,13 +159,6 @@ class WrittenResults(Case):
     def test_cuts_a_text_that_is_too_long(self) -> None:
         known = make_unjudged("x", "y" * 70_000, "input")
         self.check("length, error", (len(known["reason"]), find_misfit(known)), (65_536, None))
-
-    def test_the_result_of_an_undecided_pair_is_valid(self) -> None:
-        judged = judge_files(self, self.write("story.stl", read_example_file("story.stl")))
-        judged.verdict.unjudged = Unjudged("why", "undecided")
-        known = json.loads("".join(make_result_chunks(judged.verdict,
-                                                      ProgramInfo("1", "0" * 64, None))))
-        self.check("verdict, error", (known["verdict"], find_misfit(known)), ("not judged", None))
 
 
 class UntrustedResults(Case):
