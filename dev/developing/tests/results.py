@@ -18,7 +18,7 @@ from .bench import BENCH, Case
 
 SCHEMA = os.path.join(TOP, "docs", "verdict.schema.json")
 # Number of items validated at the start of a list. Of the later items, every 50th is validated.
-VALIDATED_ITEMS = 20
+SAMPLED_ITEMS = 20
 REQUEST = {
     "stl": "one.stl", "recording": "one.ts", "page": "888", "every": 250, "option": "english",
     "origin": 0, "complete": True, "pid": None, "allow_lost": False, "severity": None, "breaks": 0,
@@ -101,8 +101,7 @@ def list_violations(value: dict[str, Any]) -> list[str]:
 
 
 def make_sample(value: dict[str, Any]) -> dict[str, Any]:
-    count = VALIDATED_ITEMS
-    lists = {item.name: [*value[item.name][:count], *value[item.name][count::50]]
+    lists = {item.name: [*value[item.name][:SAMPLED_ITEMS], *value[item.name][SAMPLED_ITEMS::50]]
              for item in LISTS if item.name in value}
     return {**value, **lists, **({"pairs": list(map(make_sample, value["pairs"]))}
                                  if "pairs" in value else {})}

@@ -180,12 +180,11 @@ class CompleteBatches(Case):
 
     seen: Any = None  # the runner, names of pairs, kept rows and --jobs of the last batch
 
-    def batch(self, verdicts: str, *, is_stopped: bool = False, unwritten: dict[str, Any] = {},
-              **more: Any) -> tuple[int, list[str], list[str]]:
+    def batch(self, verdicts: str, *, is_stopped: bool = False, **more: Any
+              ) -> tuple[int, list[str], list[str]]:
         """Give the pairs these verdicts, last pair first. Return the status, table and messages.
 
-        The line of each pair's result is its name. If `is_stopped`, other pairs are not judged.
-        Results of the pairs in `unwritten` could not be written. `more` contains options of qc.
+        The line of each pair's result is its name. `more` contains options of qc.
         """
         lines = [f"{self.path(name)}.stl {self.path('one.ts')}\n"
                  for name in ("one", "two", "three")]
@@ -207,7 +206,7 @@ class CompleteBatches(Case):
                 write_result_file(runner.get_result_path(item), make_result(verdict, **{
                     "reason" if verdict == "not judged" else "line": item.name}))
                 rows[item.name] = make_table_row(item.name, verdict, item.name)
-            runner.is_stopped, runner.unwritten_results = is_stopped, unwritten
+            runner.is_stopped = is_stopped
             return rows
 
         with mock.patch.object(batch, "judge_items", judge_items), capture_output() as (out, told):
@@ -239,12 +238,6 @@ class CompleteBatches(Case):
                 self.must("the temporary folder is deleted", not os.path.exists(
                     self.seen[0].folder))
 
-    def test_reports_a_result_that_could_not_be_written(self) -> None:
-        self.batch("accepted, accepted, accepted", json=self.path("all"),
-                   unwritten={"two": make_unjudged("two", "in use", "resource")})
-        self.check("verdicts", [pair["verdict"] for pair in json.loads(self.read("all"))["pairs"]],
-                   ["accepted", "not judged", "accepted"])
-
     def test_reports_a_stop_after_two_of_three_pairs(self) -> None:
         for out, more in ((None, ""), (self.path("out"), "; --resume judges the others")):
             status, table, told = self.batch("accepted, accepted", is_stopped=True, out=out)
@@ -262,7 +255,6 @@ class CompleteBatches(Case):
                 self.check(f"--resume {is_resumed}: kept rows", self.seen[2], kept)
 
     def test_judges_nothing_with_wrong_options(self) -> None:
-        """--resume without -o, an output in a missing folder, and outputs that are inputs."""
         options: list[dict[str, Any]] = [
             {"is_resumed": True}, {"csv": self.path("none/x")}, {"csv": self.path("list")},
             {"junit": self.path("three.stl")}, {"json": self.path("one.ts")}]
@@ -410,7 +402,6 @@ class ForkedPairs(Case):
             self.must("the other is not overdue", calls[1] not in self.runner.overdue_processes)
 
     def test_a_crash_affects_only_its_own_pair(self) -> None:
-        """The process ends before or after it has written the verdict `accepted`."""
         ends: dict[str, Callable[[], object]] = {
             "killed": lambda: signal.raise_signal(signal.SIGKILL), "no memory": os.abort,
             "a signal": lambda: signal.raise_signal(signal.SIGTERM), "an error": lambda: 1 // 0,

@@ -13,7 +13,7 @@ from typing import Any, Callable, Iterator
 from unittest import mock
 
 from subtitles.cli import batch, collection
-from subtitles.cli.batch import FolderWatch, PairRunner, is_reusable, refuse_folders
+from subtitles.cli.batch import FolderWatch, PairRunner, refuse_folders
 from subtitles.cli.single import lock_pair
 from subtitles.common.command_line import Lateness, Stop
 from subtitles.common.program import ProgramInfo, describe_program
@@ -67,13 +67,6 @@ class CurrentResults(Case):
             "kept_stl", "moved_stl", "is_reading", "language", "reference_call"})
         # See test_request_options for the last members.
 
-    def test_resume_judges_an_unjudged_pair_again(self) -> None:
-        request, earlier = self.make_accepted_result()
-        for verdict in ("accepted", "not judged"):
-            self.check(f"is `{verdict}` kept", is_reusable(
-                {**earlier, "verdict": verdict}, BatchItem("one", request, None), PROGRAM),
-                verdict == "accepted")
-
     def test_a_result_is_current_only_for_the_same_program(self) -> None:
         request, earlier = self.make_accepted_result()
         for name in ("version", "sha256"):
@@ -126,7 +119,6 @@ class StoredResults(Case):
             self.must(f"{data[:9]!r}", reason in result["reason"], result)
 
     def test_makes_a_table_row_of_each_result(self) -> None:
-        """A row has the counts of causes and faults by name, and the lines of 100 faults."""
         faults = [{**FAULT, "line": f"refused {number}", "number": 5, "name": "X"}
                   for number in range(120)]
         causes = {"late": 2, "early": 1}
@@ -145,11 +137,6 @@ class StoredResults(Case):
                 ("no pair", make_unjudged("x", "why", "input"), "why", False)):
             row = make_row(result, "x")
             self.check(name, (row.line, row.is_judged), (line, is_judged))
-
-    def test_makes_a_result_of_a_pair_that_is_not_judged(self) -> None:
-        self.check("result", make_unjudged("a", "why", "input"), {
-            "format": FORMAT, "verdict": "not judged", "status": 2, "name": "a", "reason": "why",
-            "not_judged_kind": "input"})
 
     def test_refuses_results_of_another_format_or_shape(self) -> None:
         """A valid result with these changes does not match the schema at the second value."""
@@ -226,7 +213,6 @@ class StoredResults(Case):
                    "the process was killed")
 
     def test_replaces_only_results_tables_and_empty_files(self) -> None:
-        """A JSON result begins with a brace, and a CSV table with the given heads."""
         for data, begin, expected in (
                 (b"{", b"{", True), (b"", b"{", True), (b"GSI", b"{", False),
                 (b" {", b"{", False), (b'{"a', b"{", True),
@@ -263,8 +249,10 @@ class WatchedFolders(Case):
             self.assertRaises(Stop, refuse_folders, self.arguments(out=self.path(name)))
 
     def test_refuses_a_folder_with_foreign_files(self) -> None:
-        for name in ("out/index.html", "out/.lock"):
-            path = self.write(name, b"theirs")
+        """A result is foreign in the place of the state."""
+        for name, data in (("index.html", b"theirs"), (".lock", b"theirs"),
+                           ("state.json", b'{\n "format": 7,\n "verdict": "accepted"')):
+            path = self.write(f"out/{name}", data)
             self.assertRaises(Stop, refuse_folders, self.arguments())
             os.unlink(path)
 
@@ -391,10 +379,6 @@ class WatchedFolders(Case):
         self.check("waiting, verdicts, last result: before and after judging", [
             (state["waiting"], state["verdicts"], state["last_result"]) for state in states],
             [(1, {}, ""), (0, {"accepted": 1}, "a: accepted")])
-
-    def test_refuses_a_result_in_the_place_of_the_state(self) -> None:
-        self.write("out/state.json", b'{\n "format": 7,\n "verdict": "accepted"')
-        self.assertRaises(Stop, refuse_folders, self.arguments())
 
     def test_reports_a_locked_pair_once_and_retries(self) -> None:
         """The first of five scans finds the pair. The second to fifth begin to judge it."""

@@ -198,18 +198,8 @@ class Programs(CallCase):
         self.assertEqual(self.judge(program, "--strict").status, 0)
         self.assertEqual(self.judge(program, "--relative").printed, self.judge(program).printed)
 
-    def test_quiet_prints_only_the_last_two_lines(self) -> None:
-        program = self.fake_program(ACCEPTED)
-        self.assertEqual(self.judge(program, "--quiet").printed, self.judge(program).printed[-2:])
-
 
 class UsageErrors(CallCase):
-    def test_prints_a_result_for_wrong_arguments(self) -> None:
-        for words, status in ((["--none"], 64), ([*HELLO, "--csv", "none/one"], 2)):
-            process = self.qc(*words, "--json", "-")
-            self.assertEqual((process.status, json.loads("".join(process.printed))["status"]),
-                             (status, status), process)
-
     def test_never_overwrites_an_input(self) -> None:
         program = self.fake_program(ACCEPTED)
         os.mkdir(self.path("in"))
@@ -261,7 +251,6 @@ class Bugs(CallCase):
                 self.check_bug_message(place, ValueError("odd"))
 
     def test_has_status_2_if_a_module_cannot_be_imported(self) -> None:
-        """One line is printed, or none if standard error is closed or full."""
         for ending, count in (("", 1), ("2>&-", 0), ("2>/dev/full", 0)):
             process = subprocess.run(
                 ["sh", "-c", f'exec "$0" "$@" {ending}', sys.executable, "-c",

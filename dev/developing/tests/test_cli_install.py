@@ -86,7 +86,6 @@ class Installation(Case):
         return self.tool("install", "-p", self.bench.program, folder)
 
     def test_installed_tools_run_from_a_moved_folder(self) -> None:
-        """The tools are also installed again over the moved folder."""
         process = self.install("first/prefix")
         self.check("status", process.status, 0)
         os.rename(self.path("first/prefix"), self.path("moved"))
@@ -98,7 +97,6 @@ class Installation(Case):
         check_installation(self, self.path("moved"))
 
     def test_others_can_use_what_a_private_clone_installs(self) -> None:
-        """The umask 077 keeps the files of the clone private."""
         self.call(["sh", "-c", """umask 077 && mkdir clone &&
             cp -r "$1"/tools "$1"/docs "$1"/examples "$1"/*.md "$1"/VERSION clone &&
             clone/tools/install -p "$2" prefix""", "sh", TOP, self.bench.program])
@@ -294,10 +292,6 @@ def make_blocking_program(case: Case, count: int) -> str:
     return case.write_program("program", script)
 
 
-def count_judged(case: Case) -> int:
-    return len(case.read("checked").splitlines())
-
-
 def read_results_in(case: Case, folder: str) -> dict[str, Any]:
     return {name: json.loads(case.read(f"{folder}/{name}"))
             for name in os.listdir(case.path(folder))
@@ -315,14 +309,15 @@ class StoppedCalls(Case):
         with subprocess.Popen(words, cwd=self.folder, stdout=subprocess.DEVNULL,
                               stderr=subprocess.DEVNULL) as process:
             self.must("the second pair begins", wait_until(
-                lambda: count_judged(self) == 2 and len(read_results_in(self, "out")) == 1))
+                lambda: self.read("checked").count(b"\n") == 2
+                and len(read_results_in(self, "out")) == 1))
             process.kill()
         self.write("goes on", b"")
         self.must("both are judged", wait_until(lambda: len(read_results_in(self, "out")) == 2))
         for count in (2, 0):
-            before = count_judged(self)
+            self.write("checked", b"")
             result = self.tool("qc", "--batch", "in", "-o", "out", "--resume", "-p", program)
-            self.check("pairs judged by --resume", count_judged(self) - before, count)
+            self.check("pairs judged by --resume", self.read("checked").count(b"\n"), count)
             self.check("status, counts", (result.status, result.out.decode().splitlines()[-1]),
                        (1, "4 pairs: 3 relative, 1 refused"))
 

@@ -157,7 +157,7 @@ class Proposals(Case):
                     f"within can be at most {most} frames" in line for line in lines),
                     most + 1 in (*begins, *ends))
                 early = "; ".join(cue for delays in several for cue in delays.early)
-                self.must(f"{name}: early and unsent", {
+                self.must(f"{name}: early cues, unsent text", {
                     f"early, which no option accepts: {early}", "text never sent: y"} <= {*lines})
 
     def test_proposes_within_1_if_a_twentieth_of_the_pts_are_off_frame(self) -> None:
@@ -346,10 +346,10 @@ class Profiles(Case):
         self.check("accepted", ("--within 1" in lines, lines[-1]), (True, ACCEPTED))
 
     def test_does_not_allow_a_single_off_frame_pts(self) -> None:
-        """One PES packet is 7 ticks late."""
         single = Programme(self, 2, Inserter("one a frame"))
         sent = single.sent()
-        sent[BLANK_FRAMES] = (sent[BLANK_FRAMES][0] + 7, sent[BLANK_FRAMES][1])
+        late_ticks = 7
+        sent[BLANK_FRAMES] = (sent[BLANK_FRAMES][0] + late_ticks, sent[BLANK_FRAMES][1])
         process = self.tool("qc", "--measure", single.stl,
                             self.write("one.pes", join_pes_packets(sent)), "--origin", "0", "-p",
                             self.bench.program)

@@ -109,7 +109,6 @@ class LastLines(Case):
                 line for line in lines[:-2] if "more place" in line]), (min(count, 20), more))
 
     def test_advises_to_record_again_after_a_loss_in_the_judged_range(self) -> None:
-        """Unless the loss is allowed."""
         advice = "! record that part again: the missing frames were not checked"
         accepted, refused = [make_part(0, 99, 0)], [make_part(0, 99, 0, make_answer(REFUSED))]
         for name, parts, options, is_judged, is_advised in (
@@ -159,7 +158,6 @@ class LastLines(Case):
             self.check(words, lines[-2:], [words, "! not judged: stopped at x"])
 
     def test_prints_not_judged_after_a_line_of_the_program(self) -> None:
-        """So that no verdict of the program is the last line."""
         for last, expected in (("accepted 5 frames 2 transmissions", ["not judged"]),
                                ("3 faults", ["not judged"]), ("+ a command", []), ("", [])):
             recorder = LineRecorder()
@@ -452,14 +450,12 @@ class Pages(Case):
         self.check("fault counts", re.findall(r'<td data-name="Faults">(\d)</td>', table),
                    ["0", "2", "0"])
 
-    def test_shows_losses_in_the_judged_range_and_warnings_beside_the_verdict(self) -> None:
+    def test_shows_warnings_beside_the_verdict(self) -> None:
         verdict = self.verdict()
-        verdict.gaps, verdict.warnings = [make_gap(True), make_gap(False)], [
-            Notice("kind", "strange")]
+        verdict.warnings = [Notice("kind", "strange")]
         box = markup_text(report_page.make_verdict_box(verdict))
         self.must("box", box.startswith('<div class="verdict refused">') and verdict.sentence in
                   box and "strange" in box, box)
-        self.check("losses", box.count("3 TS packets were lost"), 1)
 
     def test_lists_losses_and_packets_outside_the_judged_range_as_unchecked(self) -> None:
         verdict = self.verdict()

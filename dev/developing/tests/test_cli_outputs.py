@@ -79,13 +79,12 @@ class Tables(unittest.TestCase):
             make_result("accepted", not_checked=[unchecked])])], [NO_VIDEO])
 
     def test_has_subtitle_counts_in_each_row(self) -> None:
-        fault_count, pair_row = 150, 1
         for counts, expected in (({"judged": 9, "refused": 2}, ("9", "2")), (None, ("", ""))):
             rows = self.read_csv([make_result("refused", subtitle_counts=counts,
-                                              faults=[fault(38)] * fault_count)])
+                                              faults=[fault(38)] * 150)])
             names = ("subtitle_counts_judged", "subtitle_counts_refused")
             self.assertEqual([tuple(row[name] for name in names) for row in rows],
-                             [expected] * (pair_row + fault_count), counts)
+                             [expected] * (1 + 150), counts)
 
     def test_a_csv_table_has_one_header_row(self) -> None:
         for order in ((0, 1, 2), (2, 1, 0), (1, 0, 2), (0,), ()):
@@ -178,9 +177,6 @@ class Statuses(Case):
         self.check("no output", self.write_outputs({}), 0)
         self.check("all outputs", self.write_outputs({kind: self.path(f"good.{kind}")
                                                       for kind in self.KINDS}), 0)
-
-    def test_is_2_if_the_batch_was_stopped(self) -> None:
-        self.check("stopped", self.write_outputs({}, is_stopped=True), 2)
 
     def test_is_2_if_an_output_fails(self) -> None:
         missing_folder = self.path("nowhere/at/all")

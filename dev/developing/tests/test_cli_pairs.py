@@ -124,10 +124,8 @@ class Ended(Case):
                        ["story.html", "story.json"])
 
     def test_reports_the_progress_at_a_signal(self) -> None:
-        """A program prints the first `count` lines of `check`, then sleeps until the signal.
-
-        The lines of this pair: the trusted frames up to 20:15:00:24, then the faults by time.
-        """
+        """A program prints the first `count` lines of `check`, then sleeps until the signal."""
+        # Printed lines, faults among them, and how far the first line (trusted frames) or fault is.
         for count, faults, up_to in ((0, 0, "nothing yet"), (1, 0, "all up to 20:15:00:24"),
                                      (2, 1, "all up to 20:15:01:00"),
                                      (4, 3, "all up to 20:15:03:00")):

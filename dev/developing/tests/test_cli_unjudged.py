@@ -315,11 +315,6 @@ class OutputsAndSignals(CallCase):
                        [self.path("one.recording.pes")] * bool(is_kept and count and ending))
         self.check("no recording", self.make_output_files().list_raw_outputs(None), [])
 
-    def test_writes_the_result_last(self) -> None:
-        outputs = self.make_output_files().list_outputs(None)
-        self.check("files", [os.path.basename(output.path) for output in outputs],
-                   ["one.html", "one.json"])
-
     def test_a_result_replaces_a_link_but_another_output_follows_it(self) -> None:
         os.symlink(self.write("theirs", b""), self.path("link"))
         for is_result in (False, True):

@@ -116,8 +116,6 @@ class ListLines(Case):
                                  *words, "-p", self.bench.program])
             self.check(f"{words}", process, (2, b"", [
                 f"qc: {device} is a device: give a file or a pipe"]))
-        self.write("list", f"{stl} /dev/zero\n".encode())
-        self.must("in a list", b"/dev/zero is a device" in self.judge("list").out)
 
 
 class MissingResources(Case):

@@ -15,7 +15,7 @@ from subtitles.request.commands import CommandPaths, format_profile, make_comman
 from subtitles.request.lines import read_pairs, read_profile, make_line_request
 from subtitles.request.request import (
     ALONE, JUDGED, LINE, MEASURE, OPTIONS, Option, Request, add_options, keep_stl,
-    list_arguments, make_file_request)
+    make_file_request)
 from subtitles.results.schema import REQUEST
 from .bench import Case, get_example_path
 from .judged import judge_files
@@ -75,10 +75,6 @@ class OptionRows(Case):
         command = make_command(request, CommandPaths("tools/qc", self.bench.program))
         for name, _, _ in ROWS:
             self.check(name, f" {name}" in command, name != "--start")
-
-    def test_a_default_needs_no_argument(self) -> None:
-        self.check("--complete", list_arguments(make_example_request("a", "b", "--complete")),
-                   [[]] * len(OPTIONS))
 
     def test_each_row_is_complete(self) -> None:
         for item in OPTIONS:

@@ -260,7 +260,7 @@ class CollectedResults(Case):
             make_table_row("d", "waived", "waived: refused 5 X", "", 3)]
 
     def test_notes_a_clock_that_was_estimated(self) -> None:
-        """`sources` has the source of each part's clock: an option (given, start) or an estimate."""
+        """`sources` has the source of each part's clock: an option, or the recording."""
         for sources, expected in (("", ""), ("given", ""), ("recording", files.NO_CLOCK),
                                   ("recording start", files.NO_CLOCK),
                                   ("start recording", files.LATER_CLOCK)):
@@ -298,7 +298,6 @@ class CollectedResults(Case):
         self.must("messages", "no/x" in first and "no/y" in second, errors)
 
     def test_writes_all_pairs_into_each_file(self) -> None:
-        """The CSV file has a header row, and a row for each pair and for a fault."""
         self.write_collection(json=self.path("all"), csv=self.path("rows"),
                               junit=self.path("cases"))
         result = json.loads(self.read("all"))
@@ -306,7 +305,7 @@ class CollectedResults(Case):
             b'{\n "format": %d,\n "status": 2,\n "date": "' % FORMAT))
         self.check("JSON", (result["status"], [pair["verdict"] for pair in result["pairs"]]),
                    (2, ["accepted", "refused", "not judged", "waived"]))
-        self.check("CSV rows", len(self.read("rows").splitlines()), 6)
+        self.check("CSV: heads, pairs, a fault", len(self.read("rows").splitlines()), 1 + 4 + 1)
         self.check("JUnit cases", self.read("cases").count(b"<testcase"), 4)
 
     def test_a_closed_standard_output_does_not_lose_the_csv_file(self) -> None:
@@ -324,7 +323,6 @@ class CollectedResults(Case):
         self.check("discarded", discard.call_args_list, [mock.call(out)])
 
     def test_collects_the_results_of_a_folder(self) -> None:
-        """Files that are no results, and the state of a service, are skipped."""
         args = argparse.Namespace(csv=None, junit=None, json=None, collect=self.path("in"))
 
         def collect() -> tuple[int, str, str]:
@@ -347,11 +345,6 @@ class CollectedResults(Case):
         self.write("in/three.json", b"{")
         self.check("not judged", collect()[0], 2)
         self.must("index", b"three" in self.read("in/index.html"))
-
-    def test_refuses_a_folder_as_output(self) -> None:
-        with self.assertRaises(Stop):
-            collection.refuse_output_names(argparse.Namespace(
-                json=None, csv=self.folder, junit=None))
 
     def test_a_result_that_is_deleted_or_replaced_is_not_judged(self) -> None:
         path = self.path("gone.json")
