@@ -112,10 +112,11 @@ class LastLines(Case):
         advice = "! record that part again: the missing frames were not checked"
         accepted, refused = [make_part(0, 99, 0)], [make_part(0, 99, 0, make_answer(REFUSED))]
         for name, parts, options, is_judged, is_advised in (
-                ("accepted", accepted, [], True, True), ("refused", refused, [], True, True),
-                ("allowed", accepted, ["--allow-lost"], True, False),
-                ("outside", accepted, [], False, False)):
-            lines = self.print_lines(self.verdict(parts, *options, gaps=[make_gap(is_judged)]))
+                ("accepted", accepted, "", True, True), ("refused", refused, "", True, True),
+                ("allowed", accepted, "--allow-lost", True, False),
+                ("outside", accepted, "", False, False)):
+            lines = self.print_lines(self.verdict(parts, *options.split(),
+                                                  gaps=[make_gap(is_judged)]))
             self.check(f"{name}: advice", [line for line in lines if "record that part" in line],
                        [advice] * is_advised)
             self.check(f"{name}: loss outside", lines[0].endswith(
@@ -158,12 +159,12 @@ class LastLines(Case):
             self.check(words, lines[-2:], [words, "! not judged: stopped at x"])
 
     def test_prints_not_judged_after_a_line_of_the_program(self) -> None:
-        for last, expected in (("accepted 5 frames 2 transmissions", ["not judged"]),
-                               ("3 faults", ["not judged"]), ("+ a command", []), ("", [])):
+        for last, is_printed in (("accepted 5 frames 2 transmissions", True), ("3 faults", True),
+                                 ("+ a command", False), ("", False)):
             recorder = LineRecorder()
             recorder.last_line = last
             print_verdict(self.verdict([], unjudged=Unjudged("why", "undecided")), recorder)
-            self.check(last, recorder.lines, [*expected, "! why"])
+            self.check(last, recorder.lines, ["not judged"] * is_printed + ["! why"])
 
 
 class OutputFilesOfPair(Case):
@@ -494,8 +495,7 @@ class Pages(Case):
             self.must(words, words in page, page)
         self.must("no timeline", "Timeline" not in page, page)
 
-    @staticmethod
-    def make_pair(name: str, verdict: str, status: int, line: str, faults: int = 0,
+    def make_pair(self, name: str, verdict: str, status: int, line: str, faults: int = 0,
                   causes: int = 0, hint: str = "") -> Row:
         return Row(name, f"{name}.stl", verdict, status, line, faults, {
             f"cause {at}": at for at in range(causes)}, [], 0.0, hint)
