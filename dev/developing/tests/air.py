@@ -39,7 +39,8 @@ FAILURE = Outcome(None, "the machine failed")
 
 class FakeChecker:
     """A checker that returns the outcome of `Checker` without judging. `sent` has the programmes on
-    air by the names of their results. If `override` returns an outcome, that is used instead."""
+    air by the names of their results. If the recording ends during a programme, its page is not
+    erased (fault 74). If `override` returns an outcome, that is used instead."""
 
     def __init__(self, sent: dict[str, SentProgramme],
                  override: Callable[[Programme], Outcome | None] = lambda _: None) -> None:

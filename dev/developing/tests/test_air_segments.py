@@ -308,10 +308,10 @@ class Recorded(AirCase):
         item = self.make_recorder(kept=10_000)
         for number, at in enumerate((0, 5, -5, -3, 3600, 3605, 20, 30)):
             self.take(item, at, b"%d" % number)
-        # When the clock is set back to 20, the segment from 3600 is deleted.
+        # The clock is set back to 20. When the next segment begins, that from 3600 is deleted.
         self.check("by the clock", self.read_segments(), [
             (0.0, b"01"), (0.001, b"23"), (20.0, b"6"), (30.0, b"7")])
-        self.check("a large step is a loss", self.are_new(), [True, False, True, False])
+        self.check("a large step back is a loss", self.are_new(), [True, False, True, False])
 
     def test_deletes_segments_that_are_too_old_without_listing_a_large_folder(self) -> None:
         item = self.make_recorder(kept=50)

@@ -112,7 +112,7 @@ class Cues(Case):
         a 100-150, a 150-200 | 100 a, 201 -               | 0       | 1
         """)
 
-    def test_the_out_cue_is_the_last_erasure_of_a_text_within_two_seconds_of_its_tco(self) -> None:
+    def test_the_out_cue_erases_the_text_shown_last_up_to_two_seconds_after_the_tco(self) -> None:
         self.check_delays("""
         subtitles            | on air                            | in-cues | out-cues
         a 100-150            | 100 a, 110 -, 120 a, 150 -        | 0       | 0

@@ -484,8 +484,11 @@ class Pages(Case):
         verdict.severity.severity_by_fault = {"not shown": "warning"}
         self.check("waived", [*report_page.list_waived(verdict)], ["not shown: b"])
 
-    def test_has_a_page_without_a_timeline_if_not_judged(self) -> None:
+    def test_has_a_page_without_a_table_of_parts_if_not_judged(self) -> None:
         paths, verdict = CommandPaths("tools/qc", self.bench.program), self.verdict()
+        row = '<td data-name="Clock">'
+        page = markup_text(report_page.make_report_page(verdict, paths))
+        self.check("parts of the judged pair", page.count(row), 3)
         verdict.unjudged = Unjudged("no clock <\nnone", "undecided", ("tools/qc a b --origin T",))
         verdict.notes, verdict.warnings = ["a note"], [Notice("kind", "strange")]
         page = markup_text(report_page.make_report_page(verdict, paths))
@@ -493,7 +496,7 @@ class Pages(Case):
                       'Type <code class="long">tools/qc a b --origin T</code>',
                       '<dt>Recording</dt><dd>one.pes</dd>', 'id="files"', "<dd>Story</dd>"):
             self.must(words, words in page, page)
-        self.must("no timeline", "Timeline" not in page, page)
+        self.check("parts", page.count(row), 0)
 
     def make_pair(self, name: str, verdict: str, status: int, line: str, faults: int = 0,
                   causes: int = 0, hint: str = "") -> Row:

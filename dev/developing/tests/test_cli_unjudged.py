@@ -313,7 +313,7 @@ class OutputsAndSignals(CallCase):
             self.check(f"--keep {is_kept}, {count} packets, {ending}",
                        [output.path for output in outputs],
                        [self.path("one.recording.pes")] * bool(is_kept and count and ending))
-        self.check("no recording", self.make_output_files().list_raw_outputs(None), [])
+        self.check("no recording", self.make_output_files(True).list_raw_outputs(None), [])
 
     def test_a_result_replaces_a_link_but_another_output_follows_it(self) -> None:
         os.symlink(self.write("theirs", b""), self.path("link"))

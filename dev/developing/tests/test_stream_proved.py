@@ -112,6 +112,7 @@ class Comparison(Case):
         self.check("end", find_end(packets), End(4, {32}))
 
     def test_recognises_items_that_were_compared(self) -> None:
+        # Number, count, PTS, ticks to the next, flags (h: a header, m: a gap marker), C bits
         runs = [PacketRun(0, 1, 5, 0, "h", ""), PacketRun(1, 2, 8, 3, "", ""),
                 PacketRun(3, 1, None, 0, "m", ""), PacketRun(4, 1, 9, 0, "", "", fault=37)]
         compared = collect_items(Packets(PID, runs), (1, 4))
