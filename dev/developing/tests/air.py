@@ -92,8 +92,10 @@ class AirCase(Case):
         super().setUp()
         for name in ("segments", "out"):
             os.mkdir(self.path(name))
-        for module, name in ((judge, "print_stdout"), (judge, "write_state"), (os, "fsync")):
+        for module, name in ((judge, "write_state"), (os, "fsync")):
             self.patch(module, name)
+        self.printed = list[str]()
+        self.patch(judge, "print_stdout", self.printed.append)
         # Most tests end before an hour was recorded after a programme.
         self.patch(judge, "MIN_RECORDED_LATER", -1e9)
 

@@ -27,29 +27,32 @@ LEAD_SECONDS, TAIL_SECONDS = 4, 6  # length of the feed before and after the pro
 ALL = LEAD_SECONDS + LASTS + TAIL_SECONDS
 MISSING_PES = slice(4, 6)  # PES packets that a wrong feed lacks
 # In seconds of a feed, which has the programme from 4 to 16 and, if it is repeated, from 26 to 38:
-# what is recorded, the scheduled air time, and the margin. Then whether the feed lacks MISSING_PES,
-# the verdict, and whether later segments can't change it.
+# what is recorded, the scheduled air time, and how much earlier or later the programme may begin.
+# Then whether the feed lacks MISSING_PES, the verdict, and whether later segments can't change it.
 AIR_CASES = """
-case                            | recorded | air | margin | feed  | verdict    | is final
-right                           | 0-22     | 0   | 60     | right | relative   | True
-wrong                           | 0-22     | 0   | 60     | wrong | refused    | True
-it has not ended                | 0-10     | 0   | 60     | right | refused    | False
-it has not begun                | 0-3      | 0   | 60     | right | not judged | False
-its beginning is missing        | 8-22     | 0   | 60     | right | not judged | False
-it begins within the margin     | 0-22     | 0   | 5      | right | relative   | True
-it is repeated after the margin | 0-44     | 0   | 5      | right | relative   | True
-it begins later                 | 0-22     | 0   | 2      | right | not judged | False
-the same, wrong                 | 0-22     | 0   | 2      | wrong | not judged | False
-it begins earlier               | 0-22     | 8   | 2      | right | not judged | False
+case                            | recorded | air | early | late | feed  | verdict    | is final
+right                           | 0-22     | 0   | 60    | 60   | right | relative   | True
+wrong                           | 0-22     | 0   | 60    | 60   | wrong | refused    | True
+it has not ended                | 0-10     | 0   | 60    | 60   | right | refused    | False
+it has not begun                | 0-3      | 0   | 60    | 60   | right | not judged | False
+its beginning is missing        | 8-22     | 0   | 60    | 60   | right | not judged | False
+it begins within the margin     | 0-22     | 0   | 5     | 5    | right | relative   | True
+it is repeated after the margin | 0-44     | 0   | 5     | 5    | right | relative   | True
+it begins later                 | 0-22     | 0   | 2     | 2    | right | not judged | False
+it may begin earlier, not later | 0-22     | 0   | 60    | 2    | right | not judged | False
+the same, wrong                 | 0-22     | 0   | 2     | 2    | wrong | not judged | False
+it begins earlier               | 0-22     | 8   | 2     | 2    | right | not judged | False
 """
 NO_BEGINNING = "the first subtitle was expected before the first recorded PES packet of the page"
 LATER = "the programme did not begin within 2 s of 2026-12-01T08:00:00Z, but later"
+LATER_THAN_2 = LATER.replace("2 s of", "60 s before and 2 s after")
 # The beginnings of the reasons
 REASONS = {
     "right": "relative", "wrong": "refused 72", "it has not ended": "refused",
     "it has not begun": "has no header of page 888", "its beginning is missing": NO_BEGINNING,
     "it begins within the margin": "relative", "it is repeated after the margin": "relative",
-    "it begins later": LATER, "the same, wrong": LATER, "it begins earlier": NO_BEGINNING}
+    "it begins later": LATER, "it may begin earlier, not later": LATER_THAN_2,
+    "the same, wrong": LATER, "it begins earlier": NO_BEGINNING}
 
 
 def sleep_and_return_7() -> int:
@@ -72,19 +75,19 @@ class Feeds(AirCase):
 
 
 class Checks(Feeds):
-    def check_frames(self, frames: list[bytes], begin: int = 0, air: int = 0, margin: int = 60,
-                     program: str = "") -> Outcome:
+    def check_frames(self, frames: list[bytes], begin: int = 0, air: int = 0, early: int = 60,
+                     late: int = 60, program: str = "") -> Outcome:
         """Judge frames that are recorded from second `begin` of a feed on. The programme may begin
-        up to `margin` seconds before and after second `air`."""
+        up to `early` seconds before and `late` seconds after second `air`."""
         self.delete_all("segments", "out")
         self.put_segment(begin, begin + len(frames) / FRAMES_A_SECOND, b"".join(frames))
         self.write_schedule("2026-12-01T08:00:00Z one.stl")
         item, = self.read_schedule().programmes
-        item = item._replace(begin=DAY + air, early=margin, late=margin)
+        item = item._replace(begin=DAY + air, early=early, late=late)
         stretch, = find_unbroken_runs(find_segments(self.path("segments"), DAY, DAY + 60), 5)
         out = self.path("out")
         checker = Checker(program or self.bench.program, "qc", out, out)
-        result = checker.check(item, stretch, item.begin + LASTS + margin)
+        result = checker.check(item, stretch, item.begin + LASTS + late)
         checker.clear()
         self.check("files that are left", os.listdir(out), [])
         return result
@@ -101,7 +104,7 @@ class Checks(Feeds):
             name, (first, last) = row["case"], map(int, row["recorded"].split("-"))
             result = self.check_frames(
                 feeds[row["feed"]][first * FRAMES_A_SECOND:last * FRAMES_A_SECOND], first,
-                int(row["air"]), int(row["margin"]))
+                int(row["air"]), int(row["early"]), int(row["late"]))
             self.check(name, (result.verdict, str(result.is_final)),
                        (row["verdict"], row["is final"]))
             _, _, reason = result.reason.rpartition("/recording.ts ")  # without the path

@@ -64,6 +64,7 @@ the feed ends in it                | 0-640           | 600-660       | not judge
 the feed begins in it              | 620-900         | 600-660       | not judged | 70
 the feed begins before it          | 590-900         | 600-660       | relative   | 10
 the feed ends after it             | 0-670           | 600-660       | relative   | 10
+all but its last second            | 600-659         | 600-660       | not judged | 70
 """
 REASONS = {
     "it begins after the margin": "it began later",
@@ -77,7 +78,10 @@ REASONS = {
     "a gap in one that begins early": "not recorded: 2026-12-01T08:09:40Z to 2026-12-01T08:09:50Z; "
                                       "of the rest: its beginning is missing",
     "a gap as soon as it ends, wrong": "not recorded: 2026-12-01T08:11:00Z to 2026-12-01T08:11:20Z;"
-                                       " of the rest: refused 74"}
+                                       " of the rest: refused 74",
+    "all but its last second": "not recorded: 2026-12-01T08:09:00Z to 2026-12-01T08:10:00Z, "
+                               "2026-12-01T08:10:59Z to 2026-12-01T08:12:00Z; of the rest: refused "
+                               "74"}
 
 # Lines of a schedule, each with its time in seconds after DAY, a subtitle file and options; and for
 # each line, how many seconds before and after its time an airing counts for it
@@ -187,6 +191,9 @@ class JudgedProgrammes(AirCase):
         checker = FakeChecker(ON_TIME, lambda _: failures.pop() if failures else None)
         self.run_judge(checker, until=3000)
         self.check("verdict after the last failure", self.verdicts(), {NAME: "relative"})
+        self.check("printed after the date", [line.partition("  ")[2] for line in self.printed], [
+            f"{NAME}: will be tried again: the machine failed",
+            f"{NAME}  relative: relative 1500 frames"])
 
     def test_reports_a_system_failure_once_the_segments_are_deleted(self) -> None:
         judge = self.run_judge(FakeChecker(NEVER_SENT, lambda _: FAILURE), until=1500)
@@ -215,6 +222,12 @@ class JudgedProgrammes(AirCase):
         for now, late in ((last + MARGIN_SECONDS - 5, []), (last + MARGIN_SECONDS + 5, [NAME])):
             judge.look(DAY + now)
             self.check(f"late at {now}", judge.monitor.late, late)
+
+    def test_expects_headers_of_a_page_from_the_latest_begin_to_the_end_of_the_window(self) -> None:
+        judge, begin = self.make_judge(FakeChecker(NEVER_SENT)), BEGIN + MARGIN_SECONDS
+        for now, pages in ((begin - 1, []), (begin, [PAGE]), (LAST - 1, [PAGE]), (LAST, [])):
+            judge.look(DAY + now)
+            self.check(f"pages on air at {now}", [*judge.monitor.pages_on_air], pages)
 
     def test_judges_a_programme_once_its_missing_file_is_there(self) -> None:
         os.rename(self.path("one.stl"), self.path("later.stl"))
@@ -516,8 +529,10 @@ class JudgedProgrammes(AirCase):
             return open_result(path, is_stored)
 
         with mock.patch.object(judging, "open_result", write):
-            self.run_judge(checker, until=700)
+            judge = self.run_judge(checker, until=700)
         self.check("endings, is_stored", written, [".html True", ".txt True", ".json True"])
+        judge.publish(NAME, give_up(NAME, judged))
+        self.check("result if it is given up", self.verdicts(), {NAME: "not judged"})
 
     def test_calls_the_command_once_for_each_result(self) -> None:
         command = self.write_program(
@@ -629,18 +644,19 @@ class State(AirCase):
 
     def test_reports_the_number_and_times_of_segments(self) -> None:
         self.put_segments(0, 50)
-        monitor = self.look(60)
-        self.check("segments", (monitor.segments, monitor.last_byte, monitor.oldest),
-                   (5, DAY + 50, DAY))
+        state = self.look(60).make_contents()
+        self.check("segments", [state[name] for name in ("segments", "last_byte", "oldest")],
+                   [5, "2026-12-01T08:00:50Z", "2026-12-01T08:00:00Z"])
 
     def test_reports_no_segments_and_no_room_without_a_folder(self) -> None:
         monitor = self.look(60, segments="nothing")
         self.check("segments", (monitor.segments, monitor.free["segments"]), (0, 0))
 
     def test_reports_the_last_headers_of_pages_in_recent_segments(self) -> None:
-        self.put_segment(0, 10, read_example_file("recording.ts"))  # with page 888, without 889
+        for begin in (0, 10):
+            self.put_segment(begin, begin + 10, read_example_file("recording.ts"))  # without 889
         monitor = Monitor()
-        for now, header in ((5000, 0.0), (100, DAY + 10)):  # the clock is set back
+        for now, header in ((5000, 0.0), (100, DAY + 20)):  # the clock is set back
             self.look(now, monitor, pages=[PAGE, OTHER_PAGE])
             self.check(f"headers, {now}", monitor.headers, {PAGE: header, OTHER_PAGE: 0.0})
 

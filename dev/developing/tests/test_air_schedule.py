@@ -119,6 +119,11 @@ class Lines(AirCase):
                 f"line {number} is not judged: its result would be named 20261201T080000Z-a, as "
                 "that of line 2" for number, _ in enumerate(frames[1:], 3)])
 
+    def test_finds_the_profile_of_a_line_in_the_folder_of_the_schedule(self) -> None:
+        self.write("profile", b"--within 3")
+        self.write_schedule("2026-12-01T08:00:00Z a.stl --profile profile")
+        self.check("within", self.read_schedule().programmes[0].request.within, 3)
+
     def test_does_not_read_an_unchanged_schedule_again(self) -> None:
         self.write_schedule("2026-12-01T08:00:00Z a.stl")
         first = self.read_schedule()

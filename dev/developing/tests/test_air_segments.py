@@ -55,6 +55,7 @@ JOINT_CASES = """
 case                                | feed           | end   | begin | segments         | runs
 it goes on                          | without PCR    | 900.5 | 900.5 | 0-10 10-20       | 0-20
 the recorder stalled                | complete       | 900.5 | 900.5 | 0-10 18-20       | 0-20
+the same, and no PCR shows it       | without PCR    | 900.5 | 900.5 | 0-10 18-20       | 0-10 18-20
 the clock was set forward           | complete       | 900.5 | 900.5 | 0-10 75-85       | 0-10 75-85
 it started again, and lost nothing  | complete       | 900.5 | 900.5 | 0-10 !11-20      | 0-20
 it started again, and lost a packet | complete       | 900   | 901   | 0-10 !11-20      | 0-10 11-20
@@ -246,7 +247,7 @@ class Recorded(AirCase):
         for name, does in (("time", lambda: self.now), ("sleep", self.wait),
                            ("monotonic", lambda: self.now)):
             self.patch(time, name, does)
-        self.patch(recorder, "print_stderr")
+        self.patch(recorder, "print_stderr", self.printed.append)
 
     def wait(self, seconds: float) -> None:
         self.now += seconds
@@ -312,6 +313,7 @@ class Recorded(AirCase):
         self.check("by the clock", self.read_segments(), [
             (0.0, b"01"), (0.001, b"23"), (20.0, b"6"), (30.0, b"7")])
         self.check("a large step back is a loss", self.are_new(), [True, False, True, False])
+        self.check("message", self.printed, ["the clock was set back by 3580 seconds"])
 
     def test_deletes_segments_that_are_too_old_without_listing_a_large_folder(self) -> None:
         item = self.make_recorder(kept=50)
@@ -356,11 +358,13 @@ class Recorded(AirCase):
                 item.take(b"abcd")
                 self.check("the oldest made room", self.read_segments(), [(0.0, b"abcd")])
                 self.check("no note", self.has_note(), False)
-                for size, data in ((0, b"lost"), (99, b"more")):
+                for size, data in ((5, b"lost"), (99, b"more")):
                     room[0] = size
                     item.take(data)
                     self.check(f"note, {size} bytes", self.has_note(), True)
-            self.check("what was written stays", self.read_segments()[0], (0.0, b"abcd"))
+            self.check("what was written stays", self.read_segments()[0], (0.0, b"abcdl"))
+            self.must("message", self.printed[-1].endswith(" has no room: 3 bytes are lost"),
+                      self.printed)
             self.check("what came later", self.read_segments()[-1][1], b"more")
             self.check("the last one is new", self.are_new()[-1], True)
 

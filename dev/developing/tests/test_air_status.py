@@ -44,20 +44,23 @@ class Status(Case):
             state: dict[str, object] = {**STATE, "date": date(time.time()), **changes}
             self.write("state.json", json.dumps(state).encode())
             self.check(name, self.tool("air", "status", self.folder).status, status)
+            process = self.tool("air", "status", self.folder, self.path("no state"))
+            self.check(f"{name}, and another folder has no state", process.status,
+                       CRITICAL if status == CRITICAL else UNKNOWN)
 
     def test_a_watched_folder_has_no_metrics_of_a_feed(self) -> None:
         """The state of `qc --watch` is from 1970, with 5 free bytes and a refused film."""
-        state = State()
-        state.look_at_folders(0.0, results=self.folder)
+        feed, state = 'the "news"', State()
+        os.mkdir(self.path(feed))
+        state.look_at_folders(0.0, results=self.path(feed))
         state.free, state.waiting = {"results": 5}, 2
-        state.add_result("film", "refused", "refused: 72 RowMissing")
-        write_state(self.folder, state.make_contents())
-        process = self.tool("air", "status", self.folder, "--metrics", self.path("metrics"))
-        feed = os.path.basename(self.folder)
+        state.add_result("film", "refused", "refused: 72 | RowMissing")
+        write_state(self.path(feed), state.make_contents())
+        process = self.tool("air", "status", self.path(feed), "--metrics", self.path("metrics"))
         self.check("line", re.sub("[0-9]{9,}", "AGE", process.out.decode()),
                    f"SUBTTX CRITICAL: {feed}: no news for AGE s, disk; last result: film: refused: "
-                   "72 RowMissing|age=AGEs waiting=2 late=0 free_results=5B\n")
-        lines = self.read("metrics").decode().replace(f'feed="{feed}"', "").splitlines()
+                   "72 / RowMissing|age=AGEs waiting=2 late=0 free_results=5B\n")
+        lines = self.read("metrics").decode().replace(r'feed="the \"news\""', "").splitlines()
         self.check("metrics", [line for line in lines if not line.startswith("# ")], [
             'subttx_air_alarm{,alarm="disk"} 1',
             'subttx_air_alarm{,alarm="bug"} 0', 'subttx_air_free_bytes{,folder="results"} 5',
