@@ -1,18 +1,19 @@
 """Test that correct recordings are accepted even if their delays or intervals are unusual.
 
-The recordings have eleven kinds of delays, fourteen kinds of intervals between PES packets, breaks,
+The recordings have eleven kinds of delays, sixteen kinds of intervals between PES packets, breaks,
 several programmes, or repeats. `BOUNDS` limits how many recordings of each kind may be refused or
 not judged. The tests judge every eighth recording of a kind; with --speed, they judge all.
 """
 from __future__ import annotations
 
 import collections
+import itertools
 import random
 from functools import partial
-from typing import Callable, Iterator, List, NamedTuple, Sequence, Tuple
+from typing import Any, Callable, Iterator, NamedTuple, Sequence
 
 from developing.pes import make_pes_packet
-from subtitles.common.times import TICKS, format_frame
+from subtitles.common.times import FRAMES_OF_A_DAY, TICKS, format_frame
 from .bench import Case
 from .judged import JudgedPair, judge_files
 from .streams import (
@@ -41,8 +42,8 @@ class Bound(NamedTuple):
 # Limits for each kind of recording. The refused recordings can't be distinguished from faulty
 # recordings: see `IndistinguishableFaults`.
 BOUNDS = {
-    INSERTERS: Bound(66, 2, 12), ONE_A_FRAME: Bound(30, 7, 0),
-    TWO_A_FRAME: Bound(28, 6, 0), BREAKS: Bound(9, 0, 5), PROGRAMMES: Bound(8, 0, 2),
+    INSERTERS: Bound(66, 2, 12), ONE_A_FRAME: Bound(32, 6, 0),
+    TWO_A_FRAME: Bound(32, 6, 0), BREAKS: Bound(9, 0, 5), PROGRAMMES: Bound(8, 0, 2),
     AIRINGS: Bound(11, 0, 0)}
 
 
@@ -98,67 +99,44 @@ def list_inserters() -> Iterator[Recording]:
     """Yield three recordings of each inserter, with different lengths. They have no clock."""
     for kind, (begins, ends) in SHARES.items():
         within = max([1, *begins, *ends])
-        for count in (12, 24, 80):
-            for is_adjoining in (False, True):
-                yield Recording(INSERTERS, f"{kind} {count} {is_adjoining}", partial(
-                    write_late_cues, kind=kind, count=count, is_adjoining=is_adjoining),
-                                ["--within", f"{within}", *EVERY])
+        for count, is_adjoining in itertools.product((12, 24, 80), (False, True)):
+            yield Recording(INSERTERS, f"{kind} {count} {is_adjoining}", partial(
+                write_late_cues, kind=kind, count=count, is_adjoining=is_adjoining),
+                            ["--within", f"{within}", *EVERY])
 
 
-FrameChoice = Callable[[random.Random, int], List[int]]  # selects some of so many frames
+def leave_out(one_in: int) -> Callable[[random.Random, int], int]:
+    """Return a function for `PES_STEPS` that leaves out random frames, one in `one_in`."""
+    return lambda chance, at: next(step for step in itertools.count(1) if chance.randrange(one_in))
 
 
-def list_all_except(left_out: Callable[[int], bool]) -> FrameChoice:
-    return lambda chance, frames: [at for at in range(frames) if not left_out(at)]
-
-
-def choose_share(one_in: int) -> FrameChoice:
-    """Return a function that selects random frames, and leaves out one in `one_in`."""
-    return lambda chance, frames: [at for at in range(frames) if chance.randrange(one_in)]
-
-
-def steps(step: Callable[[random.Random], int]) -> FrameChoice:
-    """Return a function that selects frames at intervals that `step` returns."""
-    def select(chance: random.Random, frames: int) -> list[int]:
-        at, result = 0, list[int]()
-        while at < frames:
-            result.append(at)
-            at += step(chance)
-        return result
-
-    return select
-
-
-# The frames in which PES packets are sent, besides those of the pages
-PES_FRAMES: dict[str, FrameChoice] = {
-    "each": list_all_except(lambda at: False),
-    "one silence": list_all_except(lambda at: 500 <= at < 512),
-    "two silences": list_all_except(lambda at: at % 500 < 12 and at // 500 in (1, 2)),
-    "three silences": list_all_except(lambda at: at % 250 < 12 and at // 250 in (1, 2, 3)),
-    "1 in 500 left out": choose_share(500), "1 in 200 left out": choose_share(200),
-    "1 in 100 left out": choose_share(100), "1 in 20 left out": choose_share(20),
-    "geometric": steps(lambda chance: 1 + (chance.randrange(2) and int(chance.expovariate(0.7)))),
-    "slow": steps(lambda chance: 1 + int(chance.expovariate(0.15))),
-    "normal": steps(lambda chance: max(1, round(chance.gauss(3, 2)))),
-    "bursts": steps(lambda chance: chance.choice((1, 1, 1, 8))),
-    "wall clock": steps(lambda chance: chance.choices((1, 2), (9, 1))[0]),
-    "beside filler": list_all_except(lambda at: at % 6 == 5)}
+# Functions that return, for each frame after the first TCI in which a PES packet is sent besides
+# those of the pages, the number of frames to the next
+PES_STEPS: dict[str, Callable[[random.Random, int], int]] = {
+    "each": lambda chance, at: 1, "each third": lambda chance, at: 3,
+    "alone": lambda chance, at: FRAMES_OF_A_DAY,
+    "one silence": lambda chance, at: 13 if at == 499 else 1,
+    "two silences": lambda chance, at: 13 if at in (499, 999) else 1,
+    "three silences": lambda chance, at: 13 if at in (249, 499, 749) else 1,
+    **{f"1 in {one_in} left out": leave_out(one_in) for one_in in (500, 200, 100, 20)},
+    "geometric": lambda chance, at: 1 + (chance.randrange(2) and int(chance.expovariate(0.7))),
+    "slow": lambda chance, at: 1 + int(chance.expovariate(0.15)),
+    "normal": lambda chance, at: max(1, round(chance.gauss(3, 2))),
+    "bursts": lambda chance, at: chance.choice((1, 1, 1, 8)),
+    "wall clock": lambda chance, at: chance.choices((1, 2), (9, 1))[0],
+    "beside filler": lambda chance, at: 2 if at % 6 == 4 else 1}
 
 
 def make_paced_programme(case: Case, name: str, count: int, each: int) -> tuple[str, SentPes]:
-    """Return a subtitle file and its transmission.
-
-    `each` PES packets are sent in each frame that has a page or that `PES_FRAMES[name]` selects:
-    with the name `each third`, every third frame, and with `alone`, none.
-    """
+    """Return a subtitle file and its transmission, with `each` PES packets in each frame that has a
+    page or that `PES_STEPS[name]` selects."""
     chance, times = random.Random(f"{name} {count}"), list_even_times(count)
     stl = write_programme(case, times)
     known = dict(schedule_pages(case, stl))
-    frames = {pts // TICKS for pts in known}
-    if name in PES_FRAMES:
-        frames |= {FIRST_TCI + at for at in PES_FRAMES[name](chance, times[-1][1] - FIRST_TCI)}
-    elif name == "each third":
-        frames |= {*range(FIRST_TCI, times[-1][1], 3)}
+    frame, frames = FIRST_TCI, {pts // TICKS for pts in known}
+    while frame < times[-1][1]:
+        frames.add(frame)
+        frame += PES_STEPS[name](chance, frame - FIRST_TCI)
     return stl, [(frame * TICKS + TICKS // each * at,
                   known.get(frame * TICKS, []) if not at else [])
                  for frame in sorted(frames) for at in range(each)]
@@ -171,14 +149,11 @@ def write_paced_stream(case: Case, name: str, count: int, each: int) -> tuple[st
 
 
 def paces() -> Iterator[Recording]:
-    for kind, each, names, args in (
-            (ONE_A_FRAME, 1, [*PES_FRAMES, "alone"], EVERY),
-            (TWO_A_FRAME, 2, [*PES_FRAMES], (*EVERY, "--within", "1"))):
-        for name in names:
-            for count in (12, 30):
-                label = "each third" if name == "alone" and count == 30 else name
-                yield Recording(kind, f"{label} {count}", partial(
-                    write_paced_stream, name=label, count=count, each=each), args)
+    for kind, each, args in ((ONE_A_FRAME, 1, EVERY),
+                             (TWO_A_FRAME, 2, (*EVERY, "--within", "1"))):
+        for name, count in itertools.product(PES_STEPS, (12, 30)):
+            yield Recording(kind, f"{name} {count}", partial(
+                write_paced_stream, name=name, count=count, each=each), args)
 
 
 class Service(NamedTuple):
@@ -199,24 +174,21 @@ def make_service_tables(services: Sequence[Service]) -> list[tuple[int, bytes]]:
     return result
 
 
-Plan = Callable[[int], List[Tuple[int, Sequence[Service]]]]
 OWN_SERVICE = Service(1, [(TELETEXT_PID, 2, 0x88)])
 
 
-def make_service_stream(sent: SentPes,
-                        plan: Sequence[tuple[int, Sequence[Service]]] = ((0, (OWN_SERVICE,)),),
-                        beside: Sequence[int] = ()) -> bytes:
+def make_service_stream(sent: SentPes, services: Sequence[Service] = (OWN_SERVICE,),
+                        last: Sequence[Service] = (), beside: Sequence[int] = ()) -> bytes:
     """Return a transport stream with a PCR before each PES packet.
 
-    `plan` contains indexes of PES packets, each with the programmes that are announced from this
-    PES packet on. Each PID in `beside` carries PES packets without Teletext.
+    The programmes `services` are announced before the first PES packet, and `last`, if any, before
+    the last. Each PID in `beside` carries PES packets without Teletext.
     """
     maker = StreamMaker([])
     for number, (pts, some) in enumerate(sent):
-        for begin, services in plan:
-            if begin == number:
-                maker.tables = make_service_tables(services)
-                maker.put_tables()
+        if announced := {0: services, len(sent) - 1: last}.get(number):
+            maker.tables = make_service_tables(announced)
+            maker.put_tables()
         maker.put_pcr(pts - PTS_AHEAD)
         maker.put(TELETEXT_PID, make_pes_packet(pts, some))
         for pid in beside:
@@ -224,10 +196,10 @@ def make_service_stream(sent: SentPes,
     return maker.data
 
 
-def write_services(case: Case, plan: Plan, beside: Sequence[int]) -> tuple[str, str]:
+def write_services(case: Case, **more: Any) -> tuple[str, str]:
+    """Write a programme, and its transport stream with these arguments of `make_service_stream`."""
     stl = write_programme(case, list_even_times(12))
-    sent = schedule_pages(case, stl)
-    return stl, case.write("some.ts", make_service_stream(sent, plan(len(sent)), beside))
+    return stl, case.write("some.ts", make_service_stream(schedule_pages(case, stl), **more))
 
 
 def list_services() -> Iterator[Recording]:
@@ -237,19 +209,17 @@ def list_services() -> Iterator[Recording]:
     twice = Service(1, [(TELETEXT_PID, 2, 0x88), (SILENT_PID, 5, 0x88)])
     same = Service(2, [(TELETEXT_PID, 2, 0x88)])
     moved = Service(1, [(OTHER_PID, 2, 0x88)])
-    # The programmes that are announced, each from a PES packet on (`end`: their number), and PIDs
-    # that carry PES packets without Teletext
-    plans: dict[str, tuple[Plan, list[int]]] = {
-        "alone": (lambda end: [(0, (OWN_SERVICE,))], []),
-        "another page": (lambda end: [(0, (OWN_SERVICE, other_page))], [SILENT_PID]),
-        "silent service": (lambda end: [(0, (OWN_SERVICE, silent))], [SILENT_PID]),
-        "silent service without packets": (lambda end: [(0, (OWN_SERVICE, silent))], []),
-        "two announce one PID": (lambda end: [(0, (OWN_SERVICE, same))], []),
-        "of two types": (lambda end: [(0, (twice,))], [SILENT_PID]),
-        "another PID behind": (lambda end: [(0, (OWN_SERVICE,)), (end - 1, (moved,))], []),
-        "not announced": (lambda end: [(0, (Service(1, []),))], [])}
-    for name, (plan, beside) in plans.items():
-        yield Recording(PROGRAMMES, name, partial(write_services, plan=plan, beside=beside))
+    for name, services, last, beside in (
+            ("alone", [OWN_SERVICE], [], []),
+            ("another page", [OWN_SERVICE, other_page], [], [SILENT_PID]),
+            ("silent service", [OWN_SERVICE, silent], [], [SILENT_PID]),
+            ("silent service without packets", [OWN_SERVICE, silent], [], []),
+            ("two announce one PID", [OWN_SERVICE, same], [], []),
+            ("of two types", [twice], [], [SILENT_PID]),
+            ("another PID behind", [OWN_SERVICE], [moved], []),
+            ("not announced", [Service(1, [])], [], [])):
+        yield Recording(PROGRAMMES, name, partial(write_services, services=services, last=last,
+                                                  beside=beside))
 
 
 def write_breaks(case: Case, lengths: Sequence[int]) -> tuple[str, str]:
@@ -311,10 +281,9 @@ def airings() -> Iterator[Recording]:
     """Yield recordings with repeated subtitles, another programme, or a break."""
     for count in (0, 3, 6):
         yield Recording(AIRINGS, f"tail {count}", partial(write_tail, count=count), EVERY[:2])
-    for count in (5, 8, 12):
-        for is_before in (False, True):
-            yield Recording(AIRINGS, f"quick {count} {is_before}",
-                            partial(write_short_subtitles, count=count, is_before=is_before))
+    for count, is_before in itertools.product((5, 8, 12), (False, True)):
+        yield Recording(AIRINGS, f"quick {count} {is_before}",
+                        partial(write_short_subtitles, count=count, is_before=is_before))
     for count in (8, 12):
         yield Recording(AIRINGS, f"cut {count}", partial(write_cut, count=count), [
             *EVERY, "--to", format_frame(FIRST_TCI + DISTANCE * count)])
@@ -344,11 +313,11 @@ class CorrectRecordings(Case):
 
 class IndistinguishableFaults(Case):
     def test_a_stream_with_silence_equals_one_that_lost_pes_packets(self) -> None:
-        for each, names in ((1, [*SILENT, "1 in 20 left out"]), (2, SILENT)):
-            for name in names:
-                _, sent = make_paced_programme(self, name, 12, each)
-                self.check(f"{name}, {each} a frame",
-                           make_stream_with_losses(sent, each) == make_service_stream(sent), True)
+        for each, name in itertools.product(
+                (1, 2), ("one silence", "two silences", "three silences")):
+            _, sent = make_paced_programme(self, name, 12, each)
+            self.check(f"{name}, {each} a frame",
+                       make_stream_with_losses(sent, each) == make_service_stream(sent), True)
 
     def test_rare_cues_on_time_look_like_early_subtitles(self) -> None:
         # An inserter that sends one cue in twenty on time, and all others a frame late, is accepted
@@ -361,29 +330,19 @@ class IndistinguishableFaults(Case):
                     for origin in ("0", f"{TICKS}")], ["accepted", "refused"])
 
 
-SILENT = ("one silence", "two silences", "three silences")
-MAX_TS_PACKETS = 9  # maximum size of a PES packet in TS packets
-
-
 def make_stream_with_losses(sent: SentPes, each: int) -> bytes:
-    """Return a stream that has lost all PES packets not in `sent`.
-
-    Before the loss, the stream had `each` PES packets in every frame.
-    """
+    """Return a stream with `each` PES packets in every frame that has lost all PES packets not in
+    `sent`. They had a multiple of 16 TS packets, so that the continuity counters do not show it."""
     maker = StreamMaker([])
     maker.tables = make_service_tables((OWN_SERVICE,))
     for number, (pts, some) in enumerate(sent):
         before = len(maker.packets)
         missing = (pts - sent[number - 1][0]) * each // TICKS - 1 if number else 0
-        if missing >= 2 * each:
-            sizes = [1] * missing
-            while sum(sizes) % 16:
-                sizes[sizes.index(min(sizes))] += 1
-            assert max(sizes) <= MAX_TS_PACKETS
-            for at, size in enumerate(sizes, 1):
-                maker.put(TELETEXT_PID, enlarge_pes_packets(make_pes_packet(
-                    pts - TICKS // each * at, WRONG * (at == 1)), size))
-            del maker.packets[before:]
+        for at in range(missing, 0, -1):
+            size = 1 + -missing % 16 if at == 1 else 1  # in TS packets
+            maker.put(TELETEXT_PID, enlarge_pes_packets(make_pes_packet(
+                pts - TICKS // each * at, WRONG * (at == 1)), size))
+        del maker.packets[before:]
         if not number:
             maker.put_tables()
         maker.put_pcr(pts - PTS_AHEAD)
