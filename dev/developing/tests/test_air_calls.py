@@ -116,6 +116,11 @@ class Checks(Feeds):
             self.must(f"{is_wrong}", result and "begun within 60 s of 2026-12-01T08:00:00Z" in
                       result["notes"], result)
 
+    def test_the_reason_of_a_refused_programme_is_its_worst_fault(self) -> None:
+        result = {"reason": None, "worst_fault": "refused 72", "line": "refused 67"}
+        with mock.patch.object(check, "read_call_result", return_value=result):
+            self.check("reason", self.check_frames(self.make_feed()).reason, "refused 72")
+
     def test_a_killed_program_gives_no_result(self) -> None:
         program = self.make_program_with_exception("check*", "kill -9 $$")
         outcome = self.check_frames(self.make_feed(), program=program)

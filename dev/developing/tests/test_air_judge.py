@@ -529,10 +529,8 @@ class JudgedProgrammes(AirCase):
             return open_result(path, is_stored)
 
         with mock.patch.object(judging, "open_result", write):
-            judge = self.run_judge(checker, until=700)
+            self.run_judge(checker, until=700)
         self.check("endings, is_stored", written, [".html True", ".txt True", ".json True"])
-        judge.publish(NAME, give_up(NAME, judged))
-        self.check("result if it is given up", self.verdicts(), {NAME: "not judged"})
 
     def test_calls_the_command_once_for_each_result(self) -> None:
         command = self.write_program(

@@ -52,8 +52,10 @@ class Status(Case):
         """The state of `qc --watch` is from 1970, with 5 free bytes and a refused film."""
         feed, state = 'the "news"', State()
         os.mkdir(self.path(feed))
-        state.look_at_folders(0.0, results=self.path(feed))
-        state.free, state.waiting = {"results": 5}, 2
+        blocks = mock.Mock(f_bavail=1, f_bfree=9, f_frsize=5)  # only root may fill all free blocks
+        with mock.patch.object(os, "statvfs", return_value=blocks):
+            state.look_at_folders(0.0, results=self.path(feed))
+        state.waiting = 2
         state.add_result("film", "refused", "refused: 72 | RowMissing")
         write_state(self.path(feed), state.make_contents())
         process = self.tool("air", "status", self.path(feed), "--metrics", self.path("metrics"))
