@@ -10,9 +10,12 @@ columns that are compared.
 """
 from __future__ import annotations
 
+import csv
+import os
 import re
 from typing import Callable, Iterator, Mapping, Match
 
+from developing import DEV
 from developing.pes import GAP_MARKER, make_pes_packet
 from subtitles.common.times import CLOCK, TICKS
 from .judged import JudgedPair, ProgrammeCase, judge_files
@@ -28,6 +31,13 @@ def read_table(text: str) -> Iterator[Story]:
     for row in rows:
         assert len(row) == len(names), row
         yield dict(zip(names, row))
+
+
+def read_vectors(name: str) -> Iterator[Story]:
+    """Yield the rows of a file in dev/vectors. Its first line without # names the columns."""
+    with open(os.path.join(DEV, "vectors", name), encoding="utf-8", newline="") as file:
+        yield from csv.DictReader((line for line in file if line[0] != "#"), delimiter="\t",
+                                  quoting=csv.QUOTE_NONE)
 
 
 def first_tick(number: str) -> int:

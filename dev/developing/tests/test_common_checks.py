@@ -7,7 +7,8 @@ from typing import Sequence
 
 from subtitles.common.checks import (
     CHECK_KINDS, CHECKS, CLOCK, CheckState, FAILED, HOLE, JUMP, KINDS, LISTED, LOSSES, MADE,
-    NO_VIDEO, OPTION, PHRASES, UNREAD, decide_check, describe_kinds, parse_required_kinds)
+    NO_VIDEO, OPTION, PHRASES, UNREAD, decide_check, describe_kinds, find_missing_kinds,
+    parse_required_kinds)
 from subtitles.judging.sentence import Facts, write_sentence
 from subtitles.judging.status import ACCEPTED, NOT_JUDGED, REFUSED, RELATIVE
 from subtitles.judging.unchecked import MISSING_TEXTS, Unchecked, list_check_entries
@@ -76,6 +77,10 @@ class Checks(Case):
         for text in ("", "row_0", "clock,", "video"):
             with self.assertRaises(argparse.ArgumentTypeError, msg=text):
                 parse_required_kinds(text)
+
+    def test_names_all_required_checks_that_were_not_made(self) -> None:
+        self.check("kinds", find_missing_kinds((CLOCK, LOSSES, NO_VIDEO),
+                                               (OPTION, NO_VIDEO, CLOCK)), [NO_VIDEO, CLOCK])
 
 
 class RequiredChecks(ProgrammeCase):

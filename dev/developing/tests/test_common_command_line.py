@@ -14,15 +14,14 @@ import subprocess
 import sys
 import time
 from types import SimpleNamespace
-from typing import Any, Callable
+from typing import Any
 from unittest import mock
 
 from subtitles.common import command_line
 from subtitles.common.command_line import Stop
 from subtitles.common.files import (
     BUFFER_SIZE, BackgroundChecksum, File, Input, Inputs, SummedFile, add_name_to_errors,
-    is_replaced, is_utf_8, make_safe_name, make_temporary_folder, open_output, open_result,
-    read_bounded_bytes, read_first_bytes)
+    is_replaced, make_safe_name, make_temporary_folder, open_output, open_result, read_first_bytes)
 from subtitles.common.markup import join_markup, markup
 from subtitles.common.program import find_built_program, sources
 from subtitles.formats import listing
@@ -30,62 +29,28 @@ from subtitles.request.lines import (
     MAX_BYTES, MAX_LINES, MAX_LINE_CHARACTERS, MAX_WORDS, MAX_LINE_WORDS, split_lines,
     read_list, split_arguments)
 from .bench import Case
+from .stories import read_vectors
 from .test_dev_layers import TOOLS, modules
 from .test_formats_files import refusal
 
 
 class CommandLine(Case):
     def test_accepts_the_limits_of_each_option(self) -> None:
-        none: Any = None
-        many = "9" * 5000
-        # Texts, and their values, or `none` if they are refused
-        of_words: list[tuple[Callable[[str], object], dict[str, object]]] = [
-            (command_line.parse_page, {"888": (0, 0x88), "8FF": none, "": none, "8GG": none,
-                "1aA": (1, 0xAA), "988": none, "8 8": none}),
-            (command_line.parse_time, {"00:00:00:00": 0, "23:59:59:24": 2_159_999,
-                "24:00:00:00": none}),
-            (command_line.parse_origin, {"0": 0, "8589934591": 8_589_934_591, "8589934592": none,
-                "-1": none, "000": 0, "0007": 7, "": none, "\u0661": none, many: none,
-                "00000000000000": 0, "0x1": none}),
-            (command_line.parse_packet_range, {"0-0": (0, 0), "0-99": (0, 99), "1-0": none,
-                "5": none, "-": none, "999999999999-999999999999": (999_999_999_999,) * 2,
-                "1-1000000000000": none, "1-2-3": none, "\u0661-\u0662": none}),
-            (command_line.parse_repeat_interval, {"1": 1, "2160000": 2_160_000, "0": none,
-                "2160001": none, "0001": 1, "": none, "01500": 1500, "-5": none, many: none,
-                "\u0661": none, "00": none}),
-            (command_line.parse_within, {"0": 0, "50": 50, "51": none, "00": 0, "050": 50,
-                "": none, "-1": none, many: none, "\u0661": none}),
-            (command_line.parse_break_count, {"0": 0, "999": 999, "1000": none, "-1": none,
-                "": none, "\u0661": none}),
-            (command_line.validate_start_time, {"tcp": "tcp", "10:00:00:00": "10:00:00:00",
-                "TCP": none, "24:00:00:00": none}),
-            (command_line.parse_pid, {"0": 0, "8190": 8190, "0x1FFE": 8190, "8191": none,
-                "-1": none, "0x101": 257, "x": none, "": none})]
-        for call, texts in of_words:
-            for text, expected in texts.items():
+        """The rows of dev/vectors/arguments.tsv. Numbers of 5,000 digits are refused too."""
+        for row in read_vectors("arguments.tsv"):
+            function = getattr(command_line, row["function"])
+            for text, expected in ((row["text"], row["value"]), ("9" * 5000, "refused")):
                 try:
-                    result = call(text)
+                    result = repr(function(text))
                 except argparse.ArgumentTypeError:
-                    result = None
-                self.assertEqual(result, expected, f"{call.__name__} {text[:20]}")
+                    result = "refused"
+                self.check(f"{row['function']} {text[:20]}", result, expected)
 
     def test_gives_the_program_a_pid_and_a_packet_size_other_than_188(self) -> None:
         for pid, size, expected in ((None, 188, []), (None, 204, []),
                                     (0x101, 188, ["--pid", "0x101"]),
                                     (0, 192, ["--pid", "0x0", "--packet-size", "192"])):
             self.assertEqual(command_line.make_stream_options(pid, size), expected, (pid, size))
-
-    def test_formats_counts_and_ranges_of_frames(self) -> None:
-        self.assertEqual([command_line.counted(item, "fault") for item in (0, 1, 2)],
-                         ["0 faults", "1 fault", "2 faults"])
-        self.assertEqual([command_line.format_frame_range(*item)
-                          for item in ((0, 0), (1, 1), (0, 1), (0, 2))],
-                         ["0 frames", "1 frame", "0 to 1 frame", "0 to 2 frames"])
-
-    def test_page_888_is_the_default_of_pes2ts(self) -> None:
-        parser = command_line.ToolParser("")
-        command_line.add_page(parser)
-        self.assertEqual(vars(parser.parse_args([])), {"page": (0, 0x88)})
 
     def test_escapes_control_characters_of_terminals(self) -> None:
         for text, expected in (("\x1f ~\x7f", "\\x1f ~\\x7f"),
@@ -94,6 +59,7 @@ class CommandLine(Case):
                                ("\u200d\u200e\u200f\u2010", "\u200d\\u200e\\u200f\u2010"),
                                ("\u2027\u2028\u202e\u202f", "\u2027\\u2028\\u202e\u202f"),
                                ("\u2065\u2066\u2069\u206a", "\u2065\\u2066\\u2069\u206a"),
+                               ("\ufffd\ufffe\uffff", "\ufffd\\ufffe\\uffff"),
                                ("\udc80\udcff", "\\x80\\xff"), ("\udc7f\ud800", "\\udc7f\\ud800"),
                                ("a\nb\0", "a\\x0ab\\x00")):
             self.assertEqual(command_line.escape_hidden(text), expected, text)
@@ -140,10 +106,6 @@ class CommandLine(Case):
             self.assertEqual(command_line.run_main(lambda words: 0, []), 2)
         self.assertIn(": standard output is closed\n", errors.getvalue())
 
-    def test_names_with_surrogates_are_not_utf_8(self) -> None:
-        self.assertEqual([is_utf_8(name) for name in ("", "a", "\u00e9", "\udce9")],
-                         [True, True, True, False])
-
     def test_names_a_file_as_it_was_given(self) -> None:
         with self.assertRaises(OSError) as reported, add_name_to_errors("typed"):
             raise OSError(2, "No such file", "one", None, "two")
@@ -158,23 +120,18 @@ class CommandLine(Case):
             source.file = pipe
             self.assertEqual((source.read(5), select.call_count), (b"some", 2))
 
-    def test_returns_the_exit_status_of_a_call(self) -> None:
-        with mock.patch("sys.argv", ["tool", "word"]):
-            for code, status in ((3, 3), (None, 0), (0, 0)):
-                self.assertEqual(command_line.call_main(lambda line: sys.exit(code), []), status,
-                                 code)
-            self.assertEqual(command_line.call_main(len, ["one"]), 1, "the value returned")
-
     def test_refuses_special_files_without_waiting(self) -> None:
         os.mkdir(self.path("folder"))
         os.mkfifo(self.path("pipe"))
         self.make_socket("socket")
-        for name, kind in (("folder", "a folder"), ("pipe", "a pipe"), ("socket", "a socket"),
-                           ("/dev/zero", "a device")):
-            for may_be_pipe in (False, True)[:1 + (name != "pipe")]:
-                message = refusal(lambda: read_first_bytes(self.path(name), 5, may_be_pipe))
-                self.must(f"{name} {may_be_pipe}",
-                          message.startswith(f"{self.path(name)} is {kind}"), message)
+        for name, may_be_pipe, kind in (
+                ("folder", False, "a folder"), ("folder", True, "a folder"),
+                ("pipe", False, "a pipe: give a file"),
+                ("socket", False, "a socket"), ("socket", True, "a socket"),
+                ("/dev/zero", False, "a device: give a file"),
+                ("/dev/zero", True, "a device: give a file or a pipe")):
+            self.check(f"{name} {may_be_pipe}", refusal(lambda: read_first_bytes(
+                self.path(name), 5, may_be_pipe)), f"{self.path(name)} is {kind}")
 
     def test_follows_a_link_only_if_this_is_allowed(self) -> None:
         self.write("file", b"12345")
@@ -183,24 +140,11 @@ class CommandLine(Case):
         self.check("not followed", refusal(lambda: read_first_bytes(
             self.path("link"), 9, is_followed=False)), f"{self.path('link')} is a link")
 
-    def test_reads_a_file_of_at_most_the_given_size(self) -> None:
-        path = self.write("file", b"12345")
-        for most in (5, 6):
-            self.check(f"{most}", read_bounded_bytes(path, most), b"12345")
-        self.check("4", refusal(lambda: read_bounded_bytes(path, 4)),
-                   f"{path} has more than 4 bytes")
-
     def test_refuses_a_file_of_the_system_that_waits(self) -> None:
         with File(self.write("file", b"12345")) as file, mock.patch.object(
                 file, "file", mock.Mock(**{"read.return_value": None})):
             self.check("message", refusal(lambda: file.read()),
                        f"{self.path('file')} has no end: give a file")
-
-    def test_reads_the_first_bytes_of_an_endless_pipe(self) -> None:
-        os.mkfifo(self.path("pipe"))
-        with subprocess.Popen(["sh", "-c", "sleep 0.2; yes >\"$0\"", self.path("pipe")]):
-            self.check("bytes", read_first_bytes(self.path("pipe"), 100_001, may_be_pipe=True),
-                       (b"y\n" * 50_001)[:100_001])
 
     def test_splits_lines_as_shlex_does_within_bounds(self) -> None:
         chance = random.Random(94)
@@ -262,12 +206,8 @@ class CommandLine(Case):
 
     def test_escapes_text_in_pages(self) -> None:
         for text, expected in (("a<b>&\"'", "a&lt;b&gt;&amp;&quot;&#x27;"), ("\x07", "\\x07"),
-                               ("\udc80", "\\x80"), ("\ufffe", "\\ufffe"), ("{}", "{}"),
-                               ("a\nb", "a\nb"), *((chr(code), f"\\u{code:04x}") for code in (
-                                 0x61C, 0x200E, 0x200F, *range(0x2028, 0x202F),
-                                 *range(0x2066, 0x206A))),
-                               *((chr(code), f"\\u{code:04x}") for code in range(0x80, 0xA0)),
-                               ("\r", "\\x0d"), ("\t", "\\x09"), ("\x7f", "\\x7f")):
+                               ("\ufffe", "\\ufffe"), ("{}", "{}"), ("a\nb", "a\nb"),
+                               ("\r", "\\x0d"), ("\t", "\\x09")):
             self.assertEqual(markup('<a b="{}">{}</a>', text, text).source,
                              f'<a b="{expected}">{expected}</a>', text)
 

@@ -1,19 +1,16 @@
 """Test characters, national options and character sets."""
 from __future__ import annotations
 
-import csv
 import ctypes
 import dataclasses
 import json
-import os
 import unittest
-from typing import Iterator, NamedTuple
+from typing import NamedTuple
 
 from developing.pes import (
     NATIONAL, decode_address, decode_header, decode_pts, encode_triplet, get_data_field,
     get_teletext_packets, make_packet, make_pes_packet)
 from developing.stl import END_BOX, START_BOX, make_gsi_block, make_tti_block
-from subtitles.common.program import TOP
 from subtitles.common.times import TICKS
 from subtitles.formats.stl import UNUSED
 from subtitles.formats.teletext import (
@@ -26,15 +23,9 @@ from subtitles.recording.notices import find_character_set_notices, find_option_
 from .bench import Case, CompletedCall, read_example_file
 from .parts import make_example_request, survey_packets
 from .results import check_schema
+from .stories import read_vectors
 from .transmissions import CLOSING, HEADER, packets
 from .test_cli_pairs import STORY, qc, split_output_lines
-
-NATIONAL_FOLDER = os.path.join(TOP, "dev", "vectors", "national")
-
-
-def read_vector_rows(name: str) -> Iterator[dict[str, str]]:
-    with open(os.path.join(NATIONAL_FOLDER, name), encoding="utf-8", newline="") as file:
-        yield from csv.DictReader(file, delimiter="\t", quoting=csv.QUOTE_NONE)
 
 
 class NationalOptions(unittest.TestCase):
@@ -43,7 +34,7 @@ class NationalOptions(unittest.TestCase):
 
     def test_each_character_has_the_cell_of_the_table(self) -> None:
         count = 0
-        for row in read_vector_rows("options.tsv"):
+        for row in read_vectors("national/options.tsv"):
             count += 1
             option, text = OPTION_BY_WORD[row["option"]], bytes.fromhex(row["stl"])
             cell, character = int(row["cell"], 16), row["char"].replace("SPACE", " ")
@@ -72,7 +63,7 @@ class NationalOptions(unittest.TestCase):
 
     def test_encodes_no_other_character_in_one_cell(self) -> None:
         known = {(row["option"], bytes.fromhex(row["stl"]))
-                 for row in read_vector_rows("options.tsv")}
+                 for row in read_vectors("national/options.tsv")}
         for option in OPTIONS:
             for first in range(0x20, 0x100):
                 for text in (bytes([first]), *(bytes([first, second]) for second in b"AaeEzZ ")):
@@ -84,7 +75,7 @@ class NationalOptions(unittest.TestCase):
                             bytes([byte]), option)], (option.word, text))
 
     def test_finds_the_texts_of_eleven_languages_that_an_option_can_draw(self) -> None:
-        rows = [row for row in read_vector_rows("vectors.tsv")
+        rows = [row for row in read_vectors("national/vectors.tsv")
                 if row["kind"] in ("drawn", "refused")]
         self.assertGreater(len(rows), 150)
         for row in rows:
@@ -159,13 +150,13 @@ def list_character_texts(option: NationalOption) -> list[tuple[Text, str]]:
     return [(Text(bytes.fromhex(line["stl"]), 5, 0, (
         START_BOX * 2 + bytes([int(line["cell"], 16)]) + END_BOX * 2).ljust(40)),
              chr(int(line["unicode"][2:], 16)))
-            for line in read_vector_rows("options.tsv") if line["option"] == option.word]
+            for line in read_vectors("national/options.tsv") if line["option"] == option.word]
 
 
 def texts(option: NationalOption) -> list[tuple[Text, str]]:
     """Return each text of vectors.tsv for an option, and its error message or an empty string."""
     result = []
-    for line in read_vector_rows("vectors.tsv"):
+    for line in read_vectors("national/vectors.tsv"):
         cells, message = b"", line["prepared line or refusal"]
         if line["kind"] == "drawn":
             cells = bytes.fromhex(line["row of 40 cells"])
@@ -415,7 +406,7 @@ class Languages(unittest.TestCase):
                 self.assertEqual(result, [line] * bool(words))
 
     def test_warns_with_each_option_but_that_of_the_announced_language(self) -> None:
-        rows = [*read_vector_rows("pmt.tsv")]
+        rows = [*read_vectors("national/pmt.tsv")]
         self.assertEqual(len(rows), 32)
         for row in rows:
             language, word = row["ISO 639-2"], row["option"]
