@@ -76,6 +76,18 @@ class OptionRows(Case):
         for name, _, _ in ROWS:
             self.check(name, f" {name}" in command, name != "--start")
 
+    def test_an_advised_command_for_two_recordings_gives_no_pid_or_clock_of_only_one(self) -> None:
+        # Options of the call, the advised option, and the options of the advised command
+        for options, more, expected in (
+                ("", "--pid 0x101", " --pid 0x101"), ("--pid 0x102", "--pid 0x101", ""),
+                ("", "--origin T", " --start TIME --reference-start TIME"),
+                ("--start 10:00:00:00", "--origin T", "")):
+            request = make_example_request("a.stl", "a.ts", *options.split())
+            request.reference_call = ["--reference", "b.ts", "a.ts"]
+            paths = CommandPaths("tools/qc", self.bench.program)
+            self.check(f"{options}: {more}", make_command(request, paths, *more.split()),
+                       f"tools/qc --reference b.ts a.ts{expected}")
+
     def test_each_row_is_complete(self) -> None:
         for item in OPTIONS:
             self.must(item.name, bool(item.description and item.default_text and item.modes) and

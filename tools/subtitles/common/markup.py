@@ -33,10 +33,6 @@ class Markup:
     def __mul__(self, times: int) -> Markup:
         return Markup(self.source * times)
 
-    def capitalize_first(self) -> Markup:
-        """Return this markup with its first letter in upper case."""
-        return Markup(self.source[:1].upper() + self.source[1:])
-
     def prefix_anchors(self, prefix: str) -> Markup:
         """Add a prefix to each anchor and each link to an anchor, so that anchors of several parts
         of a page differ. Quotes in text are escaped, so text never matches `ANCHOR`."""
