@@ -52,6 +52,11 @@ class CommandLine(Case):
                                     (0, 192, ["--pid", "0x0", "--packet-size", "192"])):
             self.assertEqual(command_line.make_stream_options(pid, size), expected, (pid, size))
 
+    def test_page_888_is_the_default_of_pes2ts(self) -> None:
+        parser = command_line.ToolParser("")
+        command_line.add_page(parser)
+        self.assertEqual(vars(parser.parse_args([])), {"page": (0, 0x88)})
+
     def test_escapes_control_characters_of_terminals(self) -> None:
         for text, expected in (("\x1f ~\x7f", "\\x1f ~\\x7f"),
                                ("\x80\x9f\xa0", "\\u0080\\u009f\xa0"),
