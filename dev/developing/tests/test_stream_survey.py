@@ -134,6 +134,11 @@ class SurveyAnswers(Case):
                  Announced((0, 0xFF), "eng", 1)]}), ProgramMap(1, 8, {9: 2})]),
             ("sub 5 888; subs 5 888 9; subs 5 150 7",
              of_pid_5("header_counts"), {"888": 9, "150": 7}),
+            ("programme 1 9; announce 5 888 656e67 2; announce 5 100 656e67 1; sub 5 150; "
+             "announce 5 8FF 656e67 2; announce 6 888 646575 2; announce 6 777 646575 5; sub 6 160",
+             lambda it: [it.list_pages(None), it.list_pages(5)], [
+                 {(1, 0x50): [], (1, 0x60): [], (7, 0x77): ["deu"], (0, 0x88): ["eng", "deu"]},
+                 {(1, 0x50): [], (0, 0x88): ["eng"]}]),
             *(("programme 1 9; stream 5 6; announce 5 888 656e67 2; announce 5 888 656e67 2; " +
                "; ".join(f"sub 5 2{page}" for page in range(9 + count, 9, -1)),
                lambda it: it.lines(), [
@@ -219,9 +224,7 @@ class SurveyAnswers(Case):
             "the second page in line 1000": (["sub 257 1A0", *["pcr 5 1"] * 998, "sub 257 199"],
                                              [(1, 0x99), (1, 0xA0)]),
             "in line 1001": (["sub 257 1A0", *["pcr 5 1"] * 999, "sub 257 199"], [(1, 0xA0)]),
-            "no page in the whole recording": ([], [(0, 0x88)]),
-            "announced pages": (["programme 1 5", "announce 257 8FF 656e67 2",
-                                 "announce 257 777 656e67 5"], [(7, 0x77)])}
+            "no page in the whole recording": ([], [(0, 0x88)])}
         for name, (lines, pages) in rows.items():
             program = self.fake_survey(lines)
             if lines:  # let it print lines without end

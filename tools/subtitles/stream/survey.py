@@ -256,10 +256,9 @@ class Survey:
     def list_pages(self, pid: int | None) -> dict[Page, list[str]]:
         """Return the subtitle pages that are announced, or sent with C6 set, and their announced
         languages. If `pid` is given, consider only that PID."""
-        languages: dict[Page, dict[str, None]] = {}
-        for packets in self.by_pid.values():
-            for page in filter(None, map(decode_page, packets.header_counts)):
-                languages.setdefault(page, {})
+        languages: dict[Page, dict[str, None]] = {
+            page: {} for packets in self.by_pid.values() if pid in (None, packets.pid)
+            for page in filter(None, map(decode_page, packets.header_counts))}
         for program_map in self.programmes:
             for announced_pid, announcements in program_map.pages.items():
                 for announced in announcements:
