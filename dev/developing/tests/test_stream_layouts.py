@@ -41,7 +41,7 @@ BROADCASTER_LAYOUTS = [
     (True, True, ""), (True, True, "strip=0A0B0D,before=0D070B0B,after=0A,double,pack"),
     (True, False, "row=-1,double,last"), *((False, False, layout) for layout in (
         "before=0D0B0B,double", "text", "last", "after=0A", "after=", "before=070B0B",
-        "before=*0B0B", "free=2", "fit", "before=0D*0B0B,white,double,last,text", "up",
+        "before=*0B0B", "free=2", "free=3", "fit", "before=0D*0B0B,white,double,last,text", "up",
         "left=2,right=3", "after=0A0A0A0A", "pack,double,before=0D0B0B"))]
 
 

@@ -17,7 +17,7 @@ from subtitles.judging.unchecked import summarize_pictures
 from subtitles.stream.pace import Pace, REGULAR
 from subtitles.stream.packets import PacketRun, Packets, find_announced_jumps
 from subtitles.stream.pictures import (
-    Departure, VideoLead, find_steady_change, locate_departures)
+    Departure, VideoLead, find_steady_change, locate_changes_of_video, locate_departures)
 from subtitles.stream.steps import UnusualStep
 from subtitles.stream.survey import Survey
 from .bench import Case
@@ -103,11 +103,21 @@ class PictureDepartures(Case):
     def test_finds_a_lead_that_grows_steadily_but_not_a_jump_of_the_teletext_pts(self) -> None:
         leads = make_video_leads([6 + 0.02 * at for at in range(100)])
         self.check("it grows", find_steady_change(leads), round(99 * 0.02 * TICKS))
+        for slopes in ((0.04, 0.02), (0.02, 0.04)):
+            self.check(f"before and after a step: {slopes}", find_steady_change(make_video_leads(
+                [6 + slope * at for slope in slopes for at in range(100)], {100: 9})),
+                round(99 * 0.04 * TICKS))
         for by in (50, 25 * 3600, -25 * 3600):
             jumped = [lead._replace(pts=(lead.pts + TICKS * by) % CLOCK, ticks=lead.ticks + TICKS
                                     * by) for lead in make_video_leads([6.0] * 100)[50:]]
             self.check(f"the PTS jump by {by} frames", find_steady_change(
                 [*make_video_leads([6.0] * 50), *jumped]), 0)
+
+    def test_finds_another_delay_of_a_second_video_that_begins_at_the_wrap_of_the_pts(self) -> None:
+        old = make_video_leads([6.0] * 20, first=CLOCK - TICKS * 500)
+        new = make_video_leads([5.0] * 20)
+        self.check("place", locate_changes_of_video([old, new]), [
+            Departure(new[0].pts, old[-1].pts, None, change=TICKS, ahead=6 * TICKS)])
 
     def test_the_lead_may_differ_from_the_jump_by_less_than_half_a_frame(self) -> None:
         for change, expected in ((5.0, [5]), (5.4, [5]), (0.4, []), (0.0, []), (-3.0, [None])):

@@ -226,4 +226,5 @@ class Steps(Case):
             pictures, passed=0, steps=steps, decoding=0, number=1), {
                 "B pictures, the longest delay": ((pictures, steady), 4 * TICKS),
                 "I P B B P B B": (([TICKS * at for at in (1, 4, 2, 3, 7, 5, 6)], steady), TICKS),
+                "a picture shown nine frames late": (([0, 10 * TICKS], steady), MAX_REORDER_TICKS),
                 "no steps are known": ((pictures, []), MAX_REORDER_TICKS)})

@@ -16,7 +16,8 @@ from subtitles.formats.teletext import Page
 from subtitles.stream.packets import GapMarker, PCRStep, PacketRun, PageChange, Texts
 from subtitles.stream.pictures import VideoLead
 from subtitles.stream.survey import (
-    Announced, ProgramMap, Survey, VERSION, Video, find_first_pages, survey, survey_runs)
+    Announced, ProgramMap, Survey, VERSION, Video, find_first_pages, read_stored_survey, survey,
+    survey_runs)
 from .bench import Case
 from .streams import (
     AUDIO_PID, DISCONTINUITY, TELETEXT_PID, VIDEO_PID, StreamMaker, filler, make_components,
@@ -230,6 +231,15 @@ class SurveyAnswers(Case):
             if lines:  # let it print lines without end
                 self.write("program", self.read("program").replace(b"echo over", b"yes pcr 5 1 #"))
             self.check(name, find_first_pages(program, "one.ts", None), pages)
+
+    def test_reads_the_lines_of_one_page_of_a_stored_survey(self) -> None:
+        of_first, of_second = ([f"pes 5 {at} 1 9 0 h/ 1 0", f"rows 5 {at} -", f"strays 5 {at} -",
+                                f"set 5 28 {at} 0 0"] for at in (1, 2))
+        path = self.write("stored", "\n".join(["teletext 5", "page 888", *of_first, "page 150",
+                                               *of_second, "seam 5 9"]).encode())
+        for page, lines in ((PAGE, of_first), ((1, 0x50), of_second)):
+            self.check(f"{page}", vars(read_stored_survey(path, page)),
+                       vars(read_survey(*lines, "seam 5 9")))
 
     def test_yields_each_run_with_its_rows_before_the_program_ends(self) -> None:
         runs = [f"pes 0 {number} 1 {number} 0 -/ 1 0" for number in range(4)]
