@@ -37,8 +37,8 @@ class Blocks(unittest.TestCase):
         # TTI blocks with SN, EBN and CF, the numbers and texts of the subtitles, and the message
         rows: dict[str, tuple[list[tuple[int, int, int]], list[tuple[int, bytes]], str]] = {
             "no block": ([], [], ""), "one block": ([(1, last, 0)], [(1, b"1")], ""),
-            "a subtitle in each block": ([(1, last, 0), (2, last, 0), (300, last, 0)],
-                                         [(1, b"1"), (2, b"2"), (300, b"300")], ""),
+            "a subtitle in each block": ([(1, last, 0), (2, last, 0), (511, last, 0)],
+                                         [(1, b"1"), (2, b"2"), (511, b"511")], ""),
             "two blocks of one": ([(1, 0, 0), (1, last, 0), (2, last, 0)],
                                   [(1, b"11"), (2, b"2")], ""),
             "the greatest EBN": ([(1, 0, 0), (1, 1, 0), (1, 0xEF, 0), (1, last, 0)],

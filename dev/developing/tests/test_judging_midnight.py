@@ -12,6 +12,7 @@ from subtitles.air.judge import Judge
 from subtitles.common.times import (
     CLOCK, FRAMES_OF_A_DAY, TICKS, begin_day_at, compute_origin, decode_time, format_frame,
     format_origin, format_program_time, parse_frame, restore_times)
+from subtitles.formats.listing import parse_place_time
 from subtitles.formats.midnight import find_day_begin, move_times
 from subtitles.formats.stl import GSI, TCP_PLACE, get_subtitle_times, read_stored_subtitles
 from .air import AirCase, DAY, SEGMENT_SECONDS
@@ -91,7 +92,8 @@ class Times(Case):
         with begin_day_at(NOON):
             for frame, time in ((0, "12:00:00:00"), (NOON - 1, "23:59:59:24"),
                                 (NOON, "00:00:00:00"), (MIDNIGHT - 1, "11:59:59:24")):
-                self.check(time, (format_frame(frame), parse_frame(time)), (time, frame))
+                self.check(time, (format_frame(frame), parse_frame(time), parse_place_time(time)),
+                           (time, frame, frame))
             self.check("a TCI of the copy", decode_time(bytes((10, 0, 2, 0))), "22:00:02:00")
             self.check("a line of check", restore_times("trusted frames 11:59:59:24 12:00:00:00"),
                        "trusted frames 23:59:59:24 00:00:00:00")

@@ -409,7 +409,8 @@ class PageDifferences(Case):
         user = make_tti_block(7, 25, 50, 20, 2, b"no", 0xFE)
         other = make_tti_block(300, 75, 99, 20, 2, b"$")
         data = make_gsi_block(b"", 6, 2) + b"".join([comment, first, user, comment, last, other])
-        file = SubtitleFile(self.write("one.stl", data + b"x" * 127))
+        path = self.write("one.stl", data + b"x" * 127)
+        file = SubtitleFile(path)
         self.assertEqual((file.count(), file.count_ended(), list(file.list_last_blocks())),
                          (6, (2, 4), [5, 6]))
         self.assertEqual((file.text(5), file.text(6)), (b"a\xc2e\x80\xf9\xff", b"$"))
@@ -423,7 +424,9 @@ class PageDifferences(Case):
             (1, 7, "00:00:01:00"), (1, 7, "00:00:01:00"), (2, 300, "00:00:03:00"), None])
         self.assertEqual([file.find_by_frame(frame) for frame in (24, 25, 49, 50, 75, 98, 99)], [
             None, result[2], result[2], None, result[6], result[6], None])
-        self.assertEqual([*file.list_subtitles()], [result[2], result[6]])
+        self.assertEqual([[*SubtitleFile(path, left_out=left_out).list_subtitles()]
+                          for left_out in ((), {1}, {2})],
+                         [[result[2], result[6]], [result[6]], [result[2]]])
         advice = OptionAdvice(file, "english")
         self.assertTrue(advice.advise(5, 4).startswith("no national option has ø: "))
         self.assertEqual((advice.advise(5, 6), advice.complete_options), ("", []))
