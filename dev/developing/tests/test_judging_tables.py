@@ -123,13 +123,13 @@ class Notices(Case):
         for origin in (0, CLOCK - 15 * TICKS):
             jumps = [ClockJump(None, 90_000), *(ClockJump((origin + TICKS * frame) % CLOCK, ticks)
                                                 for frame, ticks in (
-                     (9, 1), (10, 90_000), (15, -90_000), (20, 8_640_000), (21, 5)))]
+                     (-1, 1), (0, 90_000), (15, -90_000), (20, 8_640_000), (21, 5)))]
             with mock.patch("subtitles.recording.notices.find_clock_jumps", lambda packets: jumps):
                 result = [(jump_notice.kind, jump_notice.time,
                            jump_notice.line.partition(" at ")[0])
-                          for jump_notice in find_jump_notices(Packets(1), origin, 10, 20)]
+                          for jump_notice in find_jump_notices(Packets(1), origin, 0, 20)]
             self.assertEqual(result, [
-                ("clock_jump", "00:00:00:10", "the clock jumps by 1.00 s"),
+                ("clock_jump", "00:00:00:00", "the clock jumps by 1.00 s"),
                 ("clock_jump", "00:00:00:15", "the clock jumps back by 1.00 s"),
                 ("clock_jump", "00:00:00:20", "the clock jumps by 0:01:36")], origin)
         for ticks, words in ((0, "0.00 s"), (45_000, "0.50 s"), (59 * 90_000, "59.00 s"),

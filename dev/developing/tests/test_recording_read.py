@@ -63,7 +63,8 @@ class ChosenPids(Case):
             (both, None, ["--pid 0x101", "--pid 0x102"]),
             (both[::-1], None, ["--pid 0x101", "--pid 0x102"]),
             ([rows_on_first], None, []), ([], None, []),
-            ([rows_on_first, f"sub {SECOND_PID} 801"], None, ["--page 801"]),
+            ([rows_on_first, *(f"subs {SECOND_PID} 80{at} {count}" for at, count in enumerate(
+                (2, 1, 4, 3)))], None, ["--page 802", "--page 803", "--page 800"]),
             (never_sent, None, NeverSent), (never_sent, FIRST_PID, NeverSent),
             (moves, None, ["--pid 0x101", "--pid 0x102"]),
             (others, FIRST_PID, FIRST_PID), (both, SECOND_PID, SECOND_PID),
