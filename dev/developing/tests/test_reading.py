@@ -6,6 +6,7 @@ import json
 import os
 from types import SimpleNamespace
 from typing import Any, Iterable
+from unittest import mock
 
 from developing import TOOLS
 from developing.pes import decode_pts, encode_triplet, make_packet, make_pes_packet
@@ -507,9 +508,13 @@ class WrittenFiles(Case):
                 ("no section", b"\x47\x00\x14\x10\x00" + table, b"010203"),
                 ("a long pointer", b"\x47\x40\x14\x10\xfe" + table, b"010203"),
                 ("another PID", b"\x47\x40\x15\x10\x00" + table, b"010203")):
-            self.write("one.ts", null * 3 + packet.ljust(188, b"\xff") + null * 3)
+            data = null * 3 + packet.ljust(188, b"\xff") + null * 3
+            self.write("one.ts", data)
             os.utime(path, FEBRUARY_2001)
-            self.check(name, find_date(path, 188), date)
+            for at in (len(data), 570):  # the end of the first chunk: of the file, or in the packet
+                with mock.patch("subtitles.recording.dates.read_chunks", return_value=[
+                        data[:at], data[at:]]):
+                    self.check(f"{name}, {at}", find_date(path, 188), date)
         self.check("PES packets", find_date(path, 0), b"010203")
 
     def test_writes_the_same_file_again(self) -> None:

@@ -77,6 +77,8 @@ class Steps(Case):
             "for 20 pictures with a lead": (({215: 10, 235: -10},), [(215, 10), (235, -10)]),
             "half a frame": (({203: .5, 223: -.5},), [(203, .5), (223, -.5)]),
             "earlier for 60 pictures": (({203: -10, 263: 10},), [(203, -10), (263, 10)]),
+            "from picture 6 on": (({6: 10, 20: -10},), [(6, 10), (20, -10)]),
+            "from picture 5 on, as if damaged": (({5: 10, 20: -10},), [(20, None)]),
             "for two pictures, as if damaged": (({210: 10, 212: -10},), [(212, None)]),
             "for one picture": (({210: 10, 211: -10},), [(211, None)]),
             "one frame, as if a picture were lost": (({203: 1, 223: -1},), [(223, None)]),
