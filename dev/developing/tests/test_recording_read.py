@@ -131,6 +131,12 @@ class Messages(Case):
         self.assertEqual(len(lines), len(expected), (lines, expected))
         self.assertTrue(all(map(str.__contains__, lines, expected)), (lines, expected))
 
+    def test_counts_the_pes_packets_with_a_header_of_the_page(self) -> None:
+        recording = make_recording(read_survey("size 188", f"pes {FIRST_PID} 0 3 0 9 he/0 1 0",
+                                               f"pes {FIRST_PID} 3 2 50 9 -/ 1 0"))
+        recording.find_packets()
+        self.check_lines(recording.listener.lines, ["3 of 5 PES packets have a header of page 888"])
+
     def test_reports_missing_parts_of_a_recording(self) -> None:
         for damage, refusal, skipped, markers, size in itertools.product(
                 (None, "is damaged"), (0, 31), (0, 40), range(3), (0, 188)):
