@@ -326,6 +326,7 @@ def make_stl(reading: Reading, title: str, languages: Sequence[str], date: bytes
         blocks.append(make_subtitle_blocks(number, find_time_at(page.begin),
                                            find_time_at(page.end), *page.stored))
     size = sum(map(len, blocks)) // TTI
+    first_in_cue = next((page.begin for page in reading.written_pages), reading.first)
     return make_gsi_block(title.encode("cp850", "replace")[:MAX_TITLE], size, len(blocks),
-                          find_time_at(reading.first), choose_language(languages, reading.option),
+                          find_time_at(first_in_cue), choose_language(languages, reading.option),
                           READ_PUBLISHER, date) + b"".join(blocks)
