@@ -2,10 +2,11 @@
 from __future__ import annotations
 
 import hashlib
+import itertools
 import json
 import os
 from types import SimpleNamespace
-from typing import Any, Iterable
+from typing import Any, Iterable, cast
 from unittest import mock
 
 from developing import TOOLS
@@ -24,13 +25,15 @@ from subtitles.judging.status import (
 from subtitles.reading.judge import is_trusted
 from subtitles.recording.dates import find_date
 from subtitles.reading.received import (
-    ShownPage, choose_header_option, choose_language, find_likely_errors, find_recorded_day,
-    find_undecided_option, join_late_pages, mark_cuts, prefer_option, store_pages)
+    ShownPage, choose_header_option, choose_language, find_header_bits, find_likely_errors,
+    find_recorded_day, find_step_back, find_undecided_option, join_late_pages, mark_cuts,
+    prefer_option, store_pages)
+from subtitles.reading.reference import ReferenceVerdict
 from subtitles.results.schema import find_misfit
 from subtitles.stream.packets import PES, PacketRun, Packets
 from subtitles.stream.receiver import BLANK_PAGE, Rows
 from .bench import Case, CompletedCall
-from .streams import add_pictures, make_stream_of_pids
+from .streams import Shape, add_pictures, join_packets, make_multiplex, make_stream_of_pids
 from .transmissions import CLOSING, HEADER, make_numbered_row, make_random_stl, packets, replace_pts
 
 
@@ -135,15 +138,38 @@ class ReceivedPages(Case):
             sent = Packets(PES, [PacketRun(0, count, TICKS * first, TICKS, "h", "")])
             self.check(name, find_recorded_day(sent, (0, count - 1), 0), expected)
 
+    def test_finds_the_first_step_back_of_a_frame_or_more(self) -> None:
+        def find(*runs: tuple[int, int, int]) -> int | None:
+            """Search runs of PES packets, given by length, first PTS and step in ticks."""
+            firsts = itertools.accumulate((length for length, *_ in runs), initial=0)
+            sent = [PacketRun(first, *run, "h", "") for first, run in zip(firsts, runs)]
+            return find_step_back(Packets(PES, sent), (0, 99))
+
+        self.check_rows(find, {
+            "a tick less than a frame": (((1, TICKS - 1, 0), (1, 0, 0)), None),
+            "a frame": (((1, TICKS, 0), (1, 0, 0)), 1),
+            "after the last of a run": (((9, 0, TICKS), (1, 7 * TICKS, 0)), 9),
+            "in a run": (((2, 9 * TICKS, TICKS), (4, 11 * TICKS, -TICKS)), 3),
+            "over the wrap": (((1, CLOCK - TICKS, 0), (1, 0, 0)), None)})
+
+    def test_takes_the_option_of_most_headers(self) -> None:
+        runs = [PacketRun(0, 1, 0, 0, "h", "88080810+88080810"),
+                PacketRun(1, 3, TICKS, TICKS, "h", "88080818")]
+        self.check("C12 to C14", find_header_bits(Packets(PES, runs), (0, 3)), GERMAN.bits)
+
     def test_marks_no_blank_page_as_cut(self) -> None:
         self.check("cuts", [page.cut for page in mark_cuts(show_in_turn([BLANK, ONE, BLANK]))],
                    [None] * 3)
 
-    def test_finds_pages_that_differ_in_few_characters(self) -> None:
-        other, longer = make_page({22: b"\x0bOnf"}), make_page({22: b"\x0bOnes"})
-        for name, rows, expected in (("a letter", [ONE, other], {0, 1}), ("a row", [ONE, TWO], {}),
-                                     ("a letter more", [ONE, longer], {})):
-            self.check(name, find_likely_errors(show_in_turn(rows)), {*expected})
+    def test_finds_adjoining_pages_that_differ_in_few_characters(self) -> None:
+        letter, letters, three, longer = (make_page({22: b"\x0b" + text}) for text in (
+            b"Onf", b"Off", b"Eff", b"Ones"))
+        for name, rows, expected in (
+                ("a letter", [TWO, ONE, letter], {1, 2}), ("two letters", [ONE, letters], {0, 1}),
+                ("three letters", [ONE, three], {}), ("a row", [ONE, TWO], {}),
+                ("a letter more", [ONE, longer], {}), ("a pause", [ONE, BLANK, letter], {})):
+            pages = [page for page in show_in_turn(rows) if page.rows != BLANK]
+            self.check(name, find_likely_errors(pages), {*expected})
 
     def test_chooses_the_option_by_the_headers_and_the_announcement(self) -> None:
         # C12 to C14, the announced languages, the chosen option, and how many options are possible
@@ -309,16 +335,20 @@ class WholeCalls(Case):
                 for frame, text in ((0, 0), (25, 1), (50, 0))]
         self.write("sent.pes", b"".join(sent))
         self.write("sent.ts", add_pictures(b"".join(sent), 90_000).data)
-        # The arguments, the source of the clock, and the first in-cue
-        for args, clock, begin in ((("sent.pes",), "first_pes", "00:00:01:00"),
-                                   (("sent.pes", "--origin", "0"), "given", "00:00:02:00"),
-                                   (("sent.ts", "--start", "10:00:00:00"), "start", "10:00:01:00")):
+        # The arguments, the source of the clock, the first in-cue, and the last frame
+        for args, clock, begin, last in (
+                (("sent.pes",), "first_pes", "00:00:01:00", "00:00:02:00"),
+                (("sent.pes", "--origin", "0"), "given", "00:00:02:00", "00:00:03:00"),
+                (("sent.ts", "--start", "10:00:00:00"), "start", "10:00:01:00", "10:00:02:00")):
             call = self.read_pages(*args)
             result = self.result()
             source, cue = result["parts"][0]["clock"]["source"], result["subtitles"][0]
             is_listed = CLOCK_KIND in {item["kind"] for item in result["not_checked"]}
             self.check(" ".join(args), (call.status, source, cue["expected_in"], is_listed),
                        (0, clock, begin, clock == "first_pes"))
+            self.check(f"{args}: the last frame, and the first in-cue in the TCF", (
+                result["reading"]["to"], self.read("out/888.stl")[264:272].decode()),
+                (last, begin.replace(":", "")))
         call = self.read_pages("sent.pes", "--start", "10:00:00:00")
         self.check("no picture", (call.status, self.result()["verdict"]), (2, NOT_READ))
 
@@ -347,6 +377,9 @@ class WholeCalls(Case):
                   (50, NO_TEXT)]
         reserved = [(0, [RESERVED_OPTION, make_numbered_row(22, b"#"), CLOSING]),
                     (25, [RESERVED_OPTION, CLOSING])]
+        back = "time goes back, at 00:00:01:00, where the PTS of PES packet 2 is earlier than " \
+            "the last, so reading ends there. Read the rest with " \
+            f"{os.path.join(TOOLS, 'read')} sent.pes --page 888 --pes 2-"
         # What is sent in which frames, the arguments, the status, and how the line begins
         for name, frames, args, status, begin in (
                 ("two options", [(0, TEXT), (25, NO_TEXT), (50, other), (75, NO_TEXT)], (), 1,
@@ -358,10 +391,13 @@ class WholeCalls(Case):
                 ("another --option", [(0, TEXT), (25, NO_TEXT)], ("--option", "german"), 2,
                  "--option is german, but C12 to C14 of the headers of the page select english"),
                 ("no such page", [(0, TEXT)], ("--page", "889"), 2, "no header of the page"),
+                ("no header in a range", [(0, TEXT), (25, [CLOSING])], ("--pes", "1-1"), 2,
+                 "no header of the page can be read in this range"),
+                ("outside the day", [(0, TEXT)], ("--origin", "3600"), 2, "no header of the page "
+                 "has a time between 00:00:00:00 and 24:00:00:00 on this clock"),
                 ("row 24", row_24, (), 1, "not in the file, row 24 has text: xxx"),
-                ("PTS go back", jumping, (), 1, "time goes back, at 00:00:01:00, where the PTS of "
-                 "PES packet 2 is earlier than the last, so reading ends there. Read the rest with "
-                 f"{os.path.join(TOOLS, 'read')} sent.pes --page 888 --pes 2-3"),
+                ("PTS go back", jumping, (), 1, f"{back}3"),
+                ("PTS go back in a range", jumping, ("--pes", "0-2"), 1, f"{back}2"),
                 ("its first part", jumping, ("--pes", "0-1"), 0, ""),
                 ("its second part", jumping, ("--pes", "2-3"), 0, ""),
                 ("another character set", [(0, TEXT), (10, [OTHER_SET]), (25, NO_TEXT)], (), 1,
@@ -378,8 +414,9 @@ class WholeCalls(Case):
             line = result["reason"] or result["line"].partition(": ")[2]
             has_begin = line == begin if "not checked" in begin else line.startswith(begin)
             self.must(name, call.status == status == result["status"] and has_begin, call)
-            self.check(f"{name}: the sentence", PHRASES[OPTION] in result["sentence"],
-                       line.endswith("option"))
+            self.check(f"{name}: the option", (PHRASES[OPTION] in result["sentence"], any(
+                "not checked: the characters of" in text for text in call.told)),
+                (line.endswith("option"),) * 2)
             if frames is row_24:
                 self.check("counts", [result["subtitles"], result["subtitle_counts"],
                                       result["reading"]["shown"]],
@@ -389,29 +426,55 @@ class WholeCalls(Case):
         self.send((0, [HEADER, ROW, NEXT_PAGE, ROW, CLOSING]),
                   (25, [KEEPING_HEADER, ROW, NEXT_PAGE, ROW, CLOSING]),
                   (50, [HEADER, NEXT_PAGE, CLOSING]))
-        status = self.read_pages("sent.pes").status
-        self.check("statuses", (status, self.result("888")["status"], self.result("889")["status"]),
-                   (1, 1, 0))
+        call = self.read_pages("sent.pes")
+        self.check("statuses", (call.status, self.result("888")["status"],
+                                self.result("889")["status"]), (1, 1, 0))
+        self.check("last lines", [line.partition(":")[0] for line
+                                  in call.out.decode().splitlines()[-2:]],
+                   [f"888 {WITH_FAULTS}", f"889 {AS_SHOWN}"])
 
-    def test_names_pes_packets_before_the_first_header(self) -> None:
-        self.send((0, [CLOSING]), (25, [CLOSING]), (30, NO_TEXT), (50, NO_TEXT))
-        self.check("status", self.read_pages("sent.pes").status, 0)
-        self.check("entry", [(item["from"], item["to"], item["text"])
-                             for item in self.result()["not_checked"] if item["kind"] == OUTSIDE],
-                   [("00:00:00:00", "00:00:01:00", "2 PES packets before the first header of the "
-                     "page, from 00:00:00:00 to 00:00:01:00")])
+    def test_reports_a_jump_of_the_pcr_as_a_fault(self) -> None:
+        pes = [make_pes_packet(TICKS * frame, NO_TEXT) for frame in range(100, 250, 25)]
+        self.write("jump.ts", join_packets(make_multiplex(pes, Shape(jump=(60, 3 * 90_000)))))
+        call, result = self.read_pages("jump.ts"), self.result()
+        self.must("fault", call.status == 1 and result["line"].startswith(
+            f"{WITH_FAULTS}: clock jump, the clock jumps by 3.00 s at 00:00:02:00"), result["line"])
+        self.must("no warning", "clock_jump" not in {item["kind"] for item in result["warnings"]})
 
-    def test_reports_subtitles_with_packets_26(self) -> None:
+    def test_names_the_pes_packets_that_it_does_not_read(self) -> None:
+        self.send((0, [CLOSING]), (25, [CLOSING]), (30, NO_TEXT), (50, TEXT), (75, NO_TEXT))
+        # The value of --pes, the first in-cue, how many PES packets are read, and the others
+        for pes, begin, count, others in (
+                ("0-99", "00:00:02:00", 3, (
+                    "00:00:00:00", "00:00:01:00", "2 PES packets before the first header of the "
+                    "page, from 00:00:00:00 to 00:00:01:00")),
+                ("3-99", "00:00:00:00", 2, (None, None, "3 PES packets outside of --pes 3-99"))):
+            call, result = self.read_pages("sent.pes", "--pes", pes), self.result()
+            self.must(f"{pes}: range", call.status == 0 and f"range: {count} of 5 PES packets, " in
+                      call.out.decode(), call)
+            self.check(f"{pes}: others", (result["subtitles"][0]["expected_in"], *(
+                (item["from"], item["to"], item["text"]) for item in result["not_checked"]
+                if item["kind"] == OUTSIDE)), (begin, others))
+
+    def test_reports_which_subtitles_may_differ_from_what_receivers_show(self) -> None:
+        not_stored = [[HEADER, make_packet(0, 24, (), text * 40), CLOSING] for text in (b"x", b"y")]
         enhanced = [HEADER, ROW, make_packet(0, 26, [0], b"") + encode_triplet(0) * 13, CLOSING]
-        self.send((0, NO_TEXT), (25, TEXT), (50, NO_TEXT), (75, enhanced), (100, NO_TEXT))
+        other = [HEADER, make_numbered_row(22, b"Good evening!"), CLOSING]
+        self.send(*((25 * at, item) for at, item in enumerate((
+            NO_TEXT, *not_stored, NO_TEXT, TEXT, NO_TEXT, enhanced, other, NO_TEXT))))
         self.check("status", self.read_pages("sent.pes").status, 1)
         result = self.result()
         self.check("count", (result["reading"]["enhanced"], result["reading"]["certain"],
-                             self.list_verdicts()), (1, 2, [CERTAIN, CERTAIN]))
-        self.check("which", ["packets X/26" in str(row["reason"]) for row in result["subtitles"]],
-                   [False, True])
-        self.must("note", any("1 subtitle, first at 00:00:03:00: packets X/26" in note
-                              for note in result["notes"]), result["notes"])
+                             self.list_verdicts()), (1, 3, [CERTAIN] * 3))
+        self.must("sentence", "5 subtitles, 3 certain" in result["sentence"], result["sentence"])
+        # The reason, whether each subtitle of the file has it, and the note
+        for reason, expected, note in (
+                ("packets X/26", [False, True, False], "1 subtitle, first at 00:00:06:00: packets"),
+                ("differs from", [False, True, True], "2 subtitles, first at 00:00:06:00: it")):
+            self.check(reason, [reason in str(row["reason"]) for row in result["subtitles"]],
+                       expected)
+            self.must(f"{reason}: note", any(item.startswith(note) for item in result["notes"]),
+                      result["notes"])
 
     def test_is_not_certain_of_a_subtitle_next_to_a_loss(self) -> None:
         # Four subtitles in a stream; the third is shown from frame 150 to 200.
@@ -431,22 +494,24 @@ class WholeCalls(Case):
             self.write("lost.ts", b"".join(stream[:at] + stream[at + 1:]))
             for words in ((), ("--allow-lost",)):
                 call = self.read_pages("lost.ts", *words)
-                self.check(f"{name} {words}", (call.status, self.list_verdicts()), (1, expected))
+                self.check(f"{name} {words}", (
+                    call.status, self.list_verdicts(), self.result()["reading"]["certain"]),
+                    (1, expected, expected.count(CERTAIN)))
 
     def test_reports_a_file_of_which_the_rest_can_not_be_read(self) -> None:
         data = self.read(schedule_random_programme(self))
         pes = packets(data)
         broken = bytearray(data)
         broken[len(b"".join(pes[:10])) + 5] ^= 1
-        for name, content in (("a wrong length", bytes(broken)), ("no end", data[:-50])):
-            call = self.read_pages(self.write("a.pes", content))
-            self.check(name, (call.status, self.result()["faults"][0]["name"]), (1, "ends early"))
-
-    def test_reads_over_the_wrap_of_the_pts(self) -> None:
-        data = self.read(schedule_random_programme(self))
-        first = decode_pts(data)
-        moved = replace_pts(data, lambda _, pts: (pts - first - 90_000 * 5) % CLOCK)
-        self.check("status", self.read_pages(self.write("a.pes", moved)).status, 0)
+        # The file, and how many of its PES packets can be read
+        for name, content, count in (("a wrong length", bytes(broken), 11),
+                                     ("no end", data[:-50], len(pes) - 1)):
+            self.write("a.pes", content)
+            for args, is_fault in (((), True), (("--pes", f"0-{count}"), True),
+                                   (("--pes", f"0-{count - 1}"), False)):
+                call, faults = self.read_pages("a.pes", *args), self.result()["faults"]
+                self.check(f"{name} {args}", call.status == 1 and faults[0]["name"] == "ends early",
+                           is_fault)
 
     def test_asks_for_the_pid_if_the_page_is_on_two(self) -> None:
         data = self.read(schedule_random_programme(self))
@@ -542,7 +607,8 @@ class WrittenFiles(Case):
         self.must("collected", call.status == 0 and b"1 pair: 1 as shown" in call.out, call)
         self.check("the report", self.read("out/888.html").count(b"<td>certain</td>"),
                    len(result["subtitles"]) - 1)
-        self.check("no page", self.tool("read", sent, "--json", "1.json").status, 64)
+        for option in ("--json", "--csv", "--junit"):
+            self.check(f"{option} without --page", self.tool("read", sent, option, "1").status, 64)
 
 
 class TwoRecordings(Case):
@@ -598,8 +664,41 @@ class TwoRecordings(Case):
         self.write_stream("a.ts", frames)
         self.write_stream("b.ts", frames, 2)
         self.check("no clock", self.compare("a.ts", "b.ts"), (3, "relative, same as a.ts"))
-        self.write_stream("a.ts", [(0, TEXT), (300, NO_TEXT)])
-        self.check("a reference with faults", self.compare("a.ts", "b.ts")[0], 2)
+
+    def test_describes_by_how_much_later_the_pts_are_than_in_the_reference(self) -> None:
+        self.check_rows(lambda ticks: ReferenceVerdict.describe_shift(
+            cast(Any, SimpleNamespace(shift=ticks))), {
+            "nothing": ((0,), "equal to"), "a frame": ((TICKS,), "1 frame later than"),
+            "a frame and a tick less": ((-TICKS - 1,), "1 frame and 1 tick earlier than")})
+
+    def test_says_why_recordings_can_not_be_compared(self) -> None:
+        frames, midnight = [(0, NO_TEXT), (25, TEXT), (50, NO_TEXT)], "23:59:59:00"
+        # What a.ts and b.ts send, the arguments, and the reason
+        for sent, other, args, reason in (
+                ([(0, TEXT), (300, NO_TEXT)], frames, ["--same-start"],
+                 f"a.ts, page 888: {WITH_FAULTS}: refused 73"),
+                (frames, [*frames, (60, NO_TEXT)],
+                 ["--start", midnight, "--reference-start", midnight],
+                 "a.ts runs over midnight: cut both recordings there"),
+                (frames, [*frames, (30, NO_TEXT)], ["--same-start"],
+                 "the PTS go back at PES packet 3, so the recordings can't be compared")):
+            self.write_stream("a.ts", sent)
+            self.write_stream("b.ts", other)
+            status, _ = self.compare("a.ts", "b.ts", *args)
+            found = json.loads(self.read("out/b.json"))["reason"]
+            self.must(reason, status == 2 and found.startswith(reason), found)
+
+    def test_names_the_subtitles_outside_of_the_common_range(self) -> None:
+        self.write_stream("a.ts", [(0, TEXT), (25, NO_TEXT), (50, TEXT), (75, NO_TEXT),
+                                   (100, TEXT)])
+        self.write_stream("b.ts", [(60, TEXT), (75, NO_TEXT), (100, TEXT), (140, NO_TEXT)])
+        self.compare("a.ts", "b.ts", "--same-start")
+        self.check("entries", [
+            (item["from"], item["to"], item["text"]) for item in json.loads(
+                self.read("out/b.json"))["not_checked"] if item["kind"] == OUTSIDE], [
+            ("10:00:04:00", "10:00:05:14", "1 subtitle of b.ts after 10:00:04:00, when one ends"),
+            ("10:00:00:00", "10:00:02:24", "2 subtitles of a.ts before 10:00:02:10, when both "
+             "recordings have begun")])
 
     def test_names_a_fault_of_the_transmission_unless_a_subtitle_differs(self) -> None:
         frames = [(0, NO_TEXT), (25, TEXT), (50, NO_TEXT)]
@@ -613,21 +712,22 @@ class TwoRecordings(Case):
             self.write_stream("b.ts", [frames[0], sent, frames[2], (60, TEXT)])
             call = self.tool("qc", "--reference", "a.ts", "b.ts", "--same-start")
             self.must(name, call.out.decode().splitlines()[-2].startswith(begin), call)
-            self.must(f"{name}: outside", "qc: not checked: 1 subtitle of b.ts after 10:00:02:00, "
-                      "when one ends" in call.told, call)
 
     def test_rejects_arguments_that_two_recordings_do_not_take(self) -> None:
         self.write_stream("a.ts", [(0, NO_TEXT), (25, TEXT), (50, NO_TEXT)])
         self.write_stream("b.ts", [(0, NO_TEXT), (25, TEXT), (60, NO_TEXT)])
+        clocks = "--start", "--reference-start"
         for name, args, status in (
-                ("one clock", ("b.ts", "--start", "10:00:00:00"), 64),
-                ("two clocks", ("b.ts", "--same-start", "--start", "10:00:00:00"), 64),
+                *((f"only {option}", ("b.ts", option, "10:00:00:00"), 64) for option in clocks),
+                *((f"two clocks, {option}", ("b.ts", "--same-start", option, "10:00:00:00"), 64)
+                  for option in clocks),
                 ("a layout", ("b.ts", "--layout", "up"), 64), ("no other recording", (), 64),
                 ("the same bytes", ("a.ts",), 2), ("three files", ("b.ts", "a.ts"), 64),
                 ("an output over the reference", ("b.ts", "--json", "a.ts"), 2),
                 ("an output over the recording", ("b.ts", "--json", "b.ts"), 2)):
             call = self.tool("qc", "--reference", "a.ts", *args)
-            self.must(name, call.status == status and len(call.told) == 1, call)
+            self.must(name, call.status == status and len(call.told) == 1 and (
+                "both give the clock" in call.told[0]) == name.startswith("two clocks"), call)
         self.check("no reference", self.tool("qc", "a.ts", "b.ts").status, 2)
         for words, tried in (("--pid 7 --same-start", " --same-start"), ("--pid 7", ""),
                              ("--page 777 --same-start", " --same-start --page 888")):
