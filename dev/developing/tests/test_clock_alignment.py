@@ -345,14 +345,6 @@ class LossesInParts(unittest.TestCase):
                 for place in (LossPlace(before, after), LossPlace(before, after, missing=90_000)):
                     self.assertEqual(belongs_to_part(place, part), expected, (hours, at))
 
-    def test_a_recording_may_begin_and_end_half_an_hour_from_a_part_of_many_hours(self) -> None:
-        hour = 90_000
-        for hours, shift in itertools.product((1, 12, 14, 20, 23, 24), SHIFTS):
-            first, last = -hour // 2, hours * hour + hour // 2
-            pcr = shift_pts(TICKS * first, shift), shift_pts(TICKS * last, shift)
-            part = TimedPart(0, hours * hour, Clock(shift, RECORDING))
-            self.assertEqual(find_recorded_span(pcr, part), Span(first, last), hours)
-
     def test_assigns_a_gap_marker_by_its_pes_packet(self) -> None:
         part = make_part(100, 200, 0, pes=(7, 19))
         for pes, expected in ((0, False), (6, False), (7, True), (12, True), (19, True),
@@ -380,14 +372,19 @@ class LossesInParts(unittest.TestCase):
                 self.assertEqual([*find_lost_spans(places, shift, 0)], [span for *_, span in rows])
 
     def test_computes_the_frames_of_a_recording_from_its_first_and_last_pcr(self) -> None:
-        timed_part = TimedPart(20, 40, Clock(0, RECORDING))
-        for shift, (ticks, span) in itertools.product(SHIFTS, (
-                ((0, 50 * TICKS), Span(0, 50)), ((1, 50 * TICKS - 1), Span(1, 49)),
-                ((-TICKS, 60 * TICKS), Span(-1, 60)), ((-1, 9 * TICKS), Span(0, 9)))):
-            pcr = shift_pts(ticks[0], shift), shift_pts(ticks[1], shift)
-            part = timed_part._replace(clock=Clock(shift, RECORDING))
+        hour = 90_000
+        for shift, (frames, ticks, span) in itertools.product(SHIFTS, (
+                ((20, 40), (0, 50 * TICKS), Span(0, 50)),
+                ((20, 40), (1, 50 * TICKS - 1), Span(1, 49)),
+                ((20, 40), (-TICKS, 60 * TICKS), Span(-1, 60)),
+                ((20, 40), (-1, 9 * TICKS), Span(0, 9)),
+                *(((0, last), (-hour // 2 * TICKS, (last + hour // 2) * TICKS),
+                   Span(-hour // 2, last + hour // 2))
+                  for last in range(hour, 25 * hour, hour)))):
+            part = TimedPart(*frames, Clock(shift, RECORDING))
             with self.subTest(shift=shift, ticks=ticks):
-                self.assertEqual(find_recorded_span(pcr, part), span)
+                self.assertEqual(find_recorded_span((
+                    shift_pts(ticks[0], shift), shift_pts(ticks[1], shift)), part), span)
 
     def test_does_not_know_the_frames_without_pcr_or_if_pts_go_back(self) -> None:
         part = TimedPart(20, 40, Clock(0, RECORDING))

@@ -13,8 +13,8 @@ from .bench import Case, get_example_path, read_example_file
 from .judged import JudgedPair, ProgrammeCase, judge_files
 from .streams import H_264, HEVC, MPEG_2, add_pictures
 from .transmissions import (
-    write_pipe, make_two_parts, join_pes_packets, make_delay, packets, replace_pts, write_programme,
-    schedule_pages)
+    CLOSING, HEADER, join_pes_packets, make_delay, make_numbered_row, make_two_parts, packets,
+    replace_pts, schedule_pages, write_pipe, write_programme)
 from .test_cli_pairs import TS, qc, split_output_lines
 
 # First TCI, interval between TCIs, and subtitle duration, in frames.
@@ -40,6 +40,15 @@ class Delays(ProgrammeCase):
             line for line in judged.said if "late" in line
             and not line.startswith("refused 74 Late")], [])
         self.must("delay", judged.result["parts"][0]["clock"]["delay_frames"] in (0, None))
+
+    def test_says_that_all_subtitles_are_late_unless_a_text_is_wrong(self) -> None:
+        late, (begin, end) = make_delay(3)(self.sent), self.due[2]
+        wrong = [(pts, [HEADER, make_numbered_row(22, b"Other"), CLOSING]
+                  if begin <= pts // TICKS - 3 < end else some) for pts, some in late]
+        for sent, sentence in ((late, "Refused: all 20 subtitles appeared 3 frames late."), (
+                wrong, "Refused: subtitle 3 at 10:00:10:00 has the wrong text: expected")):
+            result = self.judge(sent, "--origin", "0").result
+            self.must(sentence, result["sentence"].startswith(sentence), result["sentence"])
 
     def test_judges_both_sides_of_a_short_break_by_two_calls(self) -> None:
         middle = format_frame(self.due[10][0])

@@ -8,11 +8,11 @@ from typing import Any, Sequence
 
 from subtitles.clock.alignment import CueOffset, EarlyCues
 from subtitles.clock.origin import (
-    OriginEstimate, OriginSearch, format_breaks, compare_with_known_origin, format_part,
-    report_sent_pages, shift_lines, store_parts)
+    OriginEstimate, OriginSearch, compare_with_known_origin, describe_mismatch, format_breaks,
+    format_part, report_sent_pages, shift_lines, store_parts)
 from subtitles.clock.start import (
     Clock, ESTIMATED_NOTE, FirstPicture, GIVEN, NoFirstPicture, RECORDING, START, TCP,
-    StartClock, compute_start_clock, count_skipped, describe_largest_offset, find_first_picture)
+    StartClock, compute_start_clock, count_skipped, find_first_picture)
 from subtitles.clock.stretches import Stretch
 from subtitles.common.times import CLOCK, TICKS
 from subtitles.request.request import ORIGIN_CHOICE, Selection, Unclear
@@ -78,6 +78,9 @@ class OriginLines(unittest.TestCase):
             "five other origins": (self.part(9, 9, 9, others=other[:5]), [
                 cues("9 of 9 match, 9", next_best), ambiguous]),
             "other texts": (self.part(9, 9, 7), [cues("9 of 9 match, 7")]),
+            "PTS between frames": (self.part(9, 9, 9, exact_matches=8), [
+                cues("9 of 9 match, 9"), "1 of the matching cues match only to the nearest frame: "
+                "PTS that are not whole frames apart are refused with fault 61"]),
             "few cues": (self.part(4, 9, 4), [
                 cues("4 of 9 match, 4"), "fewer than half of the cues match with --origin 9: check "
                 "that this is the right subtitle file"]),
@@ -106,17 +109,21 @@ class OriginLines(unittest.TestCase):
                 self.assertEqual([*format_part(part, count=20)], [
                     line.replace("--origin or --start", "--origin") for line in lines])
 
-    def test_reports_how_many_cues_match_only_to_the_nearest_frame(self) -> None:
-        for count in (1, 9):
-            part = self.part(9, 9, 9, exact_matches=9 - count)
-            self.assertEqual([*format_part(part, count=20)][1:], [
-                f"{count} of the matching cues match only to the nearest frame: PTS that are not "
-                "whole frames apart are refused with fault 61"], count)
-
     def test_says_how_many_cues_a_part_has_if_the_file_has_others(self) -> None:
         for count, words in ((20, "the file has 20 cues"), (9, "this part has 20 cues")):
             line, = format_part(self.part(9, 9, 9), count)
             self.assertIn(f"; {words};", line)
+
+    def test_names_another_programme_if_few_of_its_texts_are_sent(self) -> None:
+        # How many texts the file has, how many of these and of other texts are sent, and whether
+        # the file is probably another programme's
+        for count, own, others, is_other in ((8, 1, 7, True), (8, 2, 6, False), (3, 0, 9, True),
+                                             (2, 0, 9, False), (9, 0, 2, False)):
+            cues, sent = ([SimpleNamespace(letters=b"%d" % at) for at in texts] for texts in (
+                range(count), range(count - own, count + others)))
+            base: Any = SimpleNamespace(cues=cues, changes=dict(enumerate(sent)))
+            self.assertEqual(describe_mismatch(self.part(4, 9, 4), [base]), "probably another "
+                             "programme's subtitle file: 4 of 9 cues match" * is_other, count)
 
     def test_needs_one_part_more_than_breaks(self) -> None:
         for count, breaks in itertools.product(range(5), (1, 2, 3)):
@@ -171,22 +178,21 @@ class OriginLines(unittest.TestCase):
                              early)
 
     def test_compares_an_origin_with_a_given_one(self) -> None:
-        # The given origin, the estimated origin, and the line about them
+        # The given origin, by how many ticks the estimated origin is later than it (or than 0), and
+        # the delay in the line about them
         rows: list[tuple[int | None, int, str]] = [
             (None, 0, ""), (None, TICKS - 1, ""), (None, 251 * TICKS, ""),
-            (None, 250 * TICKS, "compared with --origin 0, the subtitles are 250 frames late"),
-            (0, 0, "the subtitles match --origin 0"),
-            (0, 9, "compared with --origin 0, the subtitles are 9 ticks late"),
-            (0, 251 * TICKS, "compared with --origin 0, the subtitles are 251 frames late"),
-            (9, 9, "the subtitles match --origin 9"),
-            (CLOCK - 5, 4, f"compared with --origin {CLOCK - 5}, the subtitles are 9 ticks late")]
-        for known, origin, words in rows:
-            origin_estimate, part = OriginEstimate(), self.part(20, 20, 20)
-            part.origin = origin
-            compare_with_known_origin(origin_estimate, known, part)
-            self.assertEqual(origin_estimate.lines, [words] * bool(words), (known, origin))
-            self.assertEqual(origin_estimate.ticks_late, None if known is None else
-                             (origin - known) % CLOCK, (known, origin))
+            (None, 250 * TICKS, "250 frames late"), (None, -TICKS, "1 frame early"), (0, 0, ""),
+            (0, 9, "9 ticks late"), (0, 251 * TICKS, "251 frames late"), (9, 0, ""),
+            (9, -2 * TICKS - 1, "2 frames and 1 tick early"), (CLOCK - 5, 9, "9 ticks late")]
+        for known, ticks, delay in rows:
+            estimate, part = OriginEstimate(), self.part(20, 20, 20)
+            part.origin = ((known or 0) + ticks) % CLOCK
+            compare_with_known_origin(estimate, known, part)
+            self.assertEqual(estimate.lines, [
+                f"compared with --origin {known or 0}, the subtitles are {delay}"] if delay else [
+                f"the subtitles match --origin {known}"] * (known is not None), (known, ticks))
+            self.assertEqual(estimate.ticks_late, None if known is None else ticks, (known, ticks))
 
     def test_reports_skipped_pes_packets_and_other_pages(self) -> None:
         pages = {"888": 9, "150": 2, "777": 3, "101": 1, "102": 1, "103": 1, "104": 1}
@@ -236,13 +242,9 @@ class OriginLines(unittest.TestCase):
 
     def test_reports_from_which_time_subtitles_are_late(self) -> None:
         printed = "on, subtitles are"
-        self.assertEqual(self.shift_texts(0, 25),
-                         [f"from 00:01:00:00 {printed} 1.00 s (25 frames) late"])
         self.assertEqual(self.shift_texts(0, 26, 0), [
             f"from 00:01:00:00 {printed} 1.04 s (26 frames) late",
             f"from 00:02:00:00 {printed} on time"])
-        self.assertEqual(self.shift_texts(0, -1500), [
-            f"from 00:01:00:00 {printed} 60.00 s (1500 frames) early"])
         self.assertEqual(self.shift_texts(0, -1500, -3000), [
             f"from 00:01:00:00 {printed} 60.00 s (1500 frames) early",
             f"from 00:02:00:00 {printed} 120.00 s (3000 frames) early"])
@@ -300,23 +302,12 @@ def find(lines: Sequence[str], is_complete: bool = True) -> str | FirstPicture:
 class FirstPictures(unittest.TestCase):
     """The first picture of a programme with Teletext on PID 0x101 and video on PID 0x200."""
 
-    def test_uses_the_smallest_pts(self) -> None:
-        for frames, least in ((GROUP, 0), ([0], 0), ([7, 5, 6], 5), ([0, 1, 2], 0)):
-            self.assertEqual(find(make_picture_lines(frames)), FirstPicture(
-                VIDEO, MPEG_2, (CLOCK - 5 + TICKS * least) % CLOCK, skipped=3), frames)
-
     def test_reads_all_supported_formats(self) -> None:
         for kind in (0x01, MPEG_2, H_264, HEVC):
             self.assertEqual(find(list_picture_lines(9, kind=kind)),
                              FirstPicture(VIDEO, kind, 9, skipped=0), kind)
         self.assertIn("(HEVC, PID 0x200) has PTS 9; 1 earlier PES packet of video was skipped",
                       FirstPicture(VIDEO, HEVC, 9, skipped=1).line())
-
-    def test_finds_the_video_of_a_pmt_before_or_after_one_without_video(self) -> None:
-        own, none = list_programme_lines((VIDEO, MPEG_2)), list_programme_lines()
-        for tables, is_complete in itertools.product(([*none, *own], [*own, *none]), (True, False)):
-            self.assertEqual(find([*tables, f"video {VIDEO} 0", f"picture {VIDEO} 0"], is_complete),
-                             FirstPicture(VIDEO, MPEG_2, 0, 0), (tables, is_complete))
 
     def test_refuses_skipped_frames_unless_the_group_is_cut_off(self) -> None:
         lines = list_picture_lines(0, 3 * TICKS)
@@ -372,9 +363,10 @@ class FirstPictures(unittest.TestCase):
         # The PTS of the picture with the random_access_indicator, and the smallest PTS of `GROUP`
         flagged, least = (CLOCK - 5 + TICKS * 2) % CLOCK, CLOCK - 5
         skipped = "; 3 earlier PES packets of video were skipped"
-        # The order of pictures, and whether the group is closed. Expected are the PTS of the first
-        # picture and of the other one, its distance in frames, and the end of the line.
+        # The order of pictures, and whether the group is closed ("": it has no header). Expected:
+        # the PTS of the first picture and of the other one, its distance in frames, the line's end
         for frames, form, first, other, distance, more in (
+                (GROUP, "", least, None, 0, ""),
                 (GROUP, "closed", least, flagged, 2, "; the picture with the "
                  f"random_access_indicator has PTS {flagged}, 2 frames later"),
                 (GROUP, "open", flagged, least, -2, "; earlier pictures of its group, from PTS "
@@ -383,7 +375,8 @@ class FirstPictures(unittest.TestCase):
                  f"PTS {least} on (2 frames), can't be decoded"),
                 ([0, 1, 2], "open", least, None, 0, ""), ([0, 2, 1], "closed", least, None, 0, "")):
             lines = make_picture_lines(frames)
-            result = find([*lines[:-1], f"group {VIDEO} {flagged} {least} {form}", lines[-1]])
+            result = find([*lines[:-1], *[f"group {VIDEO} {flagged} {least} {form}"] * (form != ""),
+                           lines[-1]])
             self.assertEqual(result, FirstPicture(VIDEO, MPEG_2, first, 3, other), (frames, form))
             assert isinstance(result, FirstPicture)
             self.assertEqual((result.picture_offset, result.line()), (
@@ -409,10 +402,12 @@ class FirstPictures(unittest.TestCase):
                 "there and back": ([*first, *moved, *first], True),
                 "then both": ([*first, *both], True), "first both": ([*both, *first], False),
                 "first none": ([*list_programme_lines(), *first, *moved], True),
+                "then none": ([*first, *list_programme_lines()], True),
                 "the other one first": ([*moved, *first], False),
                 "of two programmes": ([*first, *other], False)}
-        for name, (lines, is_found) in rows.items():
-            result = find([*lines, *pictures])
+        for (name, (lines, is_found)), is_complete in itertools.product(
+                rows.items(), (True, False)):
+            result = find([*lines, *pictures], is_complete)
             self.assertEqual(isinstance(result, FirstPicture) and result.pid == VIDEO, is_found,
                              (name, result))
 

@@ -112,22 +112,15 @@ class TimeBases(unittest.TestCase):
                          [4 * at for at in range(1, MAX_BASES + 1)])
 
     def test_a_time_base_spans_the_first_to_last_header(self) -> None:
-        # PES packets of a frame each: h with a header, o without one, m a gap marker; and the first
-        # and last frame of the time base
-        for kinds, expected in (("hhh", (0, 2)), ("ohh", (1, 2)), ("hho", (0, 1)), ("oho", (1, 1)),
-                                ("ooo", None), ("mhh", (1, 2)), ("hhm", (0, 1))):
-            packets = Packets(0, [PacketRun(at, 1, None if kind == "m" else TICKS * at, 0, kind, "")
-                                  for at, kind in enumerate(kinds)])
+        # Runs of two PES packets: h with headers, o without any, m gap markers; and the first and
+        # last frame of the time base
+        for kinds, expected in (("hhh", (0, 5)), ("ohh", (2, 5)), ("hho", (0, 3)), ("oho", (2, 3)),
+                                ("ooo", None), ("mhh", (2, 5)), ("hhm", (0, 3))):
+            packets = Packets(0, [PacketRun(2 * at, 2, None if kind == "m" else 2 * TICKS * at,
+                                            TICKS, kind, "") for at, kind in enumerate(kinds)])
             packets.changes = [PageChange(0, b"", 1)]
             self.assertEqual([base.pts_range for base in find_time_bases([], packets, 0)], [
                 (TICKS * expected[0], TICKS * expected[1])] if expected else [], kinds)
-
-    def test_a_time_base_may_have_a_single_change(self) -> None:
-        packets = Packets(0, [PacketRun(0, 9, 5, TICKS, "h", "")])
-        packets.changes = [PageChange(5, b"", 0)]
-        self.assertEqual([(base.pts_range, base.packets, base.length)
-                          for base in find_time_bases([], packets, 0)],
-                         [((5, 5 + 8 * TICKS), (0, 8), 8)])
 
 
 class Fits(Case):
@@ -213,9 +206,8 @@ class Fits(Case):
             self.assertEqual((base.fit(start).start, base.fit(start).delays), (8, [0] * 6), start)
         self.assertEqual([min(fit.delays) for fit in base.fits], [0] * len(base.fits))
 
-    def test_finds_no_origin_without_cues_or_changes(self) -> None:
+    def test_finds_no_origin_without_changes(self) -> None:
         self.assertEqual(make_time_base(self.cues, []).fits, [])
-        self.assertEqual(make_time_base([], self.SENT).fits, [])
 
     def find_offset(self, sent: Sequence[tuple[int, bytes]], within: int = 0,
                     cues: Sequence[ExpectedCue] = cues, start: int = 10) -> CueOffset | None:
@@ -385,14 +377,6 @@ class Parts(unittest.TestCase):
             self.assertEqual([fit for fit in bases[number].fits if fit.start], part.others,
                              (bases, number))
         self.assertEqual(fit_parts(self.shown, [none], []), [])
-
-    def test_in_cues_determine_the_origin_of_a_part(self) -> None:
-        cues = find_expected_cues(self.shown)
-        for late_out_cues, late_in_cues, start in ((3, 0, 0), (0, 3, -3)):
-            sent = [(TICKS * (cue.frame + (late_in_cues if cue.letters else late_out_cues)),
-                     cue.letters) for cue in cues]
-            [part] = fit_parts(self.shown, [make_time_base(cues, sent)], [])
-            self.assertEqual(part.best.start, start)
 
 
 class Runs(unittest.TestCase):
