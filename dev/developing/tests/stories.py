@@ -34,10 +34,11 @@ def read_table(text: str) -> Iterator[Story]:
 
 
 def read_vectors(name: str) -> Iterator[Story]:
-    """Yield the rows of a file in dev/vectors. Its first line without # names the columns."""
+    """Yield the rows of a table in dev/vectors. Lines that begin with # are comments; the first
+    other line names the columns."""
     with open(os.path.join(DEV, "vectors", name), encoding="utf-8", newline="") as file:
-        yield from csv.DictReader((line for line in file if line[0] != "#"), delimiter="\t",
-                                  quoting=csv.QUOTE_NONE)
+        lines = (line for line in file if not line.startswith("#"))
+        yield from csv.DictReader(lines, delimiter="\t", quoting=csv.QUOTE_NONE, restval="")
 
 
 def first_tick(number: str) -> int:

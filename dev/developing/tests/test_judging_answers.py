@@ -15,61 +15,25 @@ from subtitles.judging.pair import PairJudge
 from subtitles.request.request import Unclear
 from .bench import Case, get_example_path, read_example_file
 from .judged import judge_files
+from .stories import read_vectors
 from .streams import TELETEXT_PID, make_stream_of_pids
 from .parts import make_part, make_shell_script
 from .transmissions import write_pipe
 from .test_judging_verdicts import make_part_verdict, read_lines
 
-# Lines of `check --all`: two faults, acceptance, frames that are trusted, and the end of a fault
+# Lines of `check --all`: two faults, acceptance, and frames that are trusted
 CONTENT = "refused 72 Content frame 00:00:05:00 row 20 column 1"
 LENGTH = "refused 38 UnitLength pes 7"
 GOOD = "accepted 10 frames 2 transmissions"
 TRUSTED, TRUSTED_FRAME = "trusted frames 00:00:06:00 00:00:07:00", 6 * 25
-ENDED = "ended 72 Content frame 00:00:07:00"
-NO_NUMBERS = [f"refused {number} Flags pes 0" for number in ("\u0663\u0663", "+33", "")]
-# Invalid lines: with a space at one end, or with a byte that is not valid UTF-8.
-EXTRA_LINES = [*(f" {one}" for one in (CONTENT, GOOD, TRUSTED, ENDED, "1 faults")),
-               *(f"{one} " for one in (GOOD, TRUSTED, ENDED, "1 faults")),
-               *(one.replace("0", "0\udcff", 1) for one in (GOOD, ENDED))]
-INVALID_LINES = ("hello", f"{GOOD} more", "accepted of course", "refused", *NO_NUMBERS[1:],
-                 *EXTRA_LINES)
-# Output of `check --all`, its exit status (negative: its signal), and the verdict (`None` for
-# invalid output)
-LISTS: list[tuple[list[str], int, str | None]] = [
-    ([GOOD], 0, "accepted"), ([GOOD, GOOD], 0, "accepted"), ([TRUSTED, GOOD], 0, "accepted"),
-    ([CONTENT, "1 faults"], 1, "refused"),
-    ([CONTENT, CONTENT, "2 faults"], 1, "refused"),
-    ([LENGTH, "ended 38 UnitLength pes 9", CONTENT, ENDED, TRUSTED, "2 faults"], 1,
-     "refused"),
-    # The output is empty, or its last line is missing.
-    ([], 0, None), ([], 1, None), ([], 2, None), ([], -9, None), ([TRUSTED], 0, None),
-    (["0 faults"], 0, None), (["0 faults"], 1, None), ([""], 0, None),
-    # The status contradicts the lines.
-    *(([GOOD], status, None) for status in (1, 2, -9, -15)),
-    *(([CONTENT, "1 faults"], status, None) for status in (0, 2, -9)),
-    # The list is truncated, or the number of faults is wrong.
-    ([CONTENT], 1, None), ([CONTENT, ENDED], 1, None),
-    ([CONTENT, "2 faults"], 1, None), ([CONTENT, LENGTH, "1 faults"], 1, None),
-    ([CONTENT, "1 faults", CONTENT], 1, None),
-    # The output has lines for both verdicts, or `accepted` is not in the last line.
-    ([CONTENT, GOOD], 0, None), ([CONTENT, GOOD, "1 faults"], 0, None),
-    ([GOOD, CONTENT, "1 faults"], 1, None), ([GOOD, "0 faults"], 0, None),
-    ([GOOD, "0 faults"], 1, None), ([GOOD, TRUSTED], 0, None),
-    # The program reports an error.
-    (["fault 91 Memory"], 2, None), (["usage 80 Every"], 2, None),
-    ([CONTENT, "fault 41 Read pes 4"], 2, None),
-    # The output contains lines in another format.
-    ([GOOD, "hello"], 0, None), (["hello", "?", GOOD], 0, None),
-    ([CONTENT, "hello", "1 faults"], 1, None), ([f"{GOOD} more"], 0, None),
-    (["accepted of course"], 0, None), (["refused", "1 faults"], 1, None),
-    (["refused 67", "1 faults"], 1, None), (["refused 3 3 Flags pes 0", "1 faults"], 1, None),
-    *(([line, "1 faults"], 1, None) for line in NO_NUMBERS),
-    *(([line, GOOD], 0, None) for line in EXTRA_LINES), ([CONTENT, EXTRA_LINES[0],
-    "1 faults"], 1, None)]
+# Lines of `check --all`, its exit status (negative: its signal), the verdict, and the reported line
+OUTPUTS: list[tuple[list[str], int, str, str]] = [
+    (json.loads(row["lines"]), int(row["status"]), row["verdict"], row["reported"])
+    for row in read_vectors("answers.tsv")]
 
 
 class Answers(Case):
-    """The outputs of `LISTS`, and the file that stores the output."""
+    """The outputs in dev/vectors/answers.tsv, and the file that stores an output."""
 
     def run_check(self, lines: list[str], status: int) -> tuple[CheckOutput, list[str], str]:
         """Run a script instead of `check`. Return the output, the reported lines and the error."""
@@ -81,20 +45,19 @@ class Answers(Case):
         return check_output, received, ""
 
     def test_gives_the_verdict_or_the_line_that_gives_none(self) -> None:
-        for lines, status, verdict in LISTS:
+        for lines, status, verdict, reported in OUTPUTS:
             check_output, received, error = self.run_check(lines, status)
-            named = next((item for item in lines if item in INVALID_LINES), "".join(lines[-1:]))
-            named, *printed = (item.replace("\udcff", "\ufffd") for item in (named, *lines))
+            printed = [item.replace("\udcff", "\ufffd") for item in lines]
             with self.subTest(lines=lines, status=status):
-                self.assertEqual(error, "" if verdict else "check gave no verdict: "
-                                 f"{named or 'it printed nothing'}, status {status}")
-                self.assertEqual(None if error else check_output.verdict, verdict)
+                self.assertEqual(error, "" if verdict else
+                                 f"check gave no verdict: {reported}, status {status}")
+                self.assertEqual("" if error else check_output.verdict, verdict)
                 # Lines are reported while `check` runs; `accepted` only if the verdict is.
                 self.assertEqual(received, [*itertools.takewhile(GOOD.__ne__, printed),
                                             *[GOOD] * (verdict == "accepted")])
 
     def test_stores_all_lines_and_counts_their_faults(self) -> None:
-        for lines, status, verdict in LISTS:
+        for lines, status, verdict, _ in OUTPUTS:
             check_output = self.run_check(lines, status)[0]
             printed = [item.replace("\udcff", "\ufffd") for item in lines]
             faults = [item for item in printed if re.match(r"refused \d+( |$)", item, re.ASCII)]

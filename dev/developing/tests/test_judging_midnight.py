@@ -18,6 +18,7 @@ from subtitles.formats.stl import GSI, TCP_PLACE, get_subtitle_times, read_store
 from .air import AirCase, DAY, SEGMENT_SECONDS
 from .bench import Case
 from .judged import JudgedPair, judge_files
+from .stories import read_vectors
 from .streams import multiplex_frames
 from .transmissions import (
     CLOSING, HEADER, Change, SentPes, join_pes_packets, make_numbered_row, packets, schedule_pages,
@@ -27,9 +28,9 @@ NOON, MIDNIGHT = FRAMES_OF_A_DAY // 2, FRAMES_OF_A_DAY  # in frames
 
 
 def make_stl(*times: str, first: bytes = b"00000000") -> bytes:
-    """Return a file with a subtitle for each TCI and TCO, such as `22:00:00:00 22:00:02:00`, and
+    """Return a file with a subtitle for each TCI and TCO, such as `22:00:00:00-22:00:02:00`, and
     the TCP `first`."""
-    codes = [text.split() for text in times]
+    codes = [text.split("-") for text in times]
     blocks = [make_subtitle_blocks(number, 0, 0, 22, 2, b"Number %d" % number)
               for number in range(1, len(codes) + 1)]
     for number, pair in enumerate(codes):
@@ -39,56 +40,28 @@ def make_stl(*times: str, first: bytes = b"00000000") -> bytes:
     return gsi[:TCP_PLACE.start] + first + gsi[TCP_PLACE.stop:] + b"".join(blocks)
 
 
-EVENING, NIGHT = "22:00:00:00 22:00:02:00", "01:00:00:00 01:00:02:00"
-# Subtitles, and the time at which their day begins: if they run over midnight, noon or another time
-# at which no subtitle is shown
-DAYS: Mapping[str, tuple[Sequence[str], str]] = {
-    "no subtitle": ([], "00:00:00:00"),
-    "a pause at midnight": ([EVENING, NIGHT], "12:00:00:00"),
-    "a subtitle over midnight": (["23:59:58:00 00:00:02:00", NIGHT], "12:00:00:00"),
-    "the last subtitle over midnight": ([EVENING, "23:59:58:00 00:00:02:00"], "12:00:00:00"),
-    "a TCO at midnight": ([EVENING, "23:59:58:00 00:00:00:00"], "12:00:00:00"),
-    "a step back by 20 hours": (["20:00:00:00 20:00:02:00", "00:00:00:00 00:00:02:00"],
-                                "12:00:00:00"),
-    "a step back by a frame less": (["19:59:59:24 20:00:02:00", "00:00:00:00 00:00:02:00"],
-                                    "00:00:00:00"),
-    "a step back by five seconds": (["10:00:10:00 10:00:12:00", "10:00:05:00 10:00:07:00"],
-                                    "00:00:00:00"),
-    "and one over midnight": ([EVENING, "21:59:55:00 21:59:57:00", NIGHT], "12:00:00:00"),
-    "over midnight twice": ([EVENING, NIGHT, EVENING, NIGHT], "00:00:00:00"),
-    "longer than a day": ([EVENING, NIGHT, "22:00:00:00 22:00:01:00"], "00:00:00:00"),
-    "a title at 00:00:00:00": (["00:00:00:00 00:00:01:00", EVENING, NIGHT], "12:00:00:00"),
-    "another subtitle at 00:00:00:00": ([EVENING, "00:00:00:00 00:00:01:00"], "12:00:00:00"),
-    "from 06:00 to 05:00": (["06:00:00:00 06:00:02:00", EVENING, NIGHT,
-                             "04:59:58:00 05:00:00:00"], "05:30:00:00"),
-    "from 13:00 on": (["13:00:00:00 13:00:02:00", EVENING, NIGHT], "12:00:00:00"),
-    "from a frame earlier on": (["12:59:59:24 13:00:02:00", EVENING, NIGHT], "07:00:01:00"),
-    "a whole day": (["06:00:00:00 06:00:02:00", EVENING, NIGHT, "05:59:58:00 05:59:59:24"],
-                    "06:00:00:00"),
-    "a TCO before its TCI": (["23:59:50:00 00:00:02:00", "23:59:55:00 23:59:57:00"],
-                             "00:00:00:00"),
-    "an invalid time": ([EVENING, "24:00:00:00 00:00:02:00", NIGHT], "12:00:00:00"),
-}
+EVENING = "22:00:00:00-22:00:02:00"
 
 
 class Times(Case):
     def test_finds_the_day_of_a_file(self) -> None:
-        for name, (times, expected) in DAYS.items():
-            self.check(name, format_frame(find_day_begin(make_stl(*times))), expected)
+        for row in read_vectors("days.tsv"):
+            data = make_stl(*filter(None, row["subtitles"].split(", ")))
+            self.check(row["name"], format_frame(find_day_begin(data)), row["day begins"])
 
     def test_moves_all_valid_times_and_the_tcp(self) -> None:
-        data = make_stl(EVENING, "23:59:58:00 00:00:02:10", "24:00:00:00 01:00:60:00",
+        data = make_stl(EVENING, "23:59:58:00-00:00:02:10", "24:00:00:00-01:00:60:00",
                         first=b"12000005")
         moved = move_times(data, NOON)
         self.check("moved by 12 hours", moved, make_stl(
-            "10:00:00:00 10:00:02:00", "11:59:58:00 12:00:02:10", "24:00:00:00 01:00:60:00",
+            "10:00:00:00-10:00:02:00", "11:59:58:00-12:00:02:10", "24:00:00:00-01:00:60:00",
             first=b"00000005"))
         self.check("moved back", move_times(moved, NOON), data)
 
     def test_a_title_at_the_beginning_keeps_its_time(self) -> None:
-        title = "00:00:00:00 00:00:01:00"
+        title = "00:00:00:00-00:00:01:00"
         self.check("times", move_times(make_stl(title, EVENING, title), NOON, True)[GSI:],
-                   make_stl(title, "10:00:00:00 10:00:02:00", "12:00:00:00 12:00:01:00")[GSI:])
+                   make_stl(title, "10:00:00:00-10:00:02:00", "12:00:00:00-12:00:01:00")[GSI:])
 
     def test_prints_the_times_of_a_subtitle_file_whose_day_begins_at_noon(self) -> None:
         with begin_day_at(NOON):

@@ -10,43 +10,14 @@ from developing.pes import make_pes_packet
 from subtitles.common.times import CLOCK, TICKS
 from subtitles.formats.stl import GSI, TTI
 from .judged import JudgedPair, judge_files
-from .stories import Story, StoryCase, first_tick, read_table
+from .stories import Story, StoryCase, first_tick, read_vectors
 from .transmissions import (
     LASTS, ORIGIN, SentPes, make_numbered_row, schedule_pages, subtitle_times, write_programme)
 
 HTML = "{http://www.w3.org/1999/xhtml}"
 FOREIGN_MARKUP = re.compile(r"<script|<link|<img|<iframe|@import|\burl\(|\bsrc=|\bon\w+="
                             r"|https?://(?!www\.w3\.org/1999/xhtml)")
-# `count` is the number of subtitles, and `sent` has words of `stories.CHANGES` and `Reports.ways`.
-# `bytes` has changed bytes of the GSI block (block 0), a TTI block or a PES packet: their offset,
-# and their value in hexadecimal digits.
-REPORTS = {story["name"]: story for story in read_table("""
-name              | count | sent                      | options     | bytes
-accepted          | 3     | as scheduled              | --within 1  |
-a valid file      | 3     | as scheduled              | --file-only |
-another page      | 3     | as scheduled              | --page 150  |
-a wrong GSI block | 3     | as scheduled              |             | block 0: 11=39
-a wrong TTI block | 8     | as scheduled              |             | block 2: 13=18
-two wrong blocks  | 8     | as scheduled              | --file-only | block 2: 3=F0; block 5: 13=18
-a wrong character | 8     | as scheduled              | --file-only | block 3: 20=E6
-late and early    | 10    | other packets before, 1 late by 2, 8 early by 3 | |
-late by 3, of 3   | 10    | 3 late by 3               | --within 3  |
-never sent        | 10    | 5 not sent, 6 not sent    |             |
-another's text    | 10    | 4 with the text of 7      |             |
-late for long     | 60    | 1-50 late by 30           |             |
-in three parts    | 24    | break +1000 before 9, break +2000 before 17, 10 late by 3 | --breaks 2 |
-in another row    | 10    | 6 in row 24               |             |
-a wrong letter    | 10    | 6 with a wrong letter     |             |
-an even byte      | 10    | 6 with an even byte       |             |
-not erased        | 10    | 6 not erased              |             |
-erased too early  | 10    | 6 erased after a second   |             |
-in a pause        | 10    | another page in a pause   |             |
-PTS off frames    | 10    | 5 a tick late             |             |
-PTS that go back  | 10    | break -250 before 8       |             |
-unreadable        | 10    | as scheduled              |             | pes 0: 45=05; pes 10: 7=05
-not repeated      | 10    | 3 not repeated            | --every 25  |
-begins late       | 10    | from subtitle 3 on        |             |
-""")}
+REPORTS = {story["name"]: story for story in read_vectors("reports.tsv")}
 BYTES = re.compile(r"(block|pes) (\d+): (\d+)=([0-9A-F]{2})")
 
 
