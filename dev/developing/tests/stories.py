@@ -100,8 +100,6 @@ ANSWERS: dict[str, Callable[[JudgedPair], str]] = {
     "sentence": lambda judged: judged.verdict.sentence,
     "causes": lambda judged: "; ".join(re.sub(r'subtitle (\d+).* at [\d:]+, ".*?": ', r"\1 ", line)
                                        for line in judged.lines("cause: ")),
-    "ranges": lambda judged: " ".join(f"{begin}-{end}"
-                                      for begin, end in judged.parts("from", "to")),
     "part verdicts": lambda judged: " ".join(word for word, in judged.parts("verdict")),
     "part 1": lambda judged: describe_part(judged, 0),
     "part 2": lambda judged: describe_part(judged, 1),

@@ -96,14 +96,12 @@ class FaultDetails(Case):
     THIRD = ["3 63 error 3 - - 4", "3 33 warning - - 3 -", "3 72 warning 3 00:00:03:03 - 3",
              "3 72 warning 3 - - 3", "3 74 warning 3 - - 5"]
 
-    def test_lists_faults_without_a_number_first_then_those_of_each_part(self) -> None:
-        self.check("three refused", self.list_faults(REFUSED, REFUSED_SUBTITLE, REFUSED), [
-            *self.UNNUMBERED, *self.FIRST, "2 50 warning 2 - - -", *self.THIRD])
-
-    def test_lists_no_fault_of_an_accepted_part(self) -> None:
-        self.check("the second", self.list_faults(REFUSED, ACCEPTED, REFUSED),
-                   [*self.UNNUMBERED, *self.FIRST, *self.THIRD])
-        self.check("all", self.list_faults(*[ACCEPTED] * 3), self.UNNUMBERED)
+    def test_lists_faults_without_a_number_first_then_those_of_each_refused_part(self) -> None:
+        for name, of_second, lines in (("three refused", REFUSED_SUBTITLE, ["2 50 warning 2 - - -"]),
+                                       ("the second accepted", ACCEPTED, [])):
+            self.check(name, self.list_faults(REFUSED, of_second, REFUSED), [
+                *self.UNNUMBERED, *self.FIRST, *lines, *self.THIRD])
+        self.check("all accepted", self.list_faults(*[ACCEPTED] * 3), self.UNNUMBERED)
 
     def test_gives_the_line_of_a_fault_without_a_number(self) -> None:
         self.check("lines", [fault["line"] for fault in self.list_results(*[ACCEPTED] * 3)], [

@@ -5,15 +5,14 @@ The recordings of `HiddenPages` send a PES packet in each frame, and a wrong pag
 """
 from __future__ import annotations
 
-import unittest
 from types import SimpleNamespace
 from typing import Any
 
 from developing.pes import STUFFING_UNIT, make_pes_packet
 from subtitles.common.times import TICKS
-from subtitles.judging.timing import (
-    describe_missing_pcr, describe_pace, describe_unchecked_losses)
+from subtitles.judging.timing import describe_pace, describe_unchecked_losses
 from subtitles.stream.pace import IRREGULAR, PAUSED, Pace, REGULAR, TOO_FEW
+from .bench import Case
 from .stories import StoryCase
 from .streams import Packet, Shape, find_teletext_places, make_multiplex, remove_packets_at
 from .transmissions import CLOSING, HEADER, SentPes, make_numbered_row, schedule_pages
@@ -143,36 +142,29 @@ def make_recording(is_stream: bool, pcr_range: tuple[int, int] | None = (0, 9)) 
                            survey=SimpleNamespace(get_pcr_range=lambda pid: pcr_range))
 
 
-class LossEvidence(unittest.TestCase):
+class LossEvidence(Case):
     def test_describes_what_would_not_be_noticed(self) -> None:
-        reason = "since there is no PES packet for up to 1701 frames"
+        stream, file = make_recording(True), make_recording(False, pcr_range=None)
         too_close = Pace(REGULAR, interval=1, loss_interval=3, hidden_places=5)
-        for is_stream, pace, words in (
-                (True, Pace(PAUSED, 1701), f"losses of 0.6 s or more on this PID alone, {reason}"),
-                (False, Pace(TOO_FEW), "missing PES packets, since there are too few PES packets "
-                 "to measure their interval"),
-                (True, too_close, "losses of up to 0.08 s on this PID alone, at 5 places where PES "
-                 "packets are too close together"),
-                (True, too_close._replace(hidden_places=0), "")):
-            self.assertEqual(describe_unchecked_losses(
-                pace, unseen_frames=15, recording=make_recording(is_stream)), words)
+        irregular = "on this PID alone, since the PES packets come at irregular intervals"
+        # The pace, the number of frames of the shortest loss that would not be noticed, and the
+        # recording
+        self.check_rows(describe_unchecked_losses, {
+            "a pause": ((Pace(PAUSED, 1701), 15, stream), "losses of 0.6 s or more on this PID "
+                        "alone, since there is no PES packet for up to 1701 frames"),
+            "a file": ((Pace(TOO_FEW), None, file), "missing PES packets, since there are too few "
+                       "PES packets to measure their interval"),
+            "too close together": ((too_close, 15, stream), "losses of up to 0.08 s on this PID "
+                                   "alone, at 5 places where PES packets are too close together"),
+            "regular": ((too_close._replace(hidden_places=0), 15, stream), ""),
+            "no PCR": ((Pace(IRREGULAR), None, make_recording(True, pcr_range=None)),
+                       "losses that the counter does not show, such as 16 TS packets, since the "
+                       "programme of PID 0x5 has no PCR"),
+            **{f"{frames} frames": ((Pace(IRREGULAR), frames, stream), f"{losses} {irregular}")
+               for frames, losses in ((None, "losses"), (0, "losses"), (2, "losses"), (
+                   3, "losses of 0.1 s or more"), (25, "losses of 1.0 s or more"))}})
 
     def test_prints_the_pace_of_a_dense_recording(self) -> None:
         pace = Pace(REGULAR, interval=1, loss_interval=3, is_dense=True)
-        self.assertEqual(describe_pace(pace, True), "pace: PES packets are at most 1 frame apart, "
-                         "with several in some frames: --pace 2")
-
-    def test_reports_the_shortest_loss_that_would_not_be_noticed(self) -> None:
-        # The number of frames of the shortest loss, and its description in tenths of a second
-        for frames, words in ((None, "losses"), (0, "losses"), (2, "losses"),
-                              (3, "losses of 0.1 s or more"), (25, "losses of 1.0 s or more")):
-            self.assertTrue(describe_unchecked_losses(
-                Pace(IRREGULAR), frames, make_recording(is_stream=True)).startswith(
-                    f"{words} on this PID"), frames)
-
-    def test_reports_that_a_programme_of_a_stream_has_no_pcr(self) -> None:
-        for is_stream, pcr_range, is_reported in ((True, None, True), (True, (0, 9), False),
-                                                  (False, None, False)):
-            text = describe_missing_pcr(make_recording(is_stream, pcr_range))
-            self.assertEqual("the programme of PID 0x5 has no PCR" in text, is_reported,
-                             (is_stream, pcr_range))
+        self.check("line", describe_pace(pace, True), "pace: PES packets are at most 1 frame "
+                   "apart, with several in some frames: --pace 2")
