@@ -9,12 +9,14 @@ from types import SimpleNamespace
 from typing import Any
 from unittest import mock
 
+from subtitles.clock.start import Clock, GIVEN, START, TCP
 from subtitles.common.markup import escape
 from subtitles.formats.listing import NamedFault
 from subtitles.formats.teletext import ENGLISH
 from subtitles.judging.part import Part
 from subtitles.judging.verdict import Gap
-from subtitles.report.page import PartView, list_waived, make_verdict_box
+from subtitles.report.page import (
+    PartView, describe_given_clock, list_waived, make_verdict_box)
 from subtitles.report.pictures import (
     CellStyle, BLANK_PAGE_ROWS, find_differences, draw_row, draw_outlines, is_boxed, draw_picture,
     find_used_rows, style_row)
@@ -166,9 +168,14 @@ class VerdictLists(Case):
         return make_part(75, 99, 0, make_answer(self.PRINTED, path=self.path(f"{number}")), number,
                          program_stl=get_example_path("story.stl"))
 
+    def test_names_the_option_that_gave_the_clock(self) -> None:
+        picture = "from the first picture (--start), 00:00:00:00 at PTS"
+        for source, words in ((GIVEN, "given: --origin"), (START, picture), (TCP, picture)):
+            self.check(source, describe_given_clock(Clock(9, source)), f"Clock {words} 9.")
+
     def test_the_box_lists_losses_and_faults_without_a_number(self) -> None:
         gaps = [Gap("00:00:01:00", None, f"{at} packets", LossPlace(1, 2, at), is_judged=at != 2)
-                for at in (1, 2, 3)]
+                for at in range(8)]
         faults = [NamedFault("not shown", f"row {at}", block=at) for at in (1, 2)]
         verdict = dataclasses.replace(make_part_verdict([make_part(0, 9, 0)]), gaps=gaps,
                                       named_faults=faults)
@@ -176,6 +183,7 @@ class VerdictLists(Case):
         for line, is_listed in (*((gap.format_line(), gap.is_judged) for gap in gaps),
                                 *((f"{fault.line}: {fault.text}", True) for fault in faults)):
             self.check(line, escape(line) in box, is_listed)
+        self.must("number of judged losses", "<summary>7 places</summary>" in box, box)
 
     def test_counts_the_waived_faults_of_all_parts(self) -> None:
         verdict = make_part_verdict([self.make_refused_part(at) for at in (1, 2)],

@@ -6,14 +6,17 @@ import re
 import xml.etree.ElementTree as tree
 from typing import Callable
 
-from developing.pes import make_pes_packet
+from developing.pes import make_packet, make_pes_packet
 from subtitles.common.times import CLOCK, TICKS
 from subtitles.formats.stl import GSI, TTI
-from .judged import JudgedPair, judge_files
+from .judged import JudgedPair, ProgrammeCase, judge_files
 from .stories import Story, StoryCase, first_tick, read_vectors
+from .streams import multiplex_frames
 from .transmissions import (
-    LASTS, ORIGIN, SentPes, make_numbered_row, schedule_pages, subtitle_times, write_programme)
+    LASTS, ORIGIN, SentPes, join_pes_packets, make_delay, make_numbered_row, packets,
+    schedule_pages, subtitle_times, write_programme)
 
+PLAIN_HEADER = make_packet(0, 0, [8, 8, 0, 8, 0, 0, 1, 0], b" " * 32)  # C4 set, C5 and C6 clear
 HTML = "{http://www.w3.org/1999/xhtml}"
 FOREIGN_MARKUP = re.compile(r"<script|<link|<img|<iframe|@import|\burl\(|\bsrc=|\bon\w+="
                             r"|https?://(?!www\.w3\.org/1999/xhtml)")
@@ -31,13 +34,16 @@ def change_first_row_of_6(sent: SentPes, change: Callable[[bytes], bytes]) -> Se
             for pts, some in sent]
 
 
+def change_letter(row: bytes) -> bytes:
+    return row[:20] + bytes([row[20] ^ 3]) + row[21:]
+
+
 class Reports(StoryCase):
     text, lines = b"\3No! <&> %d", 2
     ways = {
         "6 in row 24": lambda sent: change_first_row_of_6(
             sent, lambda row: make_numbered_row(24, b"\x0dElsewhere.")),
-        "6 with a wrong letter": lambda sent: change_first_row_of_6(
-            sent, lambda row: row[:20] + bytes([row[20] ^ 3]) + row[21:]),
+        "6 with a wrong letter": lambda sent: change_first_row_of_6(sent, change_letter),
         "6 with an even byte": lambda sent: change_first_row_of_6(
             sent, lambda row: row[:20] + bytes([row[20] ^ 0x80]) + row[21:]),
         "6 not erased": lambda sent: [item for item in sent if not (
@@ -47,6 +53,11 @@ class Reports(StoryCase):
         "another page in a pause": lambda sent: sorted([*sent, *(
             (pts + 75 * TICKS, [some[0], make_numbered_row(20, b"Elsewhere"), some[-1]])
             for pts, some in sent if pts == first_tick("2"))]),
+        "6 with a wrong letter before the right one": lambda sent: [
+            (pts, [some[0], change_letter(some[1]), *some[1:]] if is_of(pts, 6) else some)
+            for pts, some in sent],
+        "6 in a page without boxes": lambda sent: [
+            (pts, [PLAIN_HEADER, *some[1:]] if is_of(pts, 6) else some) for pts, some in sent],
         "other packets before": lambda sent: [
             (sent[0][0] - 40 * TICKS, sent[-1][1][-1:]), *sent],
         "5 a tick late": lambda sent: [(pts + (pts == first_tick("5")), some)
@@ -66,6 +77,8 @@ class Reports(StoryCase):
             data[begin + int(offset)] = int(value, 16)
         words = [] if "--file-only" in story["options"] else [
             self.write("one.pes", b"".join(pes)), "--origin", f"{ORIGIN}"]
+        lines = story["severity"].replace("; ", "\n").encode()
+        words += ["--severity", self.write("severity", lines)] if lines else []
         result = judge_files(self, self.write("one.stl", stl), *words, *story["options"].split(),
                              "-o", self.path("out"))
         return result, self.read("out/one.html").decode()
@@ -91,6 +104,32 @@ class Reports(StoryCase):
         for name, story in REPORTS.items():
             with self.subTest(name):
                 self.check_page(self.report(story)[1])
+
+
+class StreamReports(ProgrammeCase):
+    """A transport stream in which the PTS and the PCR wrap after 20 seconds."""
+
+    origin = CLOCK - 500 * TICKS
+    words = ("--origin", f"{origin}")
+
+    def test_names_length_and_range_of_the_stream_options_and_waivers(self) -> None:
+        third = self.origin + 300 * TICKS
+        late = make_delay(3, third, third + LASTS * TICKS - 1)(self.sent)
+        lines = [f'72 warning at {time} in one.stl until 2999-12-31 by "Ann": known'
+                 for time in ("00:00:12:00", "00:00:16:00")]  # the second waives nothing
+        frames = multiplex_frames(packets(join_pes_packets(late)), self.origin, 1200, rounds=1)
+        self.judge_stream(
+            b"".join(frames), "--from", "00:00:08:00", "--to", "00:00:40:00",
+            "--severity", self.write("severity", "\n".join(lines).encode()), "-o", self.path("out"))
+        page = self.read("out/one.html").decode()
+        made = dict(re.findall("<dt>(.*?)</dt><dd>(.*?)</dd>", page))
+        self.must("length", ", 0:00:47 long, last changed " in made["Recording"], made)
+        self.check("range", made["Judged"], "00:00:08:00 to 00:00:38:10, 8 subtitles")
+        self.check("options", made["Options"], f"--page 888 --every 250 --origin {self.origin} "
+                   "--option english --complete --pes 4-43 --from 00:00:08:00 --to 00:00:40:00")
+        self.check("waived", made["Waived"], "72 Content (1); 72 in the subtitle at 00:00:12:00 "
+                   "(1), until 2999-12-31, by Ann: known")
+        self.must("caption", " Into recording: counted from its first PCR." in page, page)
 
 
 @functools.lru_cache(maxsize=None)
