@@ -14,6 +14,7 @@ from subtitles.results.schema import REQUEST
 from .bench import Case
 from .parts import make_example_request
 from .results import make_result
+from .stories import read_vectors
 from .test_cli_earlier_results import PROGRAM
 from .test_judging_status import make_severity
 from .transmissions import ShownSubtitle, join_pes_packets, schedule_pages, write_subtitle_file
@@ -39,10 +40,12 @@ def replace_subtitles(changes: dict[int, ShownSubtitle | None]) -> list[ShownSub
 
 
 WRONG_TEXTS = replace_subtitles({2: (200, 260, b"Numbex 2"), 4: (400, 460, b"Numbex 4")})
-NEITHER_SENT = replace_subtitles({2: None, 3: None})
-EARLY_CUE = replace_subtitles({2: (200, 250, b"Number 2"), 3: (250, 320, b"Number 3")})
-TEXT_IN_PAUSE = sorted([*PROGRAMME, (340, 380, b"Another text")])
-NOT_ERASED = replace_subtitles({3: (260, 390, b"Number 3")})
+SENT: dict[str, Sequence[ShownSubtitle]] = {
+    "as scheduled": PROGRAMME, "two wrong texts": WRONG_TEXTS,
+    "neither 2 nor 3 sent": replace_subtitles({2: None, 3: None}),
+    "3 early": replace_subtitles({2: (200, 250, b"Number 2"), 3: (250, 320, b"Number 3")}),
+    "3 not erased": replace_subtitles({3: (260, 390, b"Number 3")}),
+    "a text in the pause after 3": sorted([*PROGRAMME, (340, 380, b"Another text")])}
 
 
 class ParsedWaivers(Case):
@@ -133,51 +136,17 @@ class WaivedSubtitles(Case):
         result: dict[str, Any] = json.loads(self.read("one.json"))
         return result
 
-    def test_waives_a_fault_only_in_the_subtitles_that_the_waivers_name(self) -> None:
+    def test_waives_a_fault_in_the_named_subtitles_or_warns_about_the_waiver(self) -> None:
         write_subtitle_file(self, PROGRAMME)
         checksum = "sha256:" + hashlib.sha256(self.read("one.stl")).hexdigest()
-        two, three, four = (make_waiver(72, number) for number in (2, 3, 4))
-        # The transmission, the lines of the severity file, the verdict, and part of its sentence
-        rows: dict[str, tuple[list[ShownSubtitle], list[str], str, str]] = {
-            "no waiver": (WRONG_TEXTS, [], REFUSED, "2 of 5 subtitles have the wrong text"),
-            "one of two": (WRONG_TEXTS, [two], REFUSED, "subtitle 4 at 00:00:16:00 has the"),
-            "the other": (WRONG_TEXTS, [four], REFUSED, "subtitle 2 at 00:00:08:00 has the"),
-            "both": (WRONG_TEXTS, [two, four], WAIVED, "2 of 5 subtitles have the wrong text"),
-            "by the checksum": (WRONG_TEXTS, [two, make_waiver(72, 4, checksum)], WAIVED, "2 of 5"),
-            "another file": (WRONG_TEXTS, [two, make_waiver(72, 4, "two.stl")], REFUSED,
-                             "subtitle 4 at"),
-            "another number": (WRONG_TEXTS, [two, make_waiver(68, 4)], REFUSED, "subtitle 4 at"),
-            "ended": (WRONG_TEXTS, [two, make_waiver(72, 4, until="2026-01-01")], REFUSED,
-                      "subtitle 4 at"),
-            "72 in all": (WRONG_TEXTS, ["72 warning"], WAIVED, "2 of 5 subtitles"),
-            "one of two in one fault": (NEITHER_SENT, [two], REFUSED,
-                                        'subtitle 3 at 00:00:10:10, "Number 3", was never'),
-            "both of one fault": (NEITHER_SENT, [two, three], WAIVED, "were never sent"),
-            "early": (EARLY_CUE, [three], REFUSED, "appeared 10 frames early"),
-            "early, and the one before": (EARLY_CUE, [two, three], WAIVED, "10 frames early"),
-            "not erased": (NOT_ERASED, [three], WAIVED, "was not erased"),
-            "a text in the pause after it": (TEXT_IN_PAUSE, [three], REFUSED, "in a pause")}
-        for name, (sent, lines, verdict, words) in rows.items():
-            result = self.judge(sent, lines)
-            self.check(f"{name}: verdict", result["verdict"], verdict)
-            self.must(f"{name}: sentence", words in result["sentence"], result["sentence"])
-
-    def test_says_which_waiver_waives_nothing(self) -> None:
-        two, three, five = (make_waiver(72, number) for number in (2, 3, 5))
-        # The transmission, the lines of the severity file, and the warnings about waivers
-        rows: dict[str, tuple[list[ShownSubtitle], list[str], list[str]]] = {
-            "all are used": (WRONG_TEXTS, [two], []),
-            "a right subtitle": (WRONG_TEXTS, ["", two, five], [
-                "the waiver in line 3, fault 72 at 00:00:20:00, waives nothing"]),
-            "the fault has another subtitle": (EARLY_CUE, [three], [
-                "the waiver in line 1, fault 72 at 00:00:10:10, waives nothing: the fault also "
-                "concerns 00:00:08:00"]),
-            "ended": (PROGRAMME, [make_waiver(72, 5, until="2026-01-01")], []),
-            "another file": (PROGRAMME, [make_waiver(72, 5, "two.stl")], [])}
-        for name, (sent, lines, expected) in rows.items():
-            result = self.judge(sent, lines)
-            self.check(name, [warning["line"] for warning in result["warnings"]
-                              if warning["kind"] == "waiver"], expected)
+        for row in read_vectors("waivers.tsv"):
+            lines = row["severity"].replace("CHECKSUM", checksum).split("; ")
+            result, name = self.judge(SENT[row["sent"]], lines), row["name"]
+            self.check(f"{name}: verdict", result["verdict"], row["verdict"])
+            self.must(f"{name}: sentence", row["sentence"] in result["sentence"], result)
+            self.check(f"{name}: warnings", [warning["line"] for warning in result["warnings"]
+                                             if warning["kind"] == "waiver"],
+                       [f"the waiver {row['warning']}"] * bool(row["warning"]))
 
     def test_the_result_names_the_waivers_and_what_they_waive(self) -> None:
         result = self.judge(WRONG_TEXTS, [

@@ -16,7 +16,7 @@ from subtitles.judging.status import (
 from subtitles.judging.transmissions import ExpectedPages
 from subtitles.report.blocks import mark_field, mark_text, mark_times, show_byte
 from subtitles.report.cue_list import CueList, CueRow, mark_difference
-from subtitles.report.page import SHAPES, draw_verdict, keep_options_together
+from subtitles.report.page import draw_verdict, keep_options_together
 from subtitles.stream.packets import Packets, PES
 from subtitles.stream.receiver import BLANK_PAGE, Rows, Timeline
 from .bench import Case
@@ -236,16 +236,14 @@ class TextMarkup(Case):
             "a value and a special character": (("--every 25 <x>",), "<b>--every 25</b> &lt;x&gt;"),
             "a dash": (("a - b",), "a - b")})
 
-    def test_draws_a_verdict_of_read_like_one_of_qc(self) -> None:
+    def test_draws_each_verdict_of_qc_otherwise_and_those_of_read_like_them(self) -> None:
+        words = (ACCEPTED, VALID, WAIVED, RELATIVE, REFUSED, LOST, WARNED, NOT_JUDGED)
+        drawn = [draw_verdict(word) for word in words]
+        self.check("classes", len({name for name, _ in drawn}), len(words))
+        self.check("shapes", len({markup_text(shape) for _, shape in drawn}), len(words))
         for reading, pair in ((AS_SHOWN, ACCEPTED), (NOT_READ, NOT_JUDGED), (WITH_FAULTS, REFUSED),
                               (SAME, ACCEPTED), (DIFFERS, REFUSED)):
             self.check(reading, draw_verdict(reading)[0], draw_verdict(pair)[0])
-
-    def test_gives_each_verdict_of_qc_a_class_and_a_shape(self) -> None:
-        words = (ACCEPTED, VALID, WAIVED, RELATIVE, REFUSED, LOST, WARNED, NOT_JUDGED)
-        self.check("all", set(SHAPES), {*words, AS_SHOWN, NOT_READ, SAME})
-        self.check("classes", len({kind for kind, _ in SHAPES.values()}), len(words))
-        self.check("shapes", len({markup_text(drawn) for _, drawn in SHAPES.values()}), len(words))
 
 
 class RefusedFiles(Case):
