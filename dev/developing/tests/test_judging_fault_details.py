@@ -85,21 +85,24 @@ class FaultDetails(Case):
         """Return a line with the values of each fault that the comment below names."""
         return [" ".join("-" if value is None else f"{value}" for value in (
             fault["part"], fault["number"], fault["severity"],
-            fault["subtitle"] and fault["subtitle"]["position"], fault["last_time"],
-            fault["last_pes"], fault["cause"] and fault["cause"]["subtitle"]["position"]))
+            fault["subtitle"] and fault["subtitle"]["position"], fault["time"], fault["row"],
+            fault["column"], fault["last_time"], fault["last_pes"],
+            fault["cause"] and fault["cause"]["subtitle"]["position"]))
                 for fault in self.list_results(*outputs)]
 
-    # Part, number, severity, subtitle, last frame, last PES packet, and subtitle of the cause.
-    UNNUMBERED = ["3 - warning 3 00:00:09:00 - -", "1 - error 2 - - -"]
-    FIRST = ["1 63 error 1 - - 2", "1 33 warning - - 3 -", "1 72 warning 1 00:00:01:03 - 1",
-             "1 72 warning 1 - - 1", "1 74 warning 1 - - 3"]
-    THIRD = ["3 63 error 3 - - 4", "3 33 warning - - 3 -", "3 72 warning 3 00:00:03:03 - 3",
-             "3 72 warning 3 - - 3", "3 74 warning 3 - - 5"]
+    # Part, number, severity, subtitle, frame, row, column, last frame, last PES packet, and the
+    # subtitle of the cause.
+    UNNUMBERED = ["3 - warning 3 00:00:03:07 - - 00:00:09:00 - -", "1 - error 2 - - - - - -"]
+    FIRST = ["1 63 error 1 00:00:01:01 - - - - 2", "1 33 warning - - - - - 3 -",
+             "1 72 warning 1 00:00:01:02 1 2 00:00:01:03 - 1",
+             "1 72 warning 1 00:00:01:04 1 0 - - 1", "1 74 warning 1 00:00:01:05 - - - - 3"]
+    THIRD = ["3 63 error 3 00:00:03:01 - - - - 4", "3 33 warning - - - - - 3 -",
+             "3 72 warning 3 00:00:03:02 1 2 00:00:03:03 - 3",
+             "3 72 warning 3 00:00:03:04 1 0 - - 3", "3 74 warning 3 00:00:03:05 - - - - 5"]
 
     def test_lists_faults_without_a_number_first_then_those_of_each_refused_part(self) -> None:
-        for name, of_second, lines in (("three refused", REFUSED_SUBTITLE, ["2 50 warning 2 - - -"]),
-                                       ("the second accepted", ACCEPTED, [])):
-            self.check(name, self.list_faults(REFUSED, of_second, REFUSED), [
+        for second, lines in ((REFUSED_SUBTITLE, ["2 50 warning 2 - - - - - -"]), (ACCEPTED, [])):
+            self.check(f"{second}", self.list_faults(REFUSED, second, REFUSED), [
                 *self.UNNUMBERED, *self.FIRST, *lines, *self.THIRD])
         self.check("all accepted", self.list_faults(*[ACCEPTED] * 3), self.UNNUMBERED)
 
