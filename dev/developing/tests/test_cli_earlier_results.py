@@ -119,7 +119,8 @@ class StoredResults(Case):
             self.must(f"{data[:9]!r}", reason in result["reason"], result)
 
     def test_makes_a_table_row_of_each_result(self) -> None:
-        faults = [{**FAULT, "line": f"refused {number}", "number": 5, "name": "X"}
+        faults = [{**FAULT, "line": f"refused {number}", "number": 5, "name": "X",
+                   "frame": number}
                   for number in range(120)]
         causes = {"late": 2, "early": 1}
         row = make_row(make_result(faults=faults, fault_count=7, seconds=1.5, hints=["72: a hint"],

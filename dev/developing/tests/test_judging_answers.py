@@ -44,10 +44,11 @@ class Answers(Case):
             return check_output, received, error.reason
         return check_output, received, ""
 
-    def test_gives_the_verdict_or_the_line_that_gives_none(self) -> None:
+    def test_gives_the_verdict_or_the_line_that_gives_none_and_stores_all_lines(self) -> None:
         for lines, status, verdict, reported in OUTPUTS:
             check_output, received, error = self.run_check(lines, status)
             printed = [item.replace("\udcff", "\ufffd") for item in lines]
+            faults = [item for item in printed if re.match(r"refused \d+( |$)", item, re.ASCII)]
             with self.subTest(lines=lines, status=status):
                 self.assertEqual(error, "" if verdict else
                                  f"check gave no verdict: {reported}, status {status}")
@@ -55,13 +56,6 @@ class Answers(Case):
                 # Lines are reported while `check` runs; `accepted` only if the verdict is.
                 self.assertEqual(received, [*itertools.takewhile(GOOD.__ne__, printed),
                                             *[GOOD] * (verdict == "accepted")])
-
-    def test_stores_all_lines_and_counts_their_faults(self) -> None:
-        for lines, status, verdict, _ in OUTPUTS:
-            check_output = self.run_check(lines, status)[0]
-            printed = [item.replace("\udcff", "\ufffd") for item in lines]
-            faults = [item for item in printed if re.match(r"refused \d+( |$)", item, re.ASCII)]
-            with self.subTest(lines=lines, status=status):
                 self.assertEqual([*check_output.read_lines()], printed)
                 self.assertEqual(check_output.fault_count, len(faults))
                 self.assertEqual(check_output.fault_numbers,
@@ -104,20 +98,15 @@ class Answers(Case):
             self.assertEqual(pair.stop("10:00"), "10:00", "a second call has no effect")
         self.assertEqual(len(verdict.parts), 2)
 
-    def test_a_moved_list_keeps_its_lines(self) -> None:
+    def test_a_moved_list_keeps_its_lines_unless_the_file_alone_is_valid(self) -> None:
         result = read_lines(self, [CONTENT, "1 faults"])
         result.finish(1)
         result.move_file(self.path("other"))
         self.assertEqual((result.path, [*result.read_lines()]),
                          (self.path("other"), [CONTENT, "1 faults"]))
-
-    def test_a_subtitle_file_alone_has_no_lines_if_it_is_valid(self) -> None:
-        result = read_lines(self, [CONTENT, "1 faults"])
-        result.finish(1)
         result.accept_file("2 subtitles")
-        self.assertEqual((result.verdict, result.line), ("valid", "2 subtitles"))
-        self.assertEqual((result.fault_count, result.fault_numbers, [*result.read_lines()]),
-                         (0, set(), []))
+        self.assertEqual((result.verdict, result.line, result.fault_count, result.fault_numbers,
+                          [*result.read_lines()]), ("valid", "2 subtitles", 0, set(), []))
         self.assertFalse(result.summarize(False).is_read)
 
 

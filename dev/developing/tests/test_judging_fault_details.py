@@ -182,12 +182,10 @@ class FaultDetails(Case):
 
     def test_gives_no_hint_on_a_header_in_an_unread_part(self) -> None:
         line = "refused 67 X frame 00:00:01:00"
-        part = self.make_read_part([line], [(25 * TICKS, [NO_C4, CLOSING])],
-                                   write_programme(self, [(25, 50)]))
-        for name, some, has_hint in (("read", part, True),
-                                     ("unread", dataclasses.replace(part, pes=None), False)):
-            hint = describe_first_hint(parse_single_fault(line), some, make_part_verdict([some]))
-            self.check(name, "C4 (erase page) is clear" in hint, has_hint)
+        part = dataclasses.replace(self.make_read_part([line], [(25 * TICKS, [NO_C4, CLOSING])],
+                                                       write_programme(self, [(25, 50)])), pes=None)
+        hint = describe_first_hint(parse_single_fault(line), part, make_part_verdict([part]))
+        self.check("C4 is clear", "C4 (erase page) is clear" in hint, False)
 
     def test_finds_the_code_of_a_received_cell(self) -> None:
         cells = (bytes([0x41, HIT, OLD, 0x01]).ljust(40), *BLANK_PAGE[1:])

@@ -114,19 +114,6 @@ SENTENCES = {
     "frames; 59 faults in all."}
 
 
-class ProgrammeSentences(StoryCase):
-    due, first = subtitle_times(20), 50
-
-    def test_says_what_is_wrong_with_the_programme(self) -> None:
-        mild = self.write("mild", b"73 warning\n")
-        for story, sentence in SENTENCES.items():
-            sent, _, options = story.partition(" --")
-            judged = self.tell(sent, "--origin", f"{ORIGIN}", *(
-                f"--{options}".replace("mild", mild).split() if options else ()))
-            self.check(f"{story}: result", judged.sentence, sentence)
-            self.check(f"{story}: last line but one", judged.said[-2][:len(sentence)], sentence)
-
-
 # Options for a programme that is sent twice, the verdict, and by how many frames the clock of the
 # judged airing differs from the first. `first`, `second` and `none` are the PES packets of the
 # first airing, of the second, and none that was sent; 0 is the origin of the first airing.
@@ -145,6 +132,15 @@ class Sentences(StoryCase):
 
     due, first = subtitle_times(20), 50
     words = ("--origin", f"{ORIGIN}")
+
+    def test_says_what_is_wrong_with_the_programme(self) -> None:
+        mild = self.write("mild", b"73 warning\n")
+        for story, sentence in SENTENCES.items():
+            sent, _, options = story.partition(" --")
+            judged = self.tell(sent, *self.words, *(
+                f"--{options}".replace("mild", mild).split() if options else ()))
+            self.check(f"{story}: result", judged.sentence, sentence)
+            self.check(f"{story}: last line but one", judged.said[-2][:len(sentence)], sentence)
 
     def test_names_a_subtitle_by_its_place_and_number(self) -> None:
         result = self.judge(self.change("3 late by 7")).result

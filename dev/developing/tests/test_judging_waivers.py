@@ -2,7 +2,6 @@
 from __future__ import annotations
 
 import hashlib
-import json
 from typing import Any, Sequence
 
 from subtitles.common.command_line import Stop
@@ -12,6 +11,7 @@ from subtitles.judging.waivers import Waiver, choose_waivers, is_waiver, parse_w
 from subtitles.results.files import describe_inputs, is_current
 from subtitles.results.schema import REQUEST
 from .bench import Case
+from .judged import judge_files
 from .parts import make_example_request
 from .results import make_result
 from .stories import read_vectors
@@ -61,7 +61,8 @@ class ParsedWaivers(Case):
             self.check(name, parse_waiver("file", 7, line).file, file)
 
     def test_distinguishes_a_waiver_from_other_lines(self) -> None:
-        for line, expected in ((LINE, True), (f"# {LINE}", False), ("72 warning", False)):
+        for line, expected in ((LINE, True), (f"\t{LINE}", True), (f"# {LINE}", False),
+                               ("72 warning", False)):
             self.check(line, is_waiver(line), expected)
 
     def test_refuses_a_wrong_waiver(self) -> None:
@@ -124,17 +125,18 @@ class ParsedWaivers(Case):
 class WaivedSubtitles(Case):
     """A subtitle file `one.stl` with `PROGRAMME`, and recordings that differ from it."""
 
+    def judge_with(self, severity: Sequence[str], *args: str) -> dict[str, Any]:
+        """Judge files with the lines of a severity file. Return the JSON result."""
+        path = self.write("severity", "\n".join(severity).encode())
+        return judge_files(self, *args, "--severity", path).result
+
     def judge(self, sent: Sequence[ShownSubtitle], severity: Sequence[str],
               programme: Sequence[ShownSubtitle] = PROGRAMME) -> dict[str, Any]:
-        """Judge a transmission by `programme` with a severity file. Return the JSON result."""
-        own = write_subtitle_file(self, sent, "sent.stl")
-        recording = self.write("one.pes", join_pes_packets(schedule_pages(self, own)))
-        stl = write_subtitle_file(self, programme)
-        self.write("severity", "\n".join(severity).encode())
-        self.tool("qc", stl, recording, "--origin", "0", "--every", "25", "--severity",
-                  self.path("severity"), "--json", self.path("one.json"), "-p", self.bench.program)
-        result: dict[str, Any] = json.loads(self.read("one.json"))
-        return result
+        """Judge a transmission by `programme` with the lines of a severity file."""
+        pages = schedule_pages(self, write_subtitle_file(self, sent, "sent.stl"))
+        return self.judge_with(
+            severity, write_subtitle_file(self, programme),
+            self.write("one.pes", join_pes_packets(pages)), "--origin", "0", "--every", "25")
 
     def test_waives_a_fault_in_the_named_subtitles_or_warns_about_the_waiver(self) -> None:
         write_subtitle_file(self, PROGRAMME)
@@ -179,10 +181,8 @@ class WaivedSubtitles(Case):
             ([], "Refused: in subtitle 2 at"), ([two], "Refused: in subtitle 4 at"),
             ([two, four], "Waived, ")]
         for lines, words in rows:
-            self.write("severity", "\n".join(lines).encode())
-            process = self.tool("qc", "--file-only", stl, "--severity", self.path("severity"), "-p",
-                                self.bench.program)
-            self.check(f"{lines}", words in process.out.decode(), True)
+            sentence = self.judge_with(lines, stl)["sentence"]
+            self.check(f"{lines}", sentence[:len(words)], words)
 
     def test_a_refused_subtitle_needs_a_waiver_for_the_unknown_page_too(self) -> None:
         # Byte 9F is a fault 51, and makes the expected page unknown, which is fault 78.

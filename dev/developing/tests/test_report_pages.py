@@ -10,17 +10,19 @@ from typing import Any
 from unittest import mock
 
 from subtitles.clock.start import Clock, GIVEN, START, TCP
+from subtitles.common.files import SummedFile
 from subtitles.common.markup import escape
 from subtitles.formats.listing import NamedFault
 from subtitles.formats.teletext import ENGLISH
 from subtitles.judging.part import Part
 from subtitles.judging.verdict import Gap
 from subtitles.report.page import (
-    PartView, describe_given_clock, list_waived, make_verdict_box)
+    PartView, describe_given_clock, list_waived, make_footer, make_verdict_box)
 from subtitles.report.pictures import (
     CellStyle, BLANK_PAGE_ROWS, find_differences, draw_row, draw_outlines, is_boxed, draw_picture,
     find_used_rows, style_row)
 from subtitles.report.timeline import Lanes
+from subtitles.request.commands import CommandPaths
 from subtitles.stream.gaps import LossPlace
 from subtitles.stream.receiver import BLANK_PAGE, HIT, OLD, Rows
 from .bench import Case, get_example_path
@@ -189,6 +191,14 @@ class VerdictLists(Case):
         verdict = make_part_verdict([self.make_refused_part(at) for at in (1, 2)],
                                     make_severity("68 warning"))
         self.check("waived", [*list_waived(verdict)], ["68 Parity (4)"])
+
+    def test_lists_the_pes_file_of_each_part(self) -> None:
+        parts = [dataclasses.replace(part, judged_file=SummedFile(f"{part.number}.pes", 5, "sum"))
+                 for part in map(self.make_refused_part, (1, 2))]
+        footer = markup_text(make_footer(make_part_verdict(parts),
+                                         CommandPaths("tools/qc", self.bench.program)))
+        self.check("names", re.findall('>PES</th><td class="long">(.*?)<', footer),
+                   ["1.pes", "2.pes"])
 
     def test_marks_the_waived_faults_of_a_number(self) -> None:
         part = self.make_refused_part(1)
