@@ -92,7 +92,7 @@ class HiddenPages(StoryCase):
         self.check_answers("an additional PES packet", judged, {"pace": "2"})
         self.check("note", [note for note in judged.notes if note == TOO_CLOSE], [TOO_CLOSE])
 
-    def test_finds_a_lost_pes_packet_at_an_announced_jump_of_the_counter(self) -> None:
+    def test_finds_lost_pes_packets_at_an_announced_jump_of_the_counter(self) -> None:
         stream = self.make_stream_packets(self.send_wrong_page(), size=3)
         self.check_answers("received", self.judge_stream(stream), WRONG_PAGE_REPORTED)
         for options, verdict in (((), "lost"), (("--pace", "none"), "lost"),
@@ -101,9 +101,6 @@ class HiddenPages(StoryCase):
             self.check_answers(f"{options}", judged, {"verdict": verdict, "losses judged": "True"})
             self.must(f"{options}: line", ANNOUNCED in judged.told, judged.told)
             self.check(f"{options}: output of check", judged.listed[-1].split()[0], "accepted")
-
-    def test_refuses_larger_losses_at_an_announced_jump_of_the_counter(self) -> None:
-        stream = self.make_stream_packets(self.send_wrong_page(), size=3)
         for name, count, line in (
                 ("one PES packet and two thirds of another", 5, "refused 45 Lost pes 300"),
                 ("two PES packets", 6, SILENT_STREAM["line"])):
