@@ -147,11 +147,9 @@ class OpenSubtitles(Case):
             self.check(f"{dsc!r}: the hint is the remedy",
                        judged.result["faults"][0]["remedy"] == hint, bool(kind))
 
-    def test_refuses_another_dsc_with_the_option_open(self) -> None:
+    def test_judges_open_subtitles_with_the_option_open_and_refuses_another_dsc(self) -> None:
         judged = judge_files(self, write_texts(self, self.TEXTS, "open.stl", b"3"), "--open")
-        self.check("line", judged.result["line"], "refused 13 Display block 0")
-
-    def test_judges_open_subtitles_with_the_option_open(self) -> None:
+        self.check("another DSC: line", judged.result["line"], "refused 13 Display block 0")
         for dsc in (b"0", b" "):
             stl = write_texts(self, self.TEXTS, "open.stl", dsc)
             self.check(f"{dsc!r}: a file", judge_files(self, stl, "--open").word, "valid")
