@@ -101,7 +101,8 @@ class FaultDetails(Case):
              "3 72 warning 3 00:00:03:04 1 0 - - 3", "3 74 warning 3 00:00:03:05 - - - - 5"]
 
     def test_lists_faults_without_a_number_first_then_those_of_each_refused_part(self) -> None:
-        for second, lines in ((REFUSED_SUBTITLE, ["2 50 warning 2 - - - - - -"]), (ACCEPTED, [])):
+        for second, lines in ((REFUSED_SUBTITLE, ["2 50 warning 2 - - - - - -"]),
+                              (ACCEPTED, list[str]())):
             self.check(f"{second}", self.list_faults(REFUSED, second, REFUSED), [
                 *self.UNNUMBERED, *self.FIRST, *lines, *self.THIRD])
         self.check("all accepted", self.list_faults(*[ACCEPTED] * 3), self.UNNUMBERED)
