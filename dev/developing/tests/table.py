@@ -30,7 +30,7 @@ def rows() -> dict[str, list[str]]:
 def get_module_path(name: str) -> str:
     """Return a module's name in tests.tsv, such as `stream/gaps.py`, from a path or dotted name."""
     path = name.removeprefix("tools/").removeprefix(PACKAGE).removeprefix("subtitles.")
-    is_path = "/" in path or path.endswith(".py") or "." not in path
+    is_path = "/" in name or path.endswith(".py") or "." not in path
     return path if is_path else path.replace(".", "/") + ".py"
 
 

@@ -186,6 +186,7 @@ class Installation(Case):
             self.check(f"missing options of {name}",
                        options - complete_words("subttx", name, "-"), set())
         self.check("values", complete_words("subttx", "check", "--option", "g"), {"german"})
+        self.check("a part of a command", complete_words("subttx", "packet"), {"packet", "packets"})
         words = complete_words(get_tool_path("qc"), "-")
         self.must("qc", {"--batch", "--allow-lost", "--severity", "-o"} <= words, words)
 

@@ -26,7 +26,7 @@ COPIED_SOURCES = {"lib.rt", "parity.rt", "Lib.antt"}  # names of sources that a 
 OMITTED = {"out", "must-fail", "release-edits", "__pycache__", "vectors", "transcripts"}
 USAGE_FAULT = b"usage 0 Words\n"  # what the program prints about wrong arguments
 HELP_REQUESTS = [["--help"], ["-h"], ["help"], ["help", "check"], ["check", "--help"],
-                 ["-h", "survey"]]
+                 ["check", "-h"], ["-h", "survey"]]
 
 
 def list_omitted_names(folder: str, names: list[str]) -> set[str]:
@@ -259,11 +259,12 @@ class Clones(Case):
         self.clone.add_comment()
         self.clone.put("dist", self.bench.program)
         self.clone.check_runs("dist/, where out/ is older")
+        self.clone.check_comparison("out/ does not have the program of these sources", failed=1)
 
-    def note_log(self, kept: Iterable[str]) -> CompletedCall:
+    def note_log(self, kept: Iterable[str], *sums: str) -> CompletedCall:
         """Let dev/release store the prover's lines about all crates but `kept`."""
         self.clone.write("log", make_log(self.clone, kept))
-        return self.clone.release("--note", self.clone.path("log"))
+        return self.clone.release("--note", self.clone.path("log"), *sums)
 
     def test_does_not_release_a_program_without_the_line_of_each_crate(self) -> None:
         self.clone.build()
@@ -293,9 +294,12 @@ class Clones(Case):
         self.clone.check_runs("dist/")
 
     def test_release_keeps_lines_of_unchanged_sources(self) -> None:
+        """The sources of ttx_packet change after the prover was called."""
         self.clone.build()
+        sums = "\n".join(f"{name} {digest}" for name, digest in self.clone.crates.items())
+        self.clone.write("sums", sums)
         self.clone.add_comment()
-        self.note_log(kept=self.clone.crates)
+        self.note_log({*self.clone.crates} - {"ttx_packet"}, self.clone.path("sums"))
         self.clone.release("--keep")
         reported = parse_proved(read(self.clone.path("out", "PROVED"))).crates
         self.check("without a line", {*self.clone.crates} - {*reported}, {"ttx_packet"})
@@ -326,7 +330,7 @@ FIRST
 for word; do
     case $word in *=*/out/libraries/*.rlib) [ -e "${word#*=}" ] || exit 2 ;; esac
 done
-[ "$crate" = 'FAILS' ] && echo 'a goal is open' && exit 1
+[ "$crate" = 'FAILS' ] && echo 'LINE' && echo 'a goal is open' && exit 1
 echo 'LINE'
 : >"$word"
 """
@@ -388,7 +392,8 @@ class ProvingClones(Case):
         clone = BareClone(self, fails="ttx_page")
         process = clone.start()
         self.check("status, output", (process.status, process.out), (2, b""))
-        self.must("its messages", "a goal is open" in process.told and LINE not in process.told
+        self.must("only its messages", process.told[-3:-1] == [LINE, "a goal is open"]
+                  and process.told.count(LINE) == 1
                   and process.told[-1].startswith("subttx: ttx_page was not proved"), process)
         clone.check_nothing_is_left()
 
@@ -404,7 +409,7 @@ class ProvingClones(Case):
         clone = BareClone(self)
         self.check("all at first", sorted(clone.prove()), sorted(clone.crates))
         self.check("then none", clone.prove(), [])
-        clone.add_comment(os.path.join("crates", "sub_check", "src", "lib.rt"))
+        clone.add_comment(os.path.join("crates", "sub_check", "proofs", "Lib.antt"))
         self.check("after a change", clone.prove(), [
             "sub_check", "sub_answer", "sub_headline", "subttx"])
         self.check("all with --anew", sorted(clone.prove("--anew")), sorted(clone.crates))

@@ -211,15 +211,20 @@ class SelectedTests(Case):
                 ("stream/layout.py", "stream/layout.py"), ("stream.layout", "stream/layout.py"),
                 ("tools/subtitles/stream/layout.py", "stream/layout.py"),
                 ("subtitles.stream.layout", "stream/layout.py"), ("tools/qc", "qc"),
-                ("dev/dist", "dev/dist"), ("air/judge.py", "air/judge.py")):
+                ("dev/dist", "dev/dist"), ("air/judge.py", "air/judge.py"),
+                ("tools/completion.bash", "completion.bash")):
             self.check(name, table.get_module_path(name), module)
 
-    def test_the_table_has_a_row_for_each_module_of_the_tools(self) -> None:
-        folder = os.path.join(TOP, "tools", "subtitles")
-        modules = {os.path.relpath(path, folder) for path in glob.glob(
-            os.path.join(folder, "**", "*.py"), recursive=True)}
-        self.check("rows", {row for row in table.rows() if row.endswith(".py")},
-                   {item for item in modules if not item.endswith("__init__.py")})
+    def test_the_table_has_a_row_for_each_module_of_the_tools_and_each_script(self) -> None:
+        paths = [path for form in ("tools/subtitles/**/*.py", "tools/*", "dev/*", "bench/*",
+                                   ".ci/*", "subttx")
+                 for path in glob.glob(os.path.join(TOP, form), recursive=True)]
+        expected = {table.get_module_path(os.path.relpath(path, TOP)) for path in paths
+                    if os.path.isfile(path) and not path.endswith(("__init__.py", ".txt"))}
+        self.must("files", {"clock/start.py", "qc", "dev/dist"} < expected, expected)
+        self.check("files without a row", expected - {*table.rows()}, set())
+        self.check("rows of no file", {row for row in table.rows() if row.endswith(".py")
+                                       and not row.startswith("dev/")} - expected, set())
 
     def test_each_row_of_the_table_has_existing_classes(self) -> None:
         classes = self.list_classes()
