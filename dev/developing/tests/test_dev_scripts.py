@@ -82,46 +82,6 @@ class Gate(Case):
                        expected_stages)
 
 
-EDIT = "sub_packets/must-fail/check_accepts_another_packet_of_a_row"
-OTHER_EDIT = "sub_packets/must-fail/check_accepts_a_header_that_does_not_erase_the_page"
-REFUSED = ("note: src/packet_rules.rt:5:1: it is not proved that a (`returns`)\n"
-           "fn sub_packets::packet_rules::row: not proved\nlogic=not-proved\n")
-
-# What the prover prints about EDIT, its status, and the last line and status of dev/edits
-EDIT_CASES = {
-    "not proved": (REFUSED, 1, "1 refused, 0 not refused", 0),
-    "proved": ("logic=proved functions=3\n", 0, "0 refused, 1 not refused", 1),
-    "a syntax error in the sources": ("src/packet_rules.rt:5:1: error: a `;` is missing\n", 1,
-                                      "0 refused, 1 not refused", 1),
-    "a syntax error beside a goal": (f"src/packet_rules.rt:5:1: error: no\n{REFUSED}", 1,
-                                     "0 refused, 1 not refused", 1),
-    "the prover was killed": ("", 137, "0 refused, 1 not refused", 1),
-}
-
-
-class Edits(Case):
-    """dev/edits with a script in place of the prover `rt`."""
-
-    def test_counts_only_edits_that_the_prover_refused(self) -> None:
-        for name, (output, status, last, expected_status) in EDIT_CASES.items():
-            self.write("output", output.encode())
-            rt = self.write_program("rt", f"#!/bin/sh\ncat '{self.path('output')}'\n"
-                                          f"exit {status}\n")
-            process = self.call([get_tool_path("edits"), EDIT], env={**os.environ, "RT": rt})
-            self.check(f"{name}: last line", process.out.decode().splitlines()[-1], last)
-            self.check(f"{name}: status", process.status, expected_status)
-
-    def test_fails_if_one_of_two_edits_is_not_refused(self) -> None:
-        self.write("output", REFUSED.encode())
-        # The first call refuses its edit; the other, for which `mkdir` fails, does not.
-        rt = self.write_program("rt", "#!/bin/sh\ncd '{0}'\nmkdir called 2>/dev/null || exit 0\n"
-                                      "cat output\nexit 1\n".format(self.folder))
-        process = self.call([get_tool_path("edits"), EDIT, OTHER_EDIT],
-                            env={**os.environ, "RT": rt})
-        self.check("status and last line", (process.status, process.out.decode().splitlines()[-1]),
-                   (1, "1 refused, 1 not refused"))
-
-
 # A command in a document, its output, and each status that agrees with it; `None` is the status of
 # a command that exceeded a time limit
 STATUS_CASES: dict[str, tuple[str, str, list[int | None]]] = {

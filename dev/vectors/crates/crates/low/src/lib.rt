@@ -1,0 +1,22 @@
+//! Doubles numbers.
+//!
+//! Uses no other crate.
+ghost use Rattle.low.specs.Numbers.{IsDouble, IsEven};
+
+/// Returns twice the number.
+pub fn double(n: u8) -> u8
+    requires small { n < 100 }
+    ensures twice { IsDouble n result }
+    ensures even { IsEven result }
+{
+    sum(n, n)
+}
+
+fn sum(a: u8, b: u8) -> u8 {
+    a + b
+}
+
+#[test]
+fn doubles_two() {
+    assert!(double(2) == 4);
+}

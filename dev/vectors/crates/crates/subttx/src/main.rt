@@ -1,0 +1,6 @@
+//! The program.
+use low::double;
+
+fn main() {
+    double(1);
+}
