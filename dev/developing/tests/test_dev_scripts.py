@@ -16,7 +16,7 @@ from developing.shown import has_expected_status
 from developing.surveying.streams import make_random_recording
 from subtitles.common.command_line import Stop
 from subtitles.common.program import TOP, read
-from .bench import Case, get_tool_path, import_script
+from .bench import Case, CompletedCall, get_tool_path, import_script
 from .failures import MAX_LINES_PRINTED
 from .runner import Counts
 from .test_dev_gate import COUNT_CASES
@@ -50,32 +50,59 @@ GATE_CASES: dict[str, tuple[str, str, int, str, list[str]]] = {
 }
 
 
+# Arguments of .ci/run, the status of `rt ci`; the status of .ci/run, and the calls of scripts
+NAMED_CASES: dict[str, tuple[list[str], int, int, list[str]]] = {
+    "two crates": (["low", "high"], 0, 0, ["rt ci low high", "dev/release --note"]),
+    "a crate that is not proved": (["low"], 1, 1, ["rt ci low", "dev/release --note"]),
+    "anew": (["--anew"], 0, 0, [
+        "dev/edits --applies", "dev/graph --heads", "rt ci --anew", "dev/release --note",
+        "dev/release --keep", "tools/check-program -p", "dev/release --compare"]),
+}
+
+
 def make_stage(name: str, line: str, status: int) -> str:
-    """Return a script that adds its name to $STAGES, prints two lines and ends with a status."""
+    """Return a script that adds its name to $STAGES, prints two lines and ends with a status.
+
+    It adds its name and arguments, up to an option, to $CALLS.
+    """
     # dev/release is also called to store lines and to keep the program, which is no stage.
-    condition = '[ "$1" = --compare ] || exit 0\n' if name == "dev/release" else ""
-    return (f'#!/bin/sh\n{condition}echo {name} >>"$STAGES"\necho "first line of {name}"\n'
+    condition = '[ "$1" = --compare ] || exit 0\n' if name == "dev/release" else \
+        '[ "$1" = help ] && echo "  rt ci [NAME ..]" && exit\n'
+    return (f'#!/bin/sh\ncase $1 in -*) calls=$1 ;; *) calls=$* ;; esac\n'
+            f'[ "$1" = help ] || echo {name} $calls >>"$CALLS"\n'
+            f'{condition}echo {name} >>"$STAGES"\necho "first line of {name}"\n'
             f'echo "{line}"\nexit {status}\n')
 
 
 class Gate(Case):
     """A copy of .ci/run, whose stages are scripts that only print what STAGES or a row says."""
 
+    def run_gate(self, folder: str, changed: str, line: str, status: int,
+                 *args: str) -> CompletedCall:
+        """Run a copy of .ci/run in a new folder. One stage prints `line` and has a status."""
+        for part in (".ci", "bin", "dev", "tools"):
+            os.makedirs(self.path(f"{folder}/{part}"))
+        shutil.copy(GATE, self.path(f"{folder}/.ci/run"))
+        for stage, usual_line in STAGES.items():
+            text = make_stage(stage, line, status) if stage == changed else \
+                make_stage(stage, usual_line, 0)
+            self.write_program(f"{folder}/{stage if '/' in stage else f'bin/{stage}'}", text)
+        self.write_program(f"{folder}/tools/sources", "#!/bin/sh\necho sum\n")
+        env = {**os.environ, "PATH": f"{self.path(folder)}/bin:{os.environ['PATH']}",
+               "STAGES": self.path(f"{folder}/stages"), "CALLS": self.path(f"{folder}/calls")}
+        env.pop("CI", None)
+        return self.call(["bash", self.path(f"{folder}/.ci/run"), *args], env=env)
+
+    def test_proves_only_the_crates_that_are_named_and_passes_on_anew(self) -> None:
+        for name, (args, rt_status, status, calls) in NAMED_CASES.items():
+            process = self.run_gate(name, "rt", STAGES["rt"], rt_status, *args)
+            self.check(f"{name}: status", process.status, status)
+            self.check(f"{name}: calls", self.read(f"{name}/calls").decode().splitlines(), calls)
+
     def test_adds_the_counts_of_its_stages_and_stops_if_one_of_the_first_three_fails(self) -> None:
         for name, (changed, line, status, last, expected_stages) in GATE_CASES.items():
             folder = name.replace(" ", "-").replace("/", "")
-            for part in (".ci", "bin", "dev", "tools"):
-                os.makedirs(self.path(f"{folder}/{part}"))
-            shutil.copy(GATE, self.path(f"{folder}/.ci/run"))
-            for stage, usual_line in STAGES.items():
-                text = make_stage(stage, line, status) if stage == changed else \
-                    make_stage(stage, usual_line, 0)
-                self.write_program(f"{folder}/{stage if '/' in stage else f'bin/{stage}'}", text)
-            self.write_program(f"{folder}/tools/sources", "#!/bin/sh\necho sum\n")
-            env = {**os.environ, "PATH": f"{self.path(folder)}/bin:{os.environ['PATH']}",
-                   "STAGES": self.path(f"{folder}/stages")}
-            env.pop("CI", None)
-            process = self.call(["bash", self.path(f"{folder}/.ci/run")], env=env)
+            process = self.run_gate(folder, changed, line, status)
             self.check(f"{name}: last line", process.out.decode().splitlines()[-1], last)
             self.check(f"{name}: status", process.status, int(last != ALL_PASSED))
             self.check(f"{name}: stages", self.read(f"{folder}/stages").decode().split(),
