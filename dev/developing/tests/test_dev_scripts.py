@@ -5,6 +5,7 @@ import contextlib
 import io
 import os
 import shutil
+import signal
 import subprocess
 import sys
 from typing import Any
@@ -16,8 +17,12 @@ from developing.shown import has_expected_status
 from developing.surveying.streams import make_random_recording
 from subtitles.common.command_line import Stop
 from subtitles.common.program import TOP, read
-from .bench import Case, CompletedCall, get_tool_path, import_script
+from ..trial import RunResult
+from .bench import (
+    EXAMPLES, Case, CompletedCall, get_example_path, get_tool_path, import_script,
+    read_example_file)
 from .failures import MAX_LINES_PRINTED
+from .programmes import wait_until
 from .runner import Counts
 from .test_dev_gate import COUNT_CASES
 
@@ -153,12 +158,155 @@ class FailedScripts(Case):
                 status = script.main(["-p", "/bin/true"])
             self.check(f"{counts}", (out.getvalue().strip(), status), expected)
 
-    def import_bench(self) -> Any:
+    def test_check_live_requires_each_line_with_its_pes_packet_and_none_before(self) -> None:
+        script = import_script("check-live")
+        # A command that reads "a\nb\n"; the expected output and the part after the first line of
+        # input; and the counts of passed and failed checks.
+        rows: dict[str, tuple[str, bytes, bytes, tuple[int, int]]] = {
+            "right": ("cat", b"a\nb\n", b"a\n", (2, 0)),
+            "a late line": ("tail -n 2", b"a\nb\n", b"a\n", (0, 1)),
+            "an early line": ("cat", b"a\nb\n", b"", (0, 1)),
+            "another complete list": ("cat", b"a\nc\n", b"a\n", (1, 1))}
+        for name, (command, output, begin, counts) in rows.items():
+            with mock.patch.multiple(script, MAX_WAIT=0.2, QUIET_TIME=0.1), \
+                    contextlib.redirect_stdout(io.StringIO()):
+                self.check(name, script.follow("", [["sh", "-c", command]], [b"a\n", b"b\n"],
+                                               output, [begin]), counts)
+
+    def test_a_pair_that_breaks_one_rule_has_that_fault_alone(self) -> None:
+        script = import_script("check-every-place")
+        pair, trial = script.ONE_RULE_PAIRS[0], mock.Mock(find_differences=lambda _: [])
+        for numbers, is_right in (([pair.number, pair.number], True), ([], False),
+                                  ([pair.number, 99], False), ([99], False)):
+            lines = [*(f"refused {number} Name" for number in numbers), "1 faults"]
+            call = mock.Mock(answer=mock.Mock(lines=lines))
+            with mock.patch.object(script, "define_answers", lambda *_, call=call: [call]):
+                self.check(f"{numbers}", not script.try_one_rule(trial, pair).faults, is_right)
+
+    def test_faults_requires_one_line_that_explains_wrong_arguments(self) -> None:
+        script = import_script("faults")
+        line, printed = "subttx: argument 2 is not UTF-8 text", b"usage 0 Words\n"
+        for text, is_right in ((line, True), (f"{line}\nmore", False), ("", False)):
+            trial = mock.Mock()
+            trial.run.return_value = RunResult(2, printed, None, [], text)
+            [(_, _, found)] = next(script.try_explanations(trial))()
+            self.check(repr(text), not found, is_right)
+
+    def test_faults_groups_runs_with_the_same_result_and_prints_each_failed_run(self) -> None:
+        run = RunResult(0, b"one\n3 pes of many\n", None, [])
+        with contextlib.redirect_stdout(io.StringIO()) as out:
+            count = import_script("faults").print_group(
+                [("a", run, []), ("b", run, []), ("c", run, []), ("d", run, []),
+                 ("bad", run._replace(status=2, printed=b""), ["late", "long"])], False)
+        self.check("failed, lines", (count, out.getvalue().splitlines()), (1, [
+            "  WRONG bad: status 2, nothing printed: late; long",
+            "     4  status 0, 3 pes of   [a; b .. d]"]))
+
+    def test_check_preview_limits_time_memory_and_size_of_a_large_report(self) -> None:
+        script = import_script("check-preview")
+        small = script.CallCost(0, 2, 30, 0.5)  # status, seconds, MiB, MB
+        for short, day, wrong in (
+                (small, (0, 40, 400, 20), []), (small, (1, 2, 30, 1), ["large: accepted"]),
+                (small._replace(status=2), (0, 2, 30, 1), ["large: accepted"]),
+                (small, (0, 2, 401, 1), ["large: 400 MiB, 20 MB"]),
+                (small, (0, 2, 30, 20.1), ["large: 400 MiB, 20 MB"]),
+                (small, (0, 41, 30, 1), ["large: time in proportion"])):
+            with mock.patch.object(script, "measure_call",
+                                   mock.Mock(side_effect=[short, script.CallCost(*day)])):
+                self.check(f"{day}", [name for name, fault in script.check_full_day("") if fault],
+                           wrong)
+
+    def test_plant_fails_if_a_bug_passes_all_tests(self) -> None:
+        script = import_script("plant")
+        for found, last, status in (([True, True], "2 bugs, 0 passed all tests", 0),
+                                    ([True, False], "2 bugs, 1 passed all tests", 1)):
+            planting = mock.Mock(return_value=mock.Mock(try_bugs=lambda _, found=found: found))
+            with mock.patch.multiple(script, Worker=mock.Mock(), Planting=planting), \
+                    contextlib.redirect_stdout(io.StringIO()) as out:
+                self.check(f"{found}: status", script.main(["-p", "/bin/true", "a.py"]), status)
+            self.check(f"{found}: last line", out.getvalue().strip(), last)
+
+    def test_compares_the_examples_with_those_that_make_examples_writes(self) -> None:
+        script = import_script("check-program")
+        shutil.copytree(EXAMPLES, self.path("examples"))
+        count = len([name for name in os.listdir(EXAMPLES) if not name.endswith(".md")])
+        with mock.patch.object(script, "TOP", self.folder), \
+                contextlib.redirect_stdout(io.StringIO()):
+            self.check("the same", script.compare_examples(self.bench.program), (count, 0))
+            self.write("examples/hello.stl", b"another")
+            self.write("examples/more.stl", b"")
+            os.remove(self.path("examples/lost.ts"))
+            self.check("one changed, one more, one missing",
+                       script.compare_examples(self.bench.program), (count - 2, 3))
+
+
+# What `check` prints about the inputs of bench/inputs.py with 200 frames or subtitles, and the last
+# line of `check --all` about those with faults
+INPUTS = {
+    "day": ("accepted 201 frames 201 transmissions", None),
+    "pages": ("accepted 201 frames 201 transmissions", None),
+    "many": ("accepted 4001 frames 201 transmissions", None),
+    "fresh": ("accepted 201 frames 201 transmissions", None),
+    "service": ("accepted 200 frames 8 transmissions", None),
+    "late": ("accepted 200 frames 8 transmissions", "6 faults"),  # with --within 1
+    "cells": ("refused 72 Content frame 00:00:00:00 row 22 column 11", "200 faults"),
+    "passed": ("refused 37 DataId pes 0", "201 faults"),
+    "swing": ("refused 73 Gap frame 00:00:00:01", "200 faults"),
+}
+
+
+class Measurements(Case):
+    """The scripts in bench/."""
+
+    @staticmethod
+    def import_from_bench(name: str) -> Any:
         with mock.patch.object(sys, "path", [os.path.join(TOP, "bench"), *sys.path]):
-            return import_script("../bench/run")
+            return import_script(f"../bench/{name}")
+
+    def test_each_kind_of_input_is_accepted_or_has_its_faults(self) -> None:
+        script, stl, pes = self.import_from_bench("inputs.py"), self.path("stl"), self.path("pes")
+        self.check("kinds", [*INPUTS], [*script.EVERY])
+        for kind, (line, last_of_all) in INPUTS.items():
+            with mock.patch.object(script, "find_built_program", lambda: self.bench.program):
+                script.main([kind, "200", stl, pes])
+            options = ["--every", script.EVERY[kind], *["--within", "1"] * (kind == "late")]
+            self.check(kind, self.program("check", stl, pes, *options)[1], [line])
+            if last_of_all:
+                self.check(f"{kind}: --all", self.program(
+                    "check", stl, pes, *options[:2], "--all")[1][-1], last_of_all)
+
+    def test_a_recording_has_the_given_number_of_ts_packets_for_each_pes_packet(self) -> None:
+        script = self.import_from_bench("inputs.py")
+        stl, pes, recording = map(self.path, ("stl", "pes", "ts"))
+        script.make(self.bench.program, "service", 200, stl, pes)
+        for size, count in ((0, 5 * 200), (10, 10 + 10 * 200)):  # 10 before the first PES packet
+            script.record(pes, recording, size)
+            self.check(f"{size}", (os.path.getsize(recording), self.program(
+                "check", stl, recording, "--every", "25", "--pid", "257")),
+                (count * 188, (0, [INPUTS["service"][0]])))
+
+    def test_counts_the_instructions_for_one_more_frame(self) -> None:
+        """A fake callgrind counts 1000 instructions for 100 frames, and 2500 for 200."""
+        self.write_program("valgrind", "#!/bin/sh\ncase $* in *-200.*) set 2500 ;; *) set 1000 ;; "
+                                       "esac\necho \"Collected : $1\" >&2\n")
+        script = self.import_from_bench("count")
+        path = f"{self.folder}:{os.environ['PATH']}"
+        with mock.patch.dict(os.environ, {"PATH": path}), \
+                mock.patch.object(script, "length_of", lambda _: 100), \
+                contextlib.redirect_stdout(io.StringIO()) as out:
+            script.main(["-p", self.bench.program, "late", "mixed"])
+        self.check("table", out.getvalue(), "| Command | late | mixed |\n|---|---|---|\n"
+                   "| `check --within 2` | 15 |  |\n| `check --pid` |  | 15 |\n"
+                   "| `check --pid --pes` |  | 15 |\n| `survey` |  | 15 |\n")
+
+    def test_measures_the_processor_time_of_the_program_and_of_the_system_for_it(self) -> None:
+        script = self.import_from_bench("run")
+        used = mock.Mock(ru_utime=0.25, ru_stime=1.5)
+        with mock.patch.object(os, "wait4", lambda *_: (0, 0, used)):
+            self.check("milliseconds", script.milliseconds(["true"]), 1750)
 
     def test_bench_measures_no_command_that_failed(self) -> None:
-        script = self.import_bench()
+        script = self.import_from_bench("run")
         for command, is_measured in (("exit 0", True), ("exit 1", True), ("exit 2", False),
                                      ("kill -9 $$", False)):
             time = 0.0
@@ -167,7 +315,7 @@ class FailedScripts(Case):
             self.check(command, time > 0, is_measured)
 
     def test_bench_prints_megabytes_a_second_and_the_ratio_to_cat(self) -> None:
-        script = self.import_bench()
+        script = self.import_from_bench("run")
         bench = script.Bench("program", None, self.folder)
         path = self.write("day.pes", bytes(1_000_000))
         milliseconds = mock.Mock(side_effect=[[10.0], [40.0]])  # of `cat` and `check`
@@ -179,6 +327,34 @@ class FailedScripts(Case):
             bench.row("day: check", path, ["program", "check"])
         self.check("rows", out.getvalue(), "| day | cat PES | 100 | 1.00 | 7 MB | - |\n"
                    "| day | check | 25 | 0.25 | 7 MB | - |\n")
+
+
+# The arguments of tools that read a recording from a pipe, what is sent, and the status if no signal
+# ends the tool
+PIPED_TOOLS = {"qc": ([get_example_path("story.stl"), "-"], "story.pes", 3),
+               "read": (["-"], "story.pes", 0), "air": (["record", "temporary"], "recording.ts", 0)}
+
+
+class Signals(Case):
+    def test_a_hangup_ends_a_tool_with_status_2_unless_nohup_ignores_it(self) -> None:
+        """The tool has read a part of the pipe."""
+        for name, (words, sent, usual_status) in PIPED_TOOLS.items():
+            for setup, status in (("trap '' HUP; ", usual_status), ("", 2)):
+                shutil.rmtree(self.path("temporary"), ignore_errors=True)
+                os.mkdir(self.path("temporary"))
+                command = ["sh", "-c", f'{setup}exec "$@"', "sh", get_tool_path(name), *words]
+                with subprocess.Popen(
+                        command, cwd=self.folder, stdin=subprocess.PIPE, stdout=subprocess.DEVNULL,
+                        stderr=subprocess.DEVNULL, env={
+                            **os.environ, "TMPDIR": self.path("temporary")}) as process:
+                    assert process.stdin
+                    process.stdin.write(read_example_file(sent))
+                    process.stdin.flush()
+                    self.must(f"{name}: begins", wait_until(lambda: any(
+                        files for _, _, files in os.walk(self.path("temporary")))))
+                    process.send_signal(signal.SIGHUP)
+                    process.stdin.close()
+                self.check(f"{setup}{name}: status", process.returncode, status)
 
 
 class FailedChecks(Case):
@@ -227,6 +403,16 @@ class FailedChecks(Case):
         self.check("status", process.status, 0)
         self.check("first line", first, f"running 1 test, 3 at a time, of {self.bench.program}")
         self.check("last line", last, f"{len(COUNT_CASES)} passed, 0 failed")
+
+
+    def test_check_tools_lists_each_reason_for_a_skipped_test_once(self) -> None:
+        script, counts = import_script("check-tools"), Counts(False)
+        counts.over, counts.testsRun, counts.passed = ["no mypy", "no bash", "no mypy"], 2, 1200
+        with mock.patch.object(script, "run_all", lambda *_: counts), \
+                contextlib.redirect_stdout(io.StringIO()) as out:
+            script.main(["-p", self.bench.program, "test_dev_gate.Counts"])
+        self.check("lines", out.getvalue().splitlines()[1:], [
+            "skipped: no mypy; no bash", "2 tests, 1,200 checks", "1200 passed, 0 failed"])
 
 
 class NewMachines(Case):
