@@ -73,7 +73,7 @@ _subttx_tool() {
     local command=()
     if [[ $1 == *air ]]; then
         if ((COMP_CWORD == 1)); then
-            _subttx_words 'record judge --help --version' "$word"
+            _subttx_words 'record judge status --help --version' "$word"
             return
         fi
         command=("${COMP_WORDS[1]}")

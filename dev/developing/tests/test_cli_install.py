@@ -187,6 +187,9 @@ class Installation(Case):
                        options - complete_words("subttx", name, "-"), set())
         self.check("values", complete_words("subttx", "check", "--option", "g"), {"german"})
         self.check("a part of a command", complete_words("subttx", "packet"), {"packet", "packets"})
+        self.check("commands of air", complete_words("subttx-air", ""),
+                   {"record", "judge", "status", "--help", "--version"})
+        self.check("air judge", complete_words(get_tool_path("air"), "judge", "--ma"), {"--margin"})
         words = complete_words(get_tool_path("qc"), "-")
         self.must("qc", {"--batch", "--allow-lost", "--severity", "-o"} <= words, words)
 

@@ -26,7 +26,7 @@ COPIED_SOURCES = {"lib.rt", "parity.rt", "Lib.antt"}  # names of sources that a 
 OMITTED = {"out", "must-fail", "release-edits", "__pycache__", "vectors", "transcripts"}
 USAGE_FAULT = b"usage 0 Words\n"  # what the program prints about wrong arguments
 HELP_REQUESTS = [["--help"], ["-h"], ["help"], ["help", "check"], ["check", "--help"],
-                 ["check", "-h"], ["-h", "survey"]]
+                 ["-h", "survey"]]
 
 
 def list_omitted_names(folder: str, names: list[str]) -> set[str]:
@@ -164,7 +164,8 @@ class Clones(Case):
         for words in HELP_REQUESTS:
             self.check(f"{words}", self.clone.run(*words), CompletedCall(0, text, []))
         os.remove(self.clone.path("dist", "PROVED"))
-        for words in HELP_REQUESTS:
+        commands = re.findall(r"^  ([a-z]+) ", text.decode(), re.M)
+        for words in [*HELP_REQUESTS, *([name, "-h"] for name in commands)]:
             process = self.clone.run(*words)
             self.check(f"{words}, no program", (process.status, process.out), (0, text))
 
@@ -260,6 +261,10 @@ class Clones(Case):
         self.clone.put("dist", self.bench.program)
         self.clone.check_runs("dist/, where out/ is older")
         self.clone.check_comparison("out/ does not have the program of these sources", failed=1)
+        os.remove(self.clone.path("dist", "subttx"))
+        self.check("reasons why none is valid", self.clone.run(*PACKET).told[:2], [
+            "subttx: out/subttx was built from other sources",
+            "subttx: dist/subttx is not an executable program"])
 
     def note_log(self, kept: Iterable[str], *sums: str) -> CompletedCall:
         """Let dev/release store the prover's lines about all crates but `kept`."""
@@ -285,6 +290,10 @@ class Clones(Case):
         self.note_log(kept=[first])
         self.clone.release("--keep")
         self.note_log(kept=others)
+        self.clone.write("out/subttx", "damaged")
+        self.check("a damaged program", self.clone.release(), (2, b"", [
+            "release: out/subttx is not the program that out/PROVED names: run .ci/run"]))
+        self.clone.release("--keep")
         self.check("status", self.clone.release().status, 0)
         self.check("lines", parse_proved(read(self.clone.path("dist", "PROVED"))).crates, {
             name: (digest, f"{LINE} of={name}") for name, digest in self.clone.crates.items()})
@@ -395,6 +404,14 @@ class ProvingClones(Case):
         self.must("only its messages", process.told[-3:-1] == [LINE, "a goal is open"]
                   and process.told.count(LINE) == 1
                   and process.told[-1].startswith("subttx: ttx_page was not proved"), process)
+        clone.check_nothing_is_left()
+
+    def test_keeps_no_program_if_the_linker_fails(self) -> None:
+        clone = BareClone(self)
+        clone.write_command("rattle-link", "#!/bin/sh\necho no room\n>\"$6\"\nexit 1\n")
+        process = clone.start()
+        self.check("status, last messages", (process.status, process.told[-2:]), (2, [
+            "no room", "subttx: the program was not linked: see the messages above"]))
         clone.check_nothing_is_left()
 
     def test_refuses_a_line_with_unproved_functions(self) -> None:

@@ -62,9 +62,10 @@ class SmallRepository(Case):
         for path, crate in (("low/src/lib.rt", "low"), ("low/specs/Even.antt", "low"),
                             ("low/specs/Numbers.antt", "low"), ("subttx/src/main.rt", "subttx"),
                             ("low/proofs/Lib.antt", "low"), ("low/proofs/double/Proof.antt", "low"),
-                            ("low/must-fail/one.edit", ""), ("unused/src/lib.rt", "")):
-            text = self.read(f"crates/{path}")
-            write(self.path(f"crates/{path}"), text.decode() + "// changed\n")
+                            ("low/must-fail/one.edit", ""), ("unused/src/lib.rt", ""),
+                            ("../crates.txt", "")):  # in a comment
+            text = self.read(f"crates/{path}").decode()
+            write(self.path(f"crates/{path}"), text.rstrip("\n") + " changed\n")
             changed = {line.split()[0] for line in before - self.list_sums("--crates")}
             self.check(path, (changed, self.list_sums() != whole), ({crate} - {""}, crate != ""))
-            write(self.path(f"crates/{path}"), text.decode())
+            write(self.path(f"crates/{path}"), text)

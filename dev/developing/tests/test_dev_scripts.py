@@ -8,7 +8,7 @@ import shutil
 import signal
 import subprocess
 import sys
-from typing import Any
+from typing import Any, Callable
 from unittest import mock
 
 from developing.proved import (
@@ -19,7 +19,7 @@ from subtitles.common.command_line import Stop
 from subtitles.common.program import TOP, read
 from ..trial import RunResult
 from .bench import (
-    EXAMPLES, Case, CompletedCall, get_example_path, get_tool_path, import_script,
+    EXAMPLES, Bench, Case, CompletedCall, get_example_path, get_tool_path, import_script,
     read_example_file)
 from .failures import MAX_LINES_PRINTED
 from .programmes import wait_until
@@ -92,7 +92,8 @@ class Gate(Case):
             text = make_stage(stage, line, status) if stage == changed else \
                 make_stage(stage, usual_line, 0)
             self.write_program(f"{folder}/{stage if '/' in stage else f'bin/{stage}'}", text)
-        self.write_program(f"{folder}/tools/sources", "#!/bin/sh\necho sum\n")
+        sums = 'wc -c <"$STAGES"' if changed == "tools/sources" else "echo sum"
+        self.write_program(f"{folder}/tools/sources", f"#!/bin/sh\n{sums}\n")
         env = {**os.environ, "PATH": f"{self.path(folder)}/bin:{os.environ['PATH']}",
                "STAGES": self.path(f"{folder}/stages"), "CALLS": self.path(f"{folder}/calls")}
         env.pop("CI", None)
@@ -103,6 +104,11 @@ class Gate(Case):
             process = self.run_gate(name, "rt", STAGES["rt"], rt_status, *args)
             self.check(f"{name}: status", process.status, status)
             self.check(f"{name}: calls", self.read(f"{name}/calls").decode().splitlines(), calls)
+
+    def test_keeps_nothing_if_the_sources_change_meanwhile(self) -> None:
+        process = self.run_gate("new", "tools/sources", "", 0)
+        self.check("last line", process.out.decode().splitlines()[-1], ALL_PASSED)
+        self.must("--keep is not called", b"dev/release --keep" not in self.read("new/calls"))
 
     def test_adds_the_counts_of_its_stages_and_stops_if_one_of_the_first_three_fails(self) -> None:
         for name, (changed, line, status, last, expected_stages) in GATE_CASES.items():
@@ -165,6 +171,7 @@ class FailedScripts(Case):
         rows: dict[str, tuple[str, bytes, bytes, tuple[int, int]]] = {
             "right": ("cat", b"a\nb\n", b"a\n", (2, 0)),
             "a late line": ("tail -n 2", b"a\nb\n", b"a\n", (0, 1)),
+            "an early end": ("sed -un 1p", b"a\nb\n", b"a\n", (1, 1)),
             "an early line": ("cat", b"a\nb\n", b"", (0, 1)),
             "another complete list": ("cat", b"a\nc\n", b"a\n", (1, 1))}
         for name, (command, output, begin, counts) in rows.items():
@@ -186,7 +193,7 @@ class FailedScripts(Case):
     def test_faults_requires_one_line_that_explains_wrong_arguments(self) -> None:
         script = import_script("faults")
         line, printed = "subttx: argument 2 is not UTF-8 text", b"usage 0 Words\n"
-        for text, is_right in ((line, True), (f"{line}\nmore", False), ("", False)):
+        for text, is_right in ((line, True), (f"{line}, more", False), ("", False)):
             trial = mock.Mock()
             trial.run.return_value = RunResult(2, printed, None, [], text)
             [(_, _, found)] = next(script.try_explanations(trial))()
@@ -319,18 +326,22 @@ class Measurements(Case):
         bench = script.Bench("program", None, self.folder)
         path = self.write("day.pes", bytes(1_000_000))
         milliseconds = mock.Mock(side_effect=[[10.0], [40.0]])  # of `cat` and `check`
-        with mock.patch.multiple(
-                script, least=milliseconds, peak=lambda _: "7 MB"), \
-                contextlib.redirect_stdout(io.StringIO()) as out, \
-                mock.patch.object(script.shutil, "which", lambda _: None):
+        # Percent of the time, seconds, µs for each call, calls, failed calls, name
+        self.write_program("strace", "#!/bin/sh\necho ' 60 0.1 5 12 read\n 40 0.1 5 3 1 write\n"
+                                     "100 0.2 5 15 1 total' >$3\n")
+        kibibytes = self.write_program("time", "#!/bin/sh\necho 7000 >$4\n")
+        with mock.patch.object(script, "least", milliseconds), \
+                mock.patch.object(sys.modules["memory"], "GNU_TIME", kibibytes), \
+                mock.patch.dict(os.environ, {"PATH": f"{self.folder}:{os.environ['PATH']}"}), \
+                contextlib.redirect_stdout(io.StringIO()) as out:
             bench.row("day: cat PES", path, ["cat", path])
             bench.row("day: check", path, ["program", "check"])
-        self.check("rows", out.getvalue(), "| day | cat PES | 100 | 1.00 | 7 MB | - |\n"
-                   "| day | check | 25 | 0.25 | 7 MB | - |\n")
+        self.check("rows", out.getvalue(), "| day | cat PES | 100 | 1.00 | 7.17 MB | 15 |\n"
+                   "| day | check | 25 | 0.25 | 7.17 MB | 15 |\n")
 
 
-# The arguments of tools that read a recording from a pipe, what is sent, and the status if no signal
-# ends the tool
+# The arguments of tools that read a recording from a pipe, what is sent, and the status unless a
+# signal ends the tool
 PIPED_TOOLS = {"qc": ([get_example_path("story.stl"), "-"], "story.pes", 3),
                "read": (["-"], "story.pes", 0), "air": (["record", "temporary"], "recording.ts", 0)}
 
@@ -391,10 +402,20 @@ class FailedChecks(Case):
                 steps.check_command(f"exit {status}", "out")
             self.check(f"status {status}", steps.failed == 0, status in (0, 1, 3))
 
+    def test_check_readme_compares_the_complete_output(self) -> None:
+        steps = import_script("check-readme").CloneCommands(self.folder)
+        with contextlib.redirect_stdout(io.StringIO()):
+            for shown in "a\nb", "a", "b", "a\nb\nc":
+                steps.check_output("echo a; echo b", shown)
+        self.check("passed, failed", (steps.passed, steps.failed), (1, 3))
+
     def test_check_survey_compares_the_status_as_the_last_line(self) -> None:
         program = self.write_program("other", "#!/bin/sh\nexit 3\n")
-        self.check("lines", import_script("check-survey").printed(
-            program, make_random_recording(1)), ["status 3"])
+        script = import_script("check-survey")
+        self.check("lines", script.printed(program, make_random_recording(1)), ["status 3"])
+        self.check("a line for each of two PES packets", script.without_runs(
+            ["pes 9 4 2 8589931000 3600 a", "pid 9"]), [
+                "pid 9", "9 4 8589931000 a", "9 5 8 a"])
 
     def test_check_tools_prints_first_what_it_runs_and_last_its_counts(self) -> None:
         name = "test_dev_gate.Counts"  # has one test with a check for each row
@@ -415,7 +436,108 @@ class FailedChecks(Case):
             "skipped: no mypy; no bash", "2 tests, 1,200 checks", "1200 passed, 0 failed"])
 
 
+    def test_pytest_uses_the_program_in_subttx_and_lists_each_skipped_test_once(self) -> None:
+        script, bench = import_script("conftest.py"), Bench()
+        with mock.patch.dict(os.environ, {"SUBTTX": "/bin/true"}), \
+                mock.patch.object(script, "BENCH", bench), \
+                contextlib.redirect_stdout(io.StringIO()) as out:
+            script.pytest_configure()
+            bench.over = ["no mypy", "no bash", "no mypy"]
+            script.pytest_terminal_summary()
+            script.pytest_unconfigure()
+        self.check("program, last line", (bench.program, out.getvalue()),
+                   (os.path.realpath("/bin/true"), "skipped: no mypy; no bash\n"))
+
+    def test_make_pages_replaces_a_file_by_a_shorter_one(self) -> None:
+        script, path = import_script("make-pages"), self.write("page", b"the old text\n")
+        with mock.patch.multiple(script, TOP=self.folder, make_pages=lambda: {"page": "new\n"}):
+            script.main([])
+        self.check("text", read(path), "new\n")
+
+    def test_plant_prints_each_bug_that_no_test_finds_in_time(self) -> None:
+        script = import_script("plant")
+        bug = mock.Mock(function="f", line=7, kind="sign", old="+", new="-", text="")
+        for failed, is_printed, is_found in (("", True, False), ("test_one", False, True),
+                                             (script.TOO_LONG, True, True)):
+            worker = mock.Mock()
+            worker.run_task.return_value = {"failed": failed, "passed": 3}
+            planting = script.Planting([worker], "", mock.Mock(seed=1, one_of=1, quick=9))
+            with mock.patch.object(script, "make_bugs", lambda *_: [bug]), \
+                    contextlib.redirect_stdout(io.StringIO()) as out:
+                found = [*planting.try_bugs("tools/subtitles/common/times.py:f")]
+            self.check(f"{failed!r}", (found, out.getvalue()), ([is_found], (
+                f"tools/subtitles/common/times.py:7: sign: + -> - ({failed or 3} tests)\n"
+                if is_printed else "")))
+
+
+# A script, the functions replaced in it, of which one returns or counts these faults, and its
+# arguments
+Replaced = Callable[[Any, "list[str]"], "dict[str, Any]"]
+FAILING_CHECKS: dict[str, tuple[Replaced, list[str]]] = {
+    "check-every-place": (lambda script, faults: {
+        **dict.fromkeys(("TOLERANCE_CASES", "LATE_PAGE_CASES", "ONE_FILE", "ONE_RULE_PAIRS"), []),
+        "KNOWN_CALLS": [None], "make_example_calls": list, "try_known": lambda *_:
+            script.CheckResult("a", faults, (), 1)}, ["--count", "0", "--recordings", "0"]),
+    "check-manual": (lambda script, faults: {
+        "copy_named_files": mock.Mock(), "run": lambda *_:
+            script.DocumentResult(len(faults) == 0, len(faults), 0, [])}, ["document"]),
+    "check-preview": (lambda script, faults: {
+        "check_in_browser": lambda _: [("a", " ".join(faults))]}, []),
+    "check-readme": (lambda script, faults: {
+        "clone_repository": lambda _: "clone", "place_program": mock.Mock(),
+        "has_program": lambda _: True,
+        "run_commands": lambda steps: steps.check_result("a", not faults)}, []),
+    "faults": (lambda script, faults: {
+        "prepare": mock.Mock(), "GROUPS": {"a": lambda trial: [lambda: [
+            ("a", RunResult(0, b"", None, []), faults)]]}}, []),
+}
+
+
+class CheckStatuses(Case):
+    def test_a_check_with_a_fault_counts_it_and_ends_with_status_1(self) -> None:
+        for name, (replace, words) in FAILING_CHECKS.items():
+            for count in 0, 1:
+                script, faults = import_script(name), ["wrong"] * count
+                with mock.patch.multiple(script, **replace(script, faults)), \
+                        contextlib.redirect_stdout(io.StringIO()) as out:
+                    result = script.main(["-p", "/bin/true", *words])
+                self.check(f"{name} {faults}", (out.getvalue().splitlines()[-1], result),
+                           (f"{1 - count} passed, {count} failed", count))
+
+    def test_check_manual_counts_each_unknown_name_and_wrong_number_in_documents(self) -> None:
+        script = import_script("check-manual")
+        with mock.patch.multiple(
+                script, find_unknown_names=lambda _: {"right": [], "wrong": ["a", "b"]},
+                correct_count_rows=lambda _: [("1", "1"), ("2", "3")],
+                correct_number_rows=lambda _: [("4", "5")], correct_readme_counts=lambda _: [],
+                find_long_readings=lambda *_: [None, "too long"]), \
+                contextlib.redirect_stdout(io.StringIO()) as out:
+            self.check("passed, failed", script.check_names(), (3, 4))
+        self.check("lines", out.getvalue().splitlines(), [
+            "a is no name of the sources", "b is no name of the sources",
+            "a document has '2', and not", "3", "a document has '4', and not", "5", "too long",
+            "names and counts: 7 documents and rows, 4 differ"])
+
+
 class NewMachines(Case):
+    def test_install_test_tools_installs_each_known_package_unless_apt_get_fails(self) -> None:
+        """gcc is installed, and apt-get does not know chromium."""
+        for name, text in (("id", "echo 0"), ("apt-cache", "[ $2 != chromium ]"),
+                           ("dpkg-query", "[ $3 != gcc ] || echo ok installed")):
+            self.write_program(name, f"#!/bin/sh\n{text}\n")
+        packages = ["mypy", "parallel", "lintian", "libzvbi0", "python3-jsonschema", "ffmpeg",
+                    "strace", "libc6-dev", "systemd", "python3-ttconv"]
+        for failing, status, calls in (("none", 0, ["-q", *packages]), ("update -q", 1, ["-q"]),
+                                       ("lintian", 1, ["-q", *packages[:3]])):
+            self.write_program("apt-get", "#!/bin/sh\necho $* >>calls\n"
+                                          f"case $* in *'{failing}') exit 1 ;; esac\n")
+            self.write("calls", b"")
+            process = self.call([get_tool_path("install-test-tools")],
+                                env={**os.environ, "PATH": f"{self.folder}:{os.environ['PATH']}"})
+            self.check(f"{failing} fails", (process.status, [
+                line.split()[-1] for line in self.read("calls").decode().splitlines()]),
+                (status, calls))
+
     def test_install_test_tools_needs_root_if_a_package_is_missing(self) -> None:
         for name, text in (("dpkg-query", ""), ("id", "echo 1000\n")):
             self.write_program(name, f"#!/bin/sh\n{text}")
@@ -426,14 +548,18 @@ class NewMachines(Case):
 
     def test_check_program_prints_first_what_it_runs_and_last_what_was_skipped(self) -> None:
         script = import_script("check-program")
-        self.patch_script(script, 0, "skipped: units, since it is night\n2 passed, 0 failed\n")
-        with contextlib.redirect_stdout(io.StringIO()) as out:
-            script.main(["-p", self.bench.program])
-        first, *lines = out.getvalue().splitlines()
-        self.must("first line", first.startswith("running 1 scripts, ") and "minutes" in first,
-                  first)
-        self.check("last lines", lines[-2:], ["skipped: units, since it is night",
-                                              "3 passed, 0 failed"])
+        skipped = "skipped: units, since there is no systemd"
+        self.patch_script(script, 0, f"{skipped}\n2 passed, 0 failed\n")
+        for known_package, failed in (("", 0), ("mypy", 0), ("systemd", 1)):
+            with contextlib.redirect_stdout(io.StringIO()) as out, \
+                    mock.patch.dict(os.environ, {"CI": "yes"}), \
+                    mock.patch.object(script, "is_known", known_package.__eq__):
+                status = script.main(["-p", self.bench.program])
+            first, *lines = out.getvalue().splitlines()
+            self.must("first line", first.startswith("running 1 scripts, ") and "minutes" in first,
+                      first)
+            self.check(f"{known_package}: status, last lines", (status, lines[-2:]),
+                       (failed, [skipped, f"3 passed, {failed} failed"]))
 
     def test_check_program_counts_a_script_that_crashes_as_failed(self) -> None:
         script = import_script("check-program")

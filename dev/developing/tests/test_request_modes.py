@@ -240,7 +240,7 @@ WRONG_USAGE: dict[str, list[list[str]]] = {
     "pes2ts": [[], [PES], [PES, "0x1fff"], [PES, "0x100"], [PES, "7"], [PES, "0x101", "english"],
                [PES, "0x101", "--page", "8FF"]],
     "install": [[], ["-x"], ["--", "-x"], ["--prefix"], [""], ["to", "from"],
-                ["--remove", "-p", STL, "to"]],
+                ["--remove", "-p", STL, "to"], ["--remove", "--systemd", "to"]],
     "dist": [["--colour"]], "release": [["none"], ["--keep", "--compare"], ["--colour"]],
     "reading-list": [[], ["Good", "Robust"], ["Good", "--colour"]],
     "slow-proofs": [[]], "make-examples": [[], ["a", "b"]], "check-tools": [["--jobs", "0"]],
@@ -262,7 +262,10 @@ WRONG_FILES: dict[str, list[list[str]]] = {
     "pes2ts": [["none.pes", "0x101"]],
     "install": [[PES], ["-p", "none", "to"]], "dist": [[PES], ["--deb", PES]],
     "release": [["--note", "none"]], "reading-list": [["none"]], "slow-proofs": [["none"]],
-    "check-manual": [["-p", "none"]], "check-preview": [["-p", "none"]],
+    **{name: [["-p", "none"]] for name in (
+        "check-every-place", "check-live", "check-manual", "check-preview", "check-program",
+        "check-readme", "check-survey", "check-tools", "faults", "plant")},
+    "make-examples": [["-p", "none", "."]],
 }
 
 

@@ -1,7 +1,7 @@
 //! Doubles numbers.
 //!
 //! Uses no other crate.
-ghost use Rattle.low.specs.Numbers.{IsDouble, IsEven};
+ghost use Rattle.low.specs.Numbers.{IsBelow, IsDouble, IsEven};
 
 /// Returns twice the number.
 pub fn double(n: u8) -> u8
@@ -14,6 +14,13 @@ pub fn double(n: u8) -> u8
 
 fn sum(a: u8, b: u8) -> u8 {
     a + b
+}
+
+/// Returns the greatest sum.
+pub fn limit() -> u8
+    ensures { IsBelow result }
+{
+    255
 }
 
 #[test]
