@@ -136,10 +136,11 @@ LINE = re.compile(r"^([a-z_]+) +\S", re.M)  # line of the module list in __init_
 
 
 def list_folder_entries(name: str) -> list[str]:
-    """Return the names in a folder. Remove the extension of modules, and add a slash to folders."""
+    """Return the names in a folder, except caches. Remove the extension of modules, and add a slash
+    to folders."""
     folder = os.path.join(TOP, name)
     return sorted(entry.removesuffix(".py") + "/" * os.path.isdir(os.path.join(folder, entry))
-                  for entry in os.listdir(folder) if not entry.startswith("__"))
+                  for entry in os.listdir(folder) if not entry.startswith(("__", ".")))
 
 
 class ModuleLists(Case):

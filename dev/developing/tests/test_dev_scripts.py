@@ -11,8 +11,7 @@ import sys
 from typing import Any, Callable
 from unittest import mock
 
-from developing.proved import (
-    Crates, ProvedProgram, find_crates_without_line, format_proved, list_crate_sums)
+from developing.proved import Crates, ProvedProgram, format_proved, list_crate_sums
 from developing.shown import has_expected_status
 from developing.surveying.streams import make_random_recording
 from subtitles.common.command_line import Stop
@@ -33,91 +32,73 @@ STAGES = {"dev/edits": "1 passed, 0 failed", "dev/graph": "20 passed, 0 failed",
           "dev/release": "50000 passed, 0 failed"}
 ALL_PASSED = "54321 passed, 0 failed"
 
-FIRST_STAGES, ALL_STAGES = list(STAGES)[:3], list(STAGES)  # the first stop the gate if they fail
+# Calls of scripts up to an option. The first stages stop the gate if they fail.
+FIRST_CALLS = ["dev/edits --applies", "dev/graph --heads", "rt ci", "dev/release --note"]
+LAST_CALLS = ["tools/check-program -p", "dev/release --compare"]
+ALL_CALLS = [*FIRST_CALLS, "dev/release --keep", *LAST_CALLS]
 
-# The stage that differs from STAGES, its last line and its status; the last line of the gate, whose
-# status is 1 if anything failed; and the stages that run
-GATE_CASES: dict[str, tuple[str, str, int, str, list[str]]] = {
-    "all stages pass": ("rt", STAGES["rt"], 0, ALL_PASSED, ALL_STAGES),
-    "the edits fail": ("dev/edits", "1 passed, 2 failed", 1, "321 passed, 2 failed", FIRST_STAGES),
-    "the proof fails": ("rt", "299 passed, 1 failed", 1, "320 passed, 1 failed", FIRST_STAGES),
-    "the tests fail": ("tools/check-program", "3999 passed, 1 failed", 1, "54320 passed, 1 failed",
-                       ALL_STAGES),
-    "dist/ holds another program": ("dev/release", "0 passed, 1 failed", 1, "4321 passed, 1 failed",
-                                    ALL_STAGES),
-    "status 1 with no failure": ("tools/check-program", STAGES["tools/check-program"], 1,
-                                 "54321 passed, 1 failed", ALL_STAGES),
-    "status 0 with a failure": ("tools/check-program", "3999 passed, 1 failed", 0,
-                                "54320 passed, 1 failed", ALL_STAGES),
-    "no counts": ("tools/check-program", "killed", 0, "50321 passed, 1 failed", ALL_STAGES),
-    "counts within a line": ("rt", "of 300 passed, 0 failed", 0, "21 passed, 1 failed",
-                             FIRST_STAGES),
-}
-
-
-# Arguments of .ci/run, the status of `rt ci`; the status of .ci/run, and the calls of scripts
-NAMED_CASES: dict[str, tuple[list[str], int, int, list[str]]] = {
-    "two crates": (["low", "high"], 0, 0, ["rt ci low high", "dev/release --note"]),
-    "a crate that is not proved": (["low"], 1, 1, ["rt ci low", "dev/release --note"]),
-    "anew": (["--anew"], 0, 0, [
-        "dev/edits --applies", "dev/graph --heads", "rt ci --anew", "dev/release --note",
-        "dev/release --keep", "tools/check-program -p", "dev/release --compare"]),
+# The arguments of the gate; the stage that differs from STAGES, its last line and its status; the
+# last line of the gate, whose status is 1 if anything failed; and the calls
+GATE_CASES: dict[str, tuple[str, str, str, int, str, list[str]]] = {
+    "all stages pass": ("", "rt", STAGES["rt"], 0, ALL_PASSED, ALL_CALLS),
+    "anew": ("--anew", "rt", STAGES["rt"], 0, ALL_PASSED, [
+        *FIRST_CALLS[:2], "rt ci --anew", *ALL_CALLS[3:]]),
+    "two named crates": ("low high", "rt", STAGES["rt"], 0, STAGES["rt"], [
+        "rt ci low high", "dev/release --note"]),
+    "a named crate is not proved": ("low", "rt", "0 passed, 1 failed", 1, "0 passed, 1 failed", [
+        "rt ci low", "dev/release --note"]),
+    "the sources change meanwhile": ("", "tools/sources", "", 0, ALL_PASSED, [
+        *FIRST_CALLS, *LAST_CALLS]),
+    "the edits fail": ("", "dev/edits", "1 passed, 2 failed", 1, "321 passed, 2 failed",
+                       FIRST_CALLS),
+    "the proof fails": ("", "rt", "299 passed, 1 failed", 1, "320 passed, 1 failed", FIRST_CALLS),
+    "the tests fail": ("", "tools/check-program", "3999 passed, 1 failed", 1,
+                       "54320 passed, 1 failed", ALL_CALLS),
+    "dist/ holds another program": ("", "dev/release", "0 passed, 1 failed", 1,
+                                    "4321 passed, 1 failed", ALL_CALLS),
+    "status 1 with no failure": ("", "tools/check-program", STAGES["tools/check-program"], 1,
+                                 "54321 passed, 1 failed", ALL_CALLS),
+    "status 0 with a failure": ("", "tools/check-program", "3999 passed, 1 failed", 0,
+                                "54320 passed, 1 failed", ALL_CALLS),
+    "no counts": ("", "tools/check-program", "killed", 0, "50321 passed, 1 failed", ALL_CALLS),
+    "counts within a line": ("", "rt", "of 300 passed, 0 failed", 0, "21 passed, 1 failed",
+                             FIRST_CALLS),
 }
 
 
 def make_stage(name: str, line: str, status: int) -> str:
-    """Return a script that adds its name to $STAGES, prints two lines and ends with a status.
-
-    It adds its name and arguments, up to an option, to $CALLS.
-    """
+    """Return a script that adds its call to $CALLS, prints two lines and ends with a status."""
     # dev/release is also called to store lines and to keep the program, which is no stage.
     condition = '[ "$1" = --compare ] || exit 0\n' if name == "dev/release" else \
         '[ "$1" = help ] && echo "  rt ci [NAME ..]" && exit\n'
-    return (f'#!/bin/sh\ncase $1 in -*) calls=$1 ;; *) calls=$* ;; esac\n'
-            f'[ "$1" = help ] || echo {name} $calls >>"$CALLS"\n'
-            f'{condition}echo {name} >>"$STAGES"\necho "first line of {name}"\n'
-            f'echo "{line}"\nexit {status}\n')
+    return (f'#!/bin/sh\ncase $1 in -*) set -- "$1" ;; esac\n'
+            f'[ "$1" = help ] || echo {name} "$@" >>"$CALLS"\n{condition}'
+            f'echo "first line of {name}"\necho "{line}"\nexit {status}\n')
 
 
 class Gate(Case):
     """A copy of .ci/run, whose stages are scripts that only print what STAGES or a row says."""
 
-    def run_gate(self, folder: str, changed: str, line: str, status: int,
-                 *args: str) -> CompletedCall:
-        """Run a copy of .ci/run in a new folder. One stage prints `line` and has a status."""
-        for part in (".ci", "bin", "dev", "tools"):
-            os.makedirs(self.path(f"{folder}/{part}"))
-        shutil.copy(GATE, self.path(f"{folder}/.ci/run"))
-        for stage, usual_line in STAGES.items():
-            text = make_stage(stage, line, status) if stage == changed else \
-                make_stage(stage, usual_line, 0)
-            self.write_program(f"{folder}/{stage if '/' in stage else f'bin/{stage}'}", text)
-        sums = 'wc -c <"$STAGES"' if changed == "tools/sources" else "echo sum"
-        self.write_program(f"{folder}/tools/sources", f"#!/bin/sh\n{sums}\n")
-        env = {**os.environ, "PATH": f"{self.path(folder)}/bin:{os.environ['PATH']}",
-               "STAGES": self.path(f"{folder}/stages"), "CALLS": self.path(f"{folder}/calls")}
-        env.pop("CI", None)
-        return self.call(["bash", self.path(f"{folder}/.ci/run"), *args], env=env)
-
-    def test_proves_only_the_crates_that_are_named_and_passes_on_anew(self) -> None:
-        for name, (args, rt_status, status, calls) in NAMED_CASES.items():
-            process = self.run_gate(name, "rt", STAGES["rt"], rt_status, *args)
-            self.check(f"{name}: status", process.status, status)
-            self.check(f"{name}: calls", self.read(f"{name}/calls").decode().splitlines(), calls)
-
-    def test_keeps_nothing_if_the_sources_change_meanwhile(self) -> None:
-        process = self.run_gate("new", "tools/sources", "", 0)
-        self.check("last line", process.out.decode().splitlines()[-1], ALL_PASSED)
-        self.must("--keep is not called", b"dev/release --keep" not in self.read("new/calls"))
-
     def test_adds_the_counts_of_its_stages_and_stops_if_one_of_the_first_three_fails(self) -> None:
-        for name, (changed, line, status, last, expected_stages) in GATE_CASES.items():
+        for name, (args, changed, line, status, last, expected_calls) in GATE_CASES.items():
             folder = name.replace(" ", "-").replace("/", "")
-            process = self.run_gate(folder, changed, line, status)
+            for part in (".ci", "bin", "dev", "tools"):
+                os.makedirs(self.path(f"{folder}/{part}"))
+            shutil.copy(GATE, self.path(f"{folder}/.ci/run"))
+            for stage, usual_line in STAGES.items():
+                text = make_stage(stage, line, status) if stage == changed else \
+                    make_stage(stage, usual_line, 0)
+                self.write_program(f"{folder}/{stage if '/' in stage else f'bin/{stage}'}", text)
+            sums = 'wc -c <"$CALLS"' if changed == "tools/sources" else "echo sum"
+            self.write_program(f"{folder}/tools/sources", f"#!/bin/sh\n{sums}\n")
+            env = {**os.environ, "PATH": f"{self.path(folder)}/bin:{os.environ['PATH']}",
+                   "CALLS": self.path(f"{folder}/calls")}
+            env.pop("CI", None)
+            process = self.call(["bash", self.path(f"{folder}/.ci/run"), *args.split()], env=env)
             self.check(f"{name}: last line", process.out.decode().splitlines()[-1], last)
-            self.check(f"{name}: status", process.status, int(last != ALL_PASSED))
-            self.check(f"{name}: stages", self.read(f"{folder}/stages").decode().split(),
-                       expected_stages)
+            self.check(f"{name}: status", process.status, int(not last.endswith(" 0 failed")))
+            self.check(f"{name}: calls", self.read(f"{folder}/calls").decode().splitlines(),
+                       expected_calls)
 
 
 # A command in a document, its output, and each status that agrees with it; `None` is the status of
@@ -150,19 +131,6 @@ class FailedScripts(Case):
                 ("another status", "echo accepted; exit 1", (0, 1))):
             path = self.write("a.md", f"```\n$ {command}\naccepted\n```\n".encode())
             self.check(name, script.run(path, self.path("copy"))[:2], counts)
-
-    def test_check_live_adds_the_counts_of_both_routes_of_a_feed(self) -> None:
-        script = import_script("check-live")
-        feed = script.Feed("a", [], [], ())
-        for counts, expected in (([(2, 0), (1, 0)], ("3 passed, 0 failed", 0)),
-                                 ([(1, 1), (1, 0)], ("2 passed, 1 failed", 1)),
-                                 ([(1, 0), (0, 1)], ("1 passed, 1 failed", 1))):
-            with mock.patch.multiple(
-                    script, make_feeds=lambda: [feed], make_stream=lambda _: [],
-                    follow=mock.Mock(side_effect=counts)), \
-                    contextlib.redirect_stdout(io.StringIO()) as out:
-                status = script.main(["-p", "/bin/true"])
-            self.check(f"{counts}", (out.getvalue().strip(), status), expected)
 
     def test_check_live_requires_each_line_with_its_pes_packet_and_none_before(self) -> None:
         script = import_script("check-live")
@@ -199,16 +167,6 @@ class FailedScripts(Case):
             [(_, _, found)] = next(script.try_explanations(trial))()
             self.check(repr(text), not found, is_right)
 
-    def test_faults_groups_runs_with_the_same_result_and_prints_each_failed_run(self) -> None:
-        run = RunResult(0, b"one\n3 pes of many\n", None, [])
-        with contextlib.redirect_stdout(io.StringIO()) as out:
-            count = import_script("faults").print_group(
-                [("a", run, []), ("b", run, []), ("c", run, []), ("d", run, []),
-                 ("bad", run._replace(status=2, printed=b""), ["late", "long"])], False)
-        self.check("failed, lines", (count, out.getvalue().splitlines()), (1, [
-            "  WRONG bad: status 2, nothing printed: late; long",
-            "     4  status 0, 3 pes of   [a; b .. d]"]))
-
     def test_check_preview_limits_time_memory_and_size_of_a_large_report(self) -> None:
         script = import_script("check-preview")
         small = script.CallCost(0, 2, 30, 0.5)  # status, seconds, MiB, MB
@@ -223,42 +181,22 @@ class FailedScripts(Case):
                 self.check(f"{day}", [name for name, fault in script.check_full_day("") if fault],
                            wrong)
 
-    def test_plant_fails_if_a_bug_passes_all_tests(self) -> None:
-        script = import_script("plant")
-        for found, last, status in (([True, True], "2 bugs, 0 passed all tests", 0),
-                                    ([True, False], "2 bugs, 1 passed all tests", 1)):
-            planting = mock.Mock(return_value=mock.Mock(try_bugs=lambda _, found=found: found))
-            with mock.patch.multiple(script, Worker=mock.Mock(), Planting=planting), \
-                    contextlib.redirect_stdout(io.StringIO()) as out:
-                self.check(f"{found}: status", script.main(["-p", "/bin/true", "a.py"]), status)
-            self.check(f"{found}: last line", out.getvalue().strip(), last)
-
-    def test_compares_the_examples_with_those_that_make_examples_writes(self) -> None:
-        script = import_script("check-program")
-        shutil.copytree(EXAMPLES, self.path("examples"))
+    def test_make_examples_writes_the_stored_examples(self) -> None:
         count = len([name for name in os.listdir(EXAMPLES) if not name.endswith(".md")])
-        with mock.patch.object(script, "TOP", self.folder), \
-                contextlib.redirect_stdout(io.StringIO()):
-            self.check("the same", script.compare_examples(self.bench.program), (count, 0))
-            self.write("examples/hello.stl", b"another")
-            self.write("examples/more.stl", b"")
-            os.remove(self.path("examples/lost.ts"))
-            self.check("one changed, one more, one missing",
-                       script.compare_examples(self.bench.program), (count - 2, 3))
+        with contextlib.redirect_stdout(io.StringIO()) as out:
+            import_script("check-program").compare_examples(self.bench.program)
+        self.check("output", out.getvalue(), f"{count} passed, 0 failed\n")
 
 
-# What `check` prints about the inputs of bench/inputs.py with 200 frames or subtitles, and the last
-# line of `check --all` about those with faults
+# What `check` prints about the inputs of bench/inputs.py with 200 frames or subtitles
 INPUTS = {
-    "day": ("accepted 201 frames 201 transmissions", None),
-    "pages": ("accepted 201 frames 201 transmissions", None),
-    "many": ("accepted 4001 frames 201 transmissions", None),
-    "fresh": ("accepted 201 frames 201 transmissions", None),
-    "service": ("accepted 200 frames 8 transmissions", None),
-    "late": ("accepted 200 frames 8 transmissions", "6 faults"),  # with --within 1
-    "cells": ("refused 72 Content frame 00:00:00:00 row 22 column 11", "200 faults"),
-    "passed": ("refused 37 DataId pes 0", "201 faults"),
-    "swing": ("refused 73 Gap frame 00:00:00:01", "200 faults"),
+    **dict.fromkeys(("day", "pages", "fresh"), "accepted 201 frames 201 transmissions"),
+    "many": "accepted 4001 frames 201 transmissions",
+    "service": "accepted 200 frames 8 transmissions",
+    "late": "accepted 200 frames 8 transmissions",  # with --within 1
+    "cells": "refused 72 Content frame 00:00:00:00 row 22 column 11",
+    "passed": "refused 37 DataId pes 0",
+    "swing": "refused 73 Gap frame 00:00:00:01",
 }
 
 
@@ -272,39 +210,17 @@ class Measurements(Case):
 
     def test_each_kind_of_input_is_accepted_or_has_its_faults(self) -> None:
         script, stl, pes = self.import_from_bench("inputs.py"), self.path("stl"), self.path("pes")
-        self.check("kinds", [*INPUTS], [*script.EVERY])
-        for kind, (line, last_of_all) in INPUTS.items():
-            with mock.patch.object(script, "find_built_program", lambda: self.bench.program):
-                script.main([kind, "200", stl, pes])
+        self.check("kinds", {*INPUTS}, {*script.EVERY})
+        for kind, line in INPUTS.items():
+            script.make(self.bench.program, kind, 200, stl, pes)
             options = ["--every", script.EVERY[kind], *["--within", "1"] * (kind == "late")]
             self.check(kind, self.program("check", stl, pes, *options)[1], [line])
-            if last_of_all:
-                self.check(f"{kind}: --all", self.program(
-                    "check", stl, pes, *options[:2], "--all")[1][-1], last_of_all)
-
-    def test_a_recording_has_the_given_number_of_ts_packets_for_each_pes_packet(self) -> None:
-        script = self.import_from_bench("inputs.py")
-        stl, pes, recording = map(self.path, ("stl", "pes", "ts"))
-        script.make(self.bench.program, "service", 200, stl, pes)
-        for size, count in ((0, 5 * 200), (10, 10 + 10 * 200)):  # 10 before the first PES packet
-            script.record(pes, recording, size)
-            self.check(f"{size}", (os.path.getsize(recording), self.program(
-                "check", stl, recording, "--every", "25", "--pid", "257")),
-                (count * 188, (0, [INPUTS["service"][0]])))
 
     def test_counts_the_instructions_for_one_more_frame(self) -> None:
-        """A fake callgrind counts 1000 instructions for 100 frames, and 2500 for 200."""
-        self.write_program("valgrind", "#!/bin/sh\ncase $* in *-200.*) set 2500 ;; *) set 1000 ;; "
-                                       "esac\necho \"Collected : $1\" >&2\n")
         script = self.import_from_bench("count")
-        path = f"{self.folder}:{os.environ['PATH']}"
-        with mock.patch.dict(os.environ, {"PATH": path}), \
-                mock.patch.object(script, "length_of", lambda _: 100), \
-                contextlib.redirect_stdout(io.StringIO()) as out:
-            script.main(["-p", self.bench.program, "late", "mixed"])
-        self.check("table", out.getvalue(), "| Command | late | mixed |\n|---|---|---|\n"
-                   "| `check --within 2` | 15 |  |\n| `check --pid` |  | 15 |\n"
-                   "| `check --pid --pes` |  | 15 |\n| `survey` |  | 15 |\n")
+        with mock.patch.multiple(script, make=mock.Mock(), instructions=lambda _, words: (
+                250_000 if "-20000." in words[1] else 100_000)):  # frames in the names of files
+            self.check("instructions", script.counted("", "", "late")["check --within 2"], "15")
 
     def test_measures_the_processor_time_of_the_program_and_of_the_system_for_it(self) -> None:
         script = self.import_from_bench("run")
@@ -353,11 +269,9 @@ class Signals(Case):
             for setup, status in (("trap '' HUP; ", usual_status), ("", 2)):
                 shutil.rmtree(self.path("temporary"), ignore_errors=True)
                 os.mkdir(self.path("temporary"))
-                command = ["sh", "-c", f'{setup}exec "$@"', "sh", get_tool_path(name), *words]
-                with subprocess.Popen(
-                        command, cwd=self.folder, stdin=subprocess.PIPE, stdout=subprocess.DEVNULL,
-                        stderr=subprocess.DEVNULL, env={
-                            **os.environ, "TMPDIR": self.path("temporary")}) as process:
+                command = f'{setup}TMPDIR=temporary exec "$@" >output 2>&1'
+                with subprocess.Popen(["sh", "-c", command, "sh", get_tool_path(name), *words],
+                                      cwd=self.folder, stdin=subprocess.PIPE) as process:
                     assert process.stdin
                     process.stdin.write(read_example_file(sent))
                     process.stdin.flush()
@@ -426,16 +340,6 @@ class FailedChecks(Case):
         self.check("last line", last, f"{len(COUNT_CASES)} passed, 0 failed")
 
 
-    def test_check_tools_lists_each_reason_for_a_skipped_test_once(self) -> None:
-        script, counts = import_script("check-tools"), Counts(False)
-        counts.over, counts.testsRun, counts.passed = ["no mypy", "no bash", "no mypy"], 2, 1200
-        with mock.patch.object(script, "run_all", lambda *_: counts), \
-                contextlib.redirect_stdout(io.StringIO()) as out:
-            script.main(["-p", self.bench.program, "test_dev_gate.Counts"])
-        self.check("lines", out.getvalue().splitlines()[1:], [
-            "skipped: no mypy; no bash", "2 tests, 1,200 checks", "1200 passed, 0 failed"])
-
-
     def test_pytest_uses_the_program_in_subttx_and_lists_each_skipped_test_once(self) -> None:
         script, bench = import_script("conftest.py"), Bench()
         with mock.patch.dict(os.environ, {"SUBTTX": "/bin/true"}), \
@@ -448,104 +352,80 @@ class FailedChecks(Case):
         self.check("program, last line", (bench.program, out.getvalue()),
                    (os.path.realpath("/bin/true"), "skipped: no mypy; no bash\n"))
 
-    def test_make_pages_replaces_a_file_by_a_shorter_one(self) -> None:
-        script, path = import_script("make-pages"), self.write("page", b"the old text\n")
-        with mock.patch.multiple(script, TOP=self.folder, make_pages=lambda: {"page": "new\n"}):
-            script.main([])
-        self.check("text", read(path), "new\n")
 
-    def test_plant_prints_each_bug_that_no_test_finds_in_time(self) -> None:
-        script = import_script("plant")
-        bug = mock.Mock(function="f", line=7, kind="sign", old="+", new="-", text="")
-        for failed, is_printed, is_found in (("", True, False), ("test_one", False, True),
-                                             (script.TOO_LONG, True, True)):
-            worker = mock.Mock()
-            worker.run_task.return_value = {"failed": failed, "passed": 3}
-            planting = script.Planting([worker], "", mock.Mock(seed=1, one_of=1, quick=9))
-            with mock.patch.object(script, "make_bugs", lambda *_: [bug]), \
-                    contextlib.redirect_stdout(io.StringIO()) as out:
-                found = [*planting.try_bugs("tools/subtitles/common/times.py:f")]
-            self.check(f"{failed!r}", (found, out.getvalue()), ([is_found], (
-                f"tools/subtitles/common/times.py:7: sign: + -> - ({failed or 3} tests)\n"
-                if is_printed else "")))
+def replace_check(name: str, script: Any, faults: list[str]) -> dict[str, Any]:
+    """Return replacements for functions of a script. They do one check, which finds the faults."""
+    result: dict[str, Callable[[], dict[str, Any]]] = {
+        "check-every-place": lambda: {
+            **dict.fromkeys(("TOLERANCE_CASES", "LATE_PAGE_CASES", "ONE_FILE", "ONE_RULE_PAIRS"),
+                            []), "make_example_calls": list, "KNOWN_CALLS": [None],
+            "try_known": lambda *_: script.CheckResult("a", faults, (), 1)},
+        "check-live": lambda: {
+            "make_feeds": lambda: [script.Feed("a", [], [], ())], "make_stream": lambda _: [],
+            "follow": mock.Mock(side_effect=[(0, 0), (1 - len(faults), len(faults))])},
+        "check-manual": lambda: {
+            "copy_named_files": mock.Mock(), "CHAPTERS": [], "DOCUMENTS": [],
+            "check_names": lambda: (1 - len(faults), len(faults))},
+        "check-preview": lambda: {"check_in_browser": lambda _: [("a", " ".join(faults))]},
+        "check-readme": lambda: {
+            "clone_repository": lambda _: "clone", "place_program": mock.Mock(),
+            "has_program": lambda _: True,
+            "run_commands": lambda steps: steps.check_result("a", not faults)},
+        "faults": lambda: {"prepare": mock.Mock(), "GROUPS": {"a": lambda _: [lambda: [
+            ("a", RunResult(0, b"", None, []), faults)]]}},
+        "plant": lambda: {"Worker": mock.Mock(), "Planting": mock.Mock(
+            return_value=mock.Mock(try_bugs=lambda _: [not faults]))}}
+    return result[name]()
 
 
-# A script, the functions replaced in it, of which one returns or counts these faults, and its
-# arguments
-Replaced = Callable[[Any, "list[str]"], "dict[str, Any]"]
-FAILING_CHECKS: dict[str, tuple[Replaced, list[str]]] = {
-    "check-every-place": (lambda script, faults: {
-        **dict.fromkeys(("TOLERANCE_CASES", "LATE_PAGE_CASES", "ONE_FILE", "ONE_RULE_PAIRS"), []),
-        "KNOWN_CALLS": [None], "make_example_calls": list, "try_known": lambda *_:
-            script.CheckResult("a", faults, (), 1)}, ["--count", "0", "--recordings", "0"]),
-    "check-manual": (lambda script, faults: {
-        "copy_named_files": mock.Mock(), "run": lambda *_:
-            script.DocumentResult(len(faults) == 0, len(faults), 0, [])}, ["document"]),
-    "check-preview": (lambda script, faults: {
-        "check_in_browser": lambda _: [("a", " ".join(faults))]}, []),
-    "check-readme": (lambda script, faults: {
-        "clone_repository": lambda _: "clone", "place_program": mock.Mock(),
-        "has_program": lambda _: True,
-        "run_commands": lambda steps: steps.check_result("a", not faults)}, []),
-    "faults": (lambda script, faults: {
-        "prepare": mock.Mock(), "GROUPS": {"a": lambda trial: [lambda: [
-            ("a", RunResult(0, b"", None, []), faults)]]}}, []),
-}
+# The arguments of each script, and its last line if it has replace_check's fault and if not
+CHECKS = {
+    "check-every-place": ("--count 0 --recordings 0", "0 passed, 1 failed", "1 passed, 0 failed"),
+    **dict.fromkeys(("check-live", "check-manual", "check-preview", "check-readme", "faults"), (
+        "", "0 passed, 1 failed", "1 passed, 0 failed")),
+    "plant": ("a.py", "1 bugs, 1 passed all tests", "1 bugs, 0 passed all tests")}
 
 
 class CheckStatuses(Case):
+    def call_main(self, script: Any, args: list[str], **replaced: Any) -> tuple[int, list[str]]:
+        """Run a script in which functions are replaced. Return the status and printed lines."""
+        with mock.patch.multiple(script, **replaced), \
+                contextlib.redirect_stdout(io.StringIO()) as out:
+            return script.main(args), out.getvalue().splitlines()
+
     def test_a_check_with_a_fault_counts_it_and_ends_with_status_1(self) -> None:
-        for name, (replace, words) in FAILING_CHECKS.items():
-            for count in 0, 1:
+        for name, (words, *lines) in CHECKS.items():
+            for count, line in zip((1, 0), lines):
                 script, faults = import_script(name), ["wrong"] * count
-                with mock.patch.multiple(script, **replace(script, faults)), \
-                        contextlib.redirect_stdout(io.StringIO()) as out:
-                    result = script.main(["-p", "/bin/true", *words])
-                self.check(f"{name} {faults}", (out.getvalue().splitlines()[-1], result),
-                           (f"{1 - count} passed, {count} failed", count))
+                status, printed = self.call_main(script, ["-p", "/bin/true", *words.split()],
+                                                 **replace_check(name, script, faults))
+                self.check(f"{name} {faults}", (status, printed[-1]), (count, line))
 
     def test_check_manual_counts_each_unknown_name_and_wrong_number_in_documents(self) -> None:
-        script = import_script("check-manual")
-        with mock.patch.multiple(
-                script, find_unknown_names=lambda _: {"right": [], "wrong": ["a", "b"]},
-                correct_count_rows=lambda _: [("1", "1"), ("2", "3")],
-                correct_number_rows=lambda _: [("4", "5")], correct_readme_counts=lambda _: [],
-                find_long_readings=lambda *_: [None, "too long"]), \
-                contextlib.redirect_stdout(io.StringIO()) as out:
-            self.check("passed, failed", script.check_names(), (3, 4))
-        self.check("lines", out.getvalue().splitlines(), [
-            "a is no name of the sources", "b is no name of the sources",
-            "a document has '2', and not", "3", "a document has '4', and not", "5", "too long",
-            "names and counts: 7 documents and rows, 4 differ"])
+        status, lines = self.call_main(
+            import_script("check-manual"), ["-p", "/bin/true"], DOCUMENTS=[],
+            copy_named_files=mock.Mock(), find_unknown_names=lambda _: {"a": [], "b": ["wrong"]},
+            correct_count_rows=lambda _: [("1", "1"), ("2", "3")],
+            correct_number_rows=lambda _: [("4", "5")], correct_readme_counts=lambda _: [],
+            find_long_readings=lambda *_: [None, "too long"])
+        self.check("status, last line", (status, lines[-1]), (1, "3 passed, 4 failed"))
+
+    def test_check_tools_lists_each_reason_for_a_skipped_test_once(self) -> None:
+        counts = Counts(False)
+        counts.over, counts.testsRun, counts.passed = ["no mypy", "no bash", "no mypy"], 2, 1200
+        _, lines = self.call_main(import_script("check-tools"), ["-p", "/bin/true", "Counts"],
+                                  run_all=lambda *_: counts)
+        self.check("lines", lines[1:], [
+            "skipped: no mypy; no bash", "2 tests, 1,200 checks", "1200 passed, 0 failed"])
+
+    def test_make_pages_replaces_a_file_by_a_shorter_one(self) -> None:
+        path = self.write("page", b"the old text\n")
+        self.call_main(import_script("make-pages"), [], TOP=self.folder,
+                       make_pages=lambda: {"page": "new\n"})
+        self.check("text", read(path), "new\n")
 
 
 class NewMachines(Case):
-    def test_install_test_tools_installs_each_known_package_unless_apt_get_fails(self) -> None:
-        """gcc is installed, and apt-get does not know chromium."""
-        for name, text in (("id", "echo 0"), ("apt-cache", "[ $2 != chromium ]"),
-                           ("dpkg-query", "[ $3 != gcc ] || echo ok installed")):
-            self.write_program(name, f"#!/bin/sh\n{text}\n")
-        packages = ["mypy", "parallel", "lintian", "libzvbi0", "python3-jsonschema", "ffmpeg",
-                    "strace", "libc6-dev", "systemd", "python3-ttconv"]
-        for failing, status, calls in (("none", 0, ["-q", *packages]), ("update -q", 1, ["-q"]),
-                                       ("lintian", 1, ["-q", *packages[:3]])):
-            self.write_program("apt-get", "#!/bin/sh\necho $* >>calls\n"
-                                          f"case $* in *'{failing}') exit 1 ;; esac\n")
-            self.write("calls", b"")
-            process = self.call([get_tool_path("install-test-tools")],
-                                env={**os.environ, "PATH": f"{self.folder}:{os.environ['PATH']}"})
-            self.check(f"{failing} fails", (process.status, [
-                line.split()[-1] for line in self.read("calls").decode().splitlines()]),
-                (status, calls))
-
-    def test_install_test_tools_needs_root_if_a_package_is_missing(self) -> None:
-        for name, text in (("dpkg-query", ""), ("id", "echo 1000\n")):
-            self.write_program(name, f"#!/bin/sh\n{text}")
-        process = self.call([get_tool_path("install-test-tools")],
-                            env={**os.environ, "PATH": f"{self.folder}:{os.environ['PATH']}"})
-        self.check("status, message", (process.status, process.told),
-                   (2, ["install-test-tools: needs root: use sudo"]))
-
     def test_check_program_prints_first_what_it_runs_and_last_what_was_skipped(self) -> None:
         script = import_script("check-program")
         skipped = "skipped: units, since there is no systemd"
@@ -590,31 +470,20 @@ CRATE_LINES = {name: (digest, "logic=proved functions=1")
                for name, digest in list_crate_sums().items()}
 
 
-def omit_crate(name: str) -> Crates:
-    return {crate: line for crate, line in CRATE_LINES.items() if crate != name}
-
-
-class ReleasedLines(Case):
-    def test_finds_each_crate_without_the_prover_line_of_its_sources(self) -> None:
-        first, *others, last = CRATE_LINES
-        cases: dict[str, tuple[Crates, list[str]]] = {
-            "all crates": (CRATE_LINES, []), "no crates": ({}, [first, *others, last]),
-            "the first is missing": (omit_crate(first), [first]),
-            "the last is missing": (omit_crate(last), [last]),
-            "other sources": ({**CRATE_LINES, last: ("0", "logic=proved functions=1")}, [last])}
-        for case, (crates, expected) in cases.items():
-            proved = ProvedProgram(None, None, None, crates)
-            self.check(case, find_crates_without_line(proved), expected)
-
-
 class ReleasedArchives(Case):
-    def test_needs_the_prover_line_of_each_crate(self) -> None:
-        dist = import_script("dist")
+    def test_needs_the_prover_line_of_the_sources_of_each_crate(self) -> None:
+        dist, last = import_script("dist"), [*CRATE_LINES][-1]
         program = self.write_program("subttx", "")
-        proved = ProvedProgram(None, None, None, CRATE_LINES)
-        self.write("PROVED", format_proved(proved).encode())
+        cases: dict[str, Crates] = {
+            "no crates": {}, "the last is missing": {
+                name: line for name, line in CRATE_LINES.items() if name != last},
+            "other sources": {**CRATE_LINES, last: ("0", CRATE_LINES[last][1])}}
         with mock.patch.object(dist, "find_built_program", lambda: program):
+            for name, crates in cases.items():
+                self.write("PROVED", format_proved(
+                    ProvedProgram(None, None, None, crates)).encode())
+                with self.subTest(name), self.assertRaisesRegex(Stop, "has no line of each crate"):
+                    dist.find_proved_program()
+            self.write("PROVED", format_proved(
+                ProvedProgram(None, None, None, CRATE_LINES)).encode())
             self.check("all crates", dist.find_proved_program()[0], program)
-            proved = proved._replace(crates=omit_crate(list(CRATE_LINES)[-1]))
-            self.write("PROVED", format_proved(proved).encode())
-            self.assertRaisesRegex(Stop, "has no line of each crate", dist.find_proved_program)

@@ -279,7 +279,7 @@ def list_tool_names() -> list[str]:
 VALID: dict[str, list[list[str]]] = {
     "air": [["judge", "--help"]], "dist": [["to"]], "edits": [["--applies"]],
     "graph": [["Good"], ["--clauses", "sub_check"]], "install": [["to"]],
-    "make-examples": [["."]], "pes2ts": [[PES, "0x101"]], "poke": [[STL], [STL, "-c", "4"]],
+    "pes2ts": [[PES, "0x101"]], "poke": [[STL], [STL, "-c", "4"]],
     "program": [[]], "qc": [["--file-only", STL], [STL, PES, "--origin", "0"]], "read": [[PES]],
     "reading-list": [["Good"], ["--lowest-first", "Good"], ["check_all.reported"]],
     "sizes": [[]], "sources": [[]],
@@ -291,7 +291,7 @@ CALLED_ELSEWHERE = {
     "tools/check-program": ["check-live", "check-manual", "check-preview", "check-readme",
                             "faults"],
     ".ci/run": ["check-program"], "test_dev_clones": ["release"],
-    "test_dev_scripts": ["check-tools"],
+    "test_dev_scripts": ["check-tools", "make-examples"],
     "test_dev_documents": ["make-pages", "make-picture"],
     "the toolchain": ["prove", "slow-proofs"], "by hand": ["plant", "install-test-tools"]}
 
