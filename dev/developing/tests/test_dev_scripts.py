@@ -18,7 +18,7 @@ from subtitles.common.command_line import Stop
 from subtitles.common.program import TOP, read
 from ..trial import RunResult
 from .bench import (
-    EXAMPLES, Bench, Case, CompletedCall, get_example_path, get_tool_path, import_script,
+    BENCH, EXAMPLES, Bench, Case, CompletedCall, get_example_path, get_tool_path, import_script,
     read_example_file)
 from .failures import MAX_LINES_PRINTED
 from .programmes import wait_until
@@ -374,7 +374,7 @@ def replace_check(name: str, script: Any, faults: list[str]) -> dict[str, Any]:
         "faults": lambda: {"prepare": mock.Mock(), "GROUPS": {"a": lambda _: [lambda: [
             ("a", RunResult(0, b"", None, []), faults)]]}},
         "plant": lambda: {"Worker": mock.Mock(), "Planting": mock.Mock(
-            return_value=mock.Mock(try_bugs=lambda _: [not faults]))}}
+            return_value=mock.Mock(try_bugs=lambda _: [True, not faults]))}}
     return result[name]()
 
 
@@ -383,13 +383,13 @@ CHECKS = {
     "check-every-place": ("--count 0 --recordings 0", "0 passed, 1 failed", "1 passed, 0 failed"),
     **dict.fromkeys(("check-live", "check-manual", "check-preview", "check-readme", "faults"), (
         "", "0 passed, 1 failed", "1 passed, 0 failed")),
-    "plant": ("a.py", "1 bugs, 1 passed all tests", "1 bugs, 0 passed all tests")}
+    "plant": ("a.py", "2 bugs, 1 passed all tests", "2 bugs, 0 passed all tests")}
 
 
 class CheckStatuses(Case):
     def call_main(self, script: Any, args: list[str], **replaced: Any) -> tuple[int, list[str]]:
         """Run a script in which functions are replaced. Return the status and printed lines."""
-        with mock.patch.multiple(script, **replaced), \
+        with mock.patch.multiple(script, **replaced), mock.patch.dict(vars(BENCH)), \
                 contextlib.redirect_stdout(io.StringIO()) as out:
             return script.main(args), out.getvalue().splitlines()
 

@@ -264,7 +264,7 @@ WRONG_FILES: dict[str, list[list[str]]] = {
     "release": [["--note", "none"]], "reading-list": [["none"]], "slow-proofs": [["none"]],
     **{name: [["-p", "none"]] for name in (
         "check-every-place", "check-live", "check-manual", "check-preview", "check-program",
-        "check-readme", "check-survey", "check-tools", "faults", "plant")},
+        "check-survey", "check-tools", "faults", "plant")},
     "make-examples": [["-p", "none", "."]],
 }
 
