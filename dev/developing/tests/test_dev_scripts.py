@@ -89,7 +89,7 @@ class Gate(Case):
                 text = make_stage(stage, line, status) if stage == changed else \
                     make_stage(stage, usual_line, 0)
                 self.write_program(f"{folder}/{stage if '/' in stage else f'bin/{stage}'}", text)
-            sums = 'wc -c <"$CALLS"' if changed == "tools/sources" else "echo sum"
+            sums = 'ls "$CALLS" 2>&1' if changed == "tools/sources" else "echo sum"
             self.write_program(f"{folder}/tools/sources", f"#!/bin/sh\n{sums}\n")
             env = {**os.environ, "PATH": f"{self.path(folder)}/bin:{os.environ['PATH']}",
                    "CALLS": self.path(f"{folder}/calls")}
