@@ -35,22 +35,25 @@ class LineRecorder(SilentPrinter):
 
 
 class JudgedPair(NamedTuple):
-    """A judged pair. Printed commands may contain no files except `files`."""
+    """A judged pair: what qc printed, its JSON result, and the lines of `check --all`.
+
+    Lines printed on standard error begin with `! `. Printed commands contain only `files`.
+    """
 
     verdict: Verdict
-    said: list[str]
+    printed: list[str]
     result: dict[str, Any]
-    listed: list[str]
+    check_lines: list[str]
     files: set[str | None]
 
     @property
-    def word(self) -> str:
-        """Return the verdict that the pair would have if the user had given a clock."""
+    def timed_verdict(self) -> str:
+        """Return the verdict as if a clock had been given: `accepted` instead of `relative`."""
         return decide(self.verdict.collect_grounds()._replace(has_clock=True)).word
 
     @property
     def sentence(self) -> str:
-        """Return the sentence of the verdict, without the one about checks that were not made."""
+        """Return the verdict's sentence without the end that begins with `Not checked:`."""
         return self.verdict.sentence.partition(" Not checked: ")[0]
 
     def is_timed(self) -> bool:
@@ -59,14 +62,14 @@ class JudgedPair(NamedTuple):
         Without a clock, qc must not print `accepted` or `waived`, and status 0 needs --relative.
         """
         request, printed = self.verdict.request, (
-            self.verdict.word, self.result["verdict"], self.said[-1].split(" ")[0])
+            self.verdict.word, self.result["verdict"], self.printed[-1].split(" ")[0])
         return request.has_clock or not {"accepted", "waived", "waived:"} & {*printed} and (
             request.is_relative_allowed or 0 not in (self.verdict.status, self.result["status"]))
 
     @property
-    def told(self) -> list[str]:
+    def stderr(self) -> list[str]:
         """Return the lines printed on standard error."""
-        return [line[2:] for line in self.said if line.startswith("! ")]
+        return [line[2:] for line in self.printed if line.startswith("! ")]
 
     @property
     def notes(self) -> list[str]:
@@ -75,17 +78,18 @@ class JudgedPair(NamedTuple):
 
     def lines(self, begin: str) -> list[str]:
         """Return the printed lines with the prefix `begin`, without this prefix."""
-        return [line[len(begin):] for line in self.said if line.startswith(begin)]
+        return [line[len(begin):] for line in self.printed if line.startswith(begin)]
 
     def parts(self, *names: str) -> list[tuple[Any, ...]]:
+        """Return these members of each part in the JSON result."""
         return [tuple(part[name] for name in names) for part in self.result["parts"]]
 
 
-def judge_files(case: Case, *args: str, by: str | None = None,
+def judge_files(case: Case, *args: str, program: str | None = None,
                 recorder: LineRecorder | None = None) -> JudgedPair:
     """Run qc on a pair. Check that the printed commands contain only files of this pair."""
-    result = judge_files_with(by or case.bench.program, *args, recorder=recorder)
-    case.must("a clock", result.is_timed(), result.said)
+    result = judge_files_with(program or case.bench.program, *args, recorder=recorder)
+    case.must("a clock", result.is_timed(), result.printed)
     for line in result.verdict.commands:
         case.must(line, set(list_shown_files(line)) <= result.files, result.files)
     return result
@@ -119,30 +123,32 @@ def judge_files_with(program: str, *args: str, recorder: LineRecorder | None = N
 
 
 class ProgrammeCase(Case):
-    """A test case with a subtitle file `stl` and its transmission (`sent`, `pes`).
+    """A test case with a subtitle file `stl` and its correct transmission (`sent`, `pes`).
 
-    `due` contains the start and end frames of the subtitles. `words` contains arguments for qc.
+    Ten subtitles appear every 100 frames for 60 frames. Frame 0 has the PTS 0, which qc is told.
     """
 
-    due: Sequence[tuple[int, int]] = subtitle_times(10)
-    words: Sequence[str] = ("--origin", "0")
+    cues: Sequence[tuple[int, int]] = subtitle_times(10)  # TCI and TCO of each, in frames
+    qc_args: Sequence[str] = ("--origin", "0")
     # Text of each line, number of lines in a subtitle, and first subtitle number.
     text, lines, first = b"Number %d", 1, 1
     origin, every = 0, 25  # PTS of frame 0, and repeat interval in frames
 
     def setUp(self) -> None:
         super().setUp()
-        self.stl = write_programme(self, self.due, self.lines, self.text, self.first)
+        self.stl = write_programme(self, self.cues, self.lines, self.text, self.first)
         self.sent = schedule_pages(self, self.stl, origin=self.origin, every=self.every)
         self.pes = packets(join_pes_packets(self.sent))
 
     def judge(self, sent: SentPes, *args: str) -> JudgedPair:
+        """Judge the subtitle file with a PES recording of `sent`, `qc_args` and more arguments."""
         return judge_files(self, self.stl, self.write("one.pes", join_pes_packets(sent)),
-                           *self.words, *args)
+                           *self.qc_args, *args)
 
     def judge_stream(self, result: bytes | Iterable[Packet], *args: str) -> JudgedPair:
+        """Judge the subtitle file with a transport stream."""
         data = result if isinstance(result, bytes) else join_packets(result)
-        return judge_files(self, self.stl, self.write("one.ts", data), *self.words, *args)
+        return judge_files(self, self.stl, self.write("one.ts", data), *self.qc_args, *args)
 
 
 def list_shown_files(line: str) -> list[str]:

@@ -4,9 +4,10 @@
     as scheduled  |            | accepted |
     3 late by 7   | --within 2 | refused  | 3 late by 7 frames
 
-The programme has a subtitle every 4 seconds, which is shown for 60 frames. The first line of a
-table names its columns. `CHANGES` has the words of `sent`, separated by commas, and `ANSWERS` the
-columns that are compared.
+The programme has a subtitle every 100 frames, which is shown for 60 frames. The first line of a
+table names its columns. Numbers in `sent` are subtitle numbers and frames: `3 late by 7` delays
+subtitle 3 by 7 frames. `CHANGES` lists these changes, which commas separate. `T` in `options`
+stands for the PTS of frame 0. `ANSWERS` lists the columns that are compared with the result.
 """
 from __future__ import annotations
 
@@ -41,37 +42,37 @@ def read_vectors(name: str) -> Iterator[Story]:
         yield from csv.DictReader(lines, delimiter="\t", quoting=csv.QUOTE_NONE, restval="")
 
 
-def first_tick(number: str) -> int:
+def get_tci_pts(number: str) -> int:
     return ORIGIN + EACH * int(number) * TICKS
 
 
-def delay(sent: SentPes, words: Match[str]) -> SentPes:
+def delay(sent: SentPes, match: Match[str]) -> SentPes:
     """Delay the PES packets in the frames in which each of the subtitles is shown."""
-    by = int(words[4]) * (-1 if words[3] == "early" else 1)
-    for number in range(int(words[1]), int(words[2] or words[1]) + 1):
-        begin = first_tick(f"{number}")
+    by = int(match[4]) * (-1 if match[3] == "early" else 1)
+    for number in range(int(match[1]), int(match[2] or match[1]) + 1):
+        begin = get_tci_pts(f"{number}")
         sent = make_delay(by, begin, begin + LASTS * TICKS - 1)(sent)
     return sent
 
 
-def leave_out(sent: SentPes, words: Match[str]) -> SentPes:
-    begin = first_tick(words[1])
+def leave_out(sent: SentPes, match: Match[str]) -> SentPes:
+    begin = get_tci_pts(match[1])
     return [item for item in sent if not begin <= item[0] < begin + LASTS * TICKS]
 
 
-def leave_out_repeats(sent: SentPes, words: Match[str]) -> SentPes:
-    begin = first_tick(words[1])
+def leave_out_repeats(sent: SentPes, match: Match[str]) -> SentPes:
+    begin = get_tci_pts(match[1])
     return [item for item in sent if not begin < item[0] < begin + EACH * TICKS // 2]
 
 
-def send_another_text(sent: SentPes, words: Match[str]) -> SentPes:
+def send_another_text(sent: SentPes, match: Match[str]) -> SentPes:
     """Send the page of another subtitle in the frames in which a subtitle is shown."""
-    begin, other = first_tick(words[1]), dict(sent)[first_tick(words[2])]
+    begin, other = get_tci_pts(match[1]), dict(sent)[get_tci_pts(match[2])]
     return [(pts, other if begin <= pts < begin + LASTS * TICKS else some) for pts, some in sent]
 
 
-def add_blank_page(sent: SentPes, words: Match[str]) -> SentPes:
-    return [(sent[0][0] - int(words[1]) * TICKS, sent[-1][1]), *sent]
+def add_blank_page(sent: SentPes, match: Match[str]) -> SentPes:
+    return [(sent[0][0] - int(match[1]) * TICKS, sent[-1][1]), *sent]
 
 
 CHANGES: dict[str, Callable[[SentPes, Match[str]], SentPes]] = {
@@ -94,9 +95,9 @@ def describe_part(judged: JudgedPair, index: int) -> str:
 
 
 ANSWERS: dict[str, Callable[[JudgedPair], str]] = {
-    "verdict": lambda judged: judged.word,
+    "verdict": lambda judged: judged.timed_verdict,
     "line": lambda judged: str(judged.result["line"]),
-    "last line": lambda judged: judged.said[-1],
+    "last line": lambda judged: judged.printed[-1],
     "sentence": lambda judged: judged.verdict.sentence,
     "causes": lambda judged: "; ".join(re.sub(r'subtitle (\d+).* at [\d:]+, ".*?": ', r"\1 ", line)
                                        for line in judged.lines("cause: ")),
@@ -126,29 +127,29 @@ class StoryCase(ProgrammeCase):
     """A test case with a programme whose frame 0 has the PTS `ORIGIN`."""
 
     origin = ORIGIN
-    ways: Mapping[str, Change] = {}  # more words of `sent`
+    more_changes: Mapping[str, Change] = {}  # further changes that `sent` may name
 
-    def change(self, words: str) -> SentPes:
+    def apply_changes(self, words: str) -> SentPes:
         """Return the transmission with the changes that `words` names."""
         sent = self.sent
         for item in words.split(", "):
             if BREAK.fullmatch(item) or MARKER.fullmatch(item):
                 continue
-            if item in self.ways:
-                sent = self.ways[item](sent)
+            if item in self.more_changes:
+                sent = self.more_changes[item](sent)
                 continue
             (does, match), = ((does, match) for form, does in CHANGES.items()
                               if (match := re.fullmatch(form, item)))
             sent = does(sent, match)
         breaks = [(int(number), int(by)) for by, number in BREAK.findall(words)]
         return [(pts + TICKS * sum(by for number, by in breaks
-                                   if pts >= first_tick(f"{number}") - PAUSE * TICKS), some)
+                                   if pts >= get_tci_pts(f"{number}") - PAUSE * TICKS), some)
                 for pts, some in sent]
 
-    def tell(self, words: str, *args: str) -> JudgedPair:
+    def judge_changes(self, words: str, *args: str) -> JudgedPair:
         """Judge a recording with the changes that `words` names."""
         places = {*map(int, MARKER.findall(words))}
-        pes = [make_pes_packet(pts % CLOCK, some) for pts, some in self.change(words)]
+        pes = [make_pes_packet(pts % CLOCK, some) for pts, some in self.apply_changes(words)]
         data = b"".join(GAP_MARKER * (at in places) + item for at, item in enumerate(pes))
         return judge_files(self, self.stl, self.write("one.pes", data), *args)
 
@@ -157,7 +158,7 @@ class StoryCase(ProgrammeCase):
         for row in read_table(table):
             story = {**row, **same}
             words = [word.replace("T", f"{ORIGIN}") for word in story.get("options", "").split()]
-            judged = self.tell(story["sent"], *words, *args)
+            judged = self.judge_changes(story["sent"], *words, *args)
             self.check_answers(" ".join([story["sent"], *words, *args]), judged, story)
 
     def check_answers(self, name: str, judged: JudgedPair, story: Story, *others: str) -> None:

@@ -337,7 +337,7 @@ class Profiles(Case):
         for item, path in zip(programmes, paths):
             result = judge_files(self, item.stl, path, "--profile", self.path("profile"),
                                  "--origin", "0")
-            self.check(f"{name}: {result.verdict.sentence}", result.word == "accepted",
+            self.check(f"{name}: {result.verdict.sentence}", result.timed_verdict == "accepted",
                        not any(path in line for line in refused))
 
     def test_allows_off_frame_pts_of_two_packets_a_frame(self) -> None:

@@ -80,10 +80,10 @@ class PipedRecordings(Case):
         for limit, word in ((len(pes), "accepted"), (len(pes) - 1, "not judged")):
             with mock.patch.object(recording, "MAX_PIPED_BYTES", limit):
                 result = judge_files(self, STORY, write_pipe(self, pes), "--origin", "0")
-            self.check(f"{len(pes)} bytes, limit {limit}", result.word, word)
-        self.must("message of the pipe that is too long", result.told[-1].endswith(
+            self.check(f"{len(pes)} bytes, limit {limit}", result.timed_verdict, word)
+        self.must("message of the pipe that is too long", result.stderr[-1].endswith(
             f" has not ended after {limit:,} bytes: judge an endless feed with tools/air"),
-            result.told)
+            result.stderr)
 
     def test_reports_a_full_disk_for_a_pipe(self) -> None:
         """The pipe contains more than the 200 KiB that the shell allows qc to write to a file."""

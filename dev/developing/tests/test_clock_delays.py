@@ -28,21 +28,22 @@ FIRST_PTS, START_TIME = (BEGIN - START_OFFSET) * TICKS, format_frame(BEGIN - STA
 class Delays(ProgrammeCase):
     """A programme of 20 subtitles with a pause after each. The PTS of frame 0 is 0."""
 
-    due = [(FIRST_TCI + DISTANCE * at, FIRST_TCI + DISTANCE * at + DURATION) for at in range(20)]
-    words = WORDS
+    cues = [(FIRST_TCI + DISTANCE * at, FIRST_TCI + DISTANCE * at + DURATION) for at in range(20)]
+    qc_args = WORDS
 
     def test_does_not_report_a_delay_if_all_received_cues_agree(self) -> None:
         pes = packets(self.read(self.schedule(STORY, "all.pes", "--every", "25")))
         cut = self.write("cut.pes", b"".join(pes[7:11]))
         judged = judge_files(self, STORY, cut, "--origin", "0")
-        self.must("clock", "clock: the subtitles match --origin 0" in judged.said, judged.said)
+        self.must("clock", "clock: the subtitles match --origin 0" in judged.printed,
+                  judged.printed)
         self.check("lines about a delay", [
-            line for line in judged.said if "late" in line
+            line for line in judged.printed if "late" in line
             and not line.startswith("refused 74 Late")], [])
         self.must("delay", judged.result["parts"][0]["clock"]["delay_frames"] in (0, None))
 
     def test_says_that_all_subtitles_are_late_unless_a_text_is_wrong(self) -> None:
-        late, (begin, end) = make_delay(3)(self.sent), self.due[2]
+        late, (begin, end) = make_delay(3)(self.sent), self.cues[2]
         wrong = [(pts, [HEADER, make_numbered_row(22, b"Other"), CLOSING]
                   if begin <= pts // TICKS - 3 < end else some) for pts, some in late]
         for sent, sentence in ((late, "Refused: all 20 subtitles appeared 3 frames late."), (
@@ -51,21 +52,22 @@ class Delays(ProgrammeCase):
             self.must(sentence, result["sentence"].startswith(sentence), result["sentence"])
 
     def test_judges_both_sides_of_a_short_break_by_two_calls(self) -> None:
-        middle = format_frame(self.due[10][0])
+        middle = format_frame(self.cues[10][0])
         for length in (124, 25):  # in frames
-            sent = make_delay(length, self.due[10][0] * TICKS)(self.sent)
+            sent = make_delay(length, self.cues[10][0] * TICKS)(self.sent)
             for words in (["--to", middle], ["--from", middle], ["--to", middle, "--origin", "0"]):
                 judged = self.judge(sent, *words)
-                self.check(f"{length} {words}", (judged.word, judged.verdict.subtitle_count),
+                self.check(f"{length} {words}",
+                           (judged.timed_verdict, judged.verdict.subtitle_count),
                            ("accepted", 10))
-            late = make_delay(1, self.due[15][0] * TICKS)(sent)  # a frame from subtitle 16 on
+            late = make_delay(1, self.cues[15][0] * TICKS)(sent)  # a frame from subtitle 16 on
             self.check(f"{length}: a delay after the break", [
-                self.judge(late, option, middle).word for option in ("--to", "--from")],
+                self.judge(late, option, middle).timed_verdict for option in ("--to", "--from")],
                 ["accepted", "refused"])
 
     def test_judges_adjoining_parts(self) -> None:
         # Subtitle 10 lasts until subtitle 11 begins, and there the PTS go on from another origin.
-        times = [*self.due[:9], (self.due[9][0], self.due[10][0]), *self.due[10:]]
+        times = [*self.cues[:9], (self.cues[9][0], self.cues[10][0]), *self.cues[10:]]
         stl = write_programme(self, times)
         for origins in ((0, 4500 * TICKS), (3_000_000_000, 77_000)):
             sent = [(pts + origin, some) for half, number, origin in zip(
@@ -81,9 +83,9 @@ class Delays(ProgrammeCase):
                 self.check(f"{origins} {source}: sources of the clocks", [
                     clock["source"] for clock, in judged.parts("clock")], [source, "recording"])
             judged = judge_files(self, stl, path, *WORDS)
-            self.check(f"{origins}: without --breaks", judged.word, "refused")
+            self.check(f"{origins}: without --breaks", judged.timed_verdict, "refused")
             self.check(f"{origins}: says that the PTS go back",
-                       "where the PTS go back" in judged.told[0], origins[1] < origins[0])
+                       "where the PTS go back" in judged.stderr[0], origins[1] < origins[0])
 
 
 class FirstPictures(Case):
@@ -100,13 +102,13 @@ class FirstPictures(Case):
             first = (FIRST_PTS + shift) % CLOCK
             data = add_pictures(pes, first, kind, leading=0 if kind == H_264 else 2).data
             judged = self.judge(data, "--start", START_TIME)
-            self.check(f"{kind} {shift}", judged.word, "accepted")
+            self.check(f"{kind} {shift}", judged.timed_verdict, "accepted")
             self.must(f"{kind} {shift}: line", any(
                 line.startswith("the first picture (") and f"has PTS {first}; 3 earlier PES "
-                "packets of video were skipped" in line for line in judged.said), judged.said)
+                "packets of video were skipped" in line for line in judged.printed), judged.printed)
             judged = self.judge(data, "--start", format_frame(BEGIN - START_OFFSET - 2))
             self.check(f"{kind} {shift}, --start is 2 frames early",
-                       (judged.word, judged.result["parts"][0]["clock"]), (
+                       (judged.timed_verdict, judged.result["parts"][0]["clock"]), (
                            "refused", {"origin": (shift + 2 * TICKS) % CLOCK, "source": "start",
                                        "delay_frames": -2}))
 
@@ -124,19 +126,19 @@ class FirstPictures(Case):
                 (("--origin", f"{90_000 * 3600}"), "with --origin 324000000, all subtitles would "
                  "be 1 h early, so the recording contains no subtitle at its expected time")):
             judged = self.judge(data, *options)
-            self.check(f"{options}", (judged.word, judged.told), ("not judged", [line]))
+            self.check(f"{options}", (judged.timed_verdict, judged.stderr), ("not judged", [line]))
 
     def test_uses_the_first_picture_of_a_pipe(self) -> None:
         data = add_pictures(read_example_file("story.pes"), FIRST_PTS).data
         judged = judge_files(self, STORY, write_pipe(self, data), "--start", START_TIME)
-        self.check("verdict", judged.word, "accepted")
+        self.check("verdict", judged.timed_verdict, "accepted")
 
     def test_only_the_first_part_uses_the_clock_of_the_first_picture(self) -> None:
         stl, pes = make_two_parts(self)
         start = FIRST_TCI - START_OFFSET
         judged = self.judge(add_pictures(pes, 1000 + start * TICKS).data, "--start",
                             format_frame(start), "--breaks", "1", stl=stl)
-        self.check("verdict", judged.word, "accepted")
+        self.check("verdict", judged.timed_verdict, "accepted")
         self.check("clocks", [(clock["source"], clock["origin"])
                               for clock, in judged.parts("clock")],
                    [("start", 1000), ("recording", 1000 + 4500 * TICKS)])
@@ -153,9 +155,10 @@ class FirstPictures(Case):
                                                        "20150025"))):
             stl[TCP_PLACE] = tcp.encode()
             judged = self.judge(data, "--start", "tcp", stl=self.write("two.stl", stl))
-            self.check(f"{tcp}: verdict", judged.word, "not judged" if reason else "accepted")
+            self.check(f"{tcp}: verdict", judged.timed_verdict,
+                       "not judged" if reason else "accepted")
             if reason:
-                self.must(f"{tcp}: reason", reason in judged.told[0], judged.told)
+                self.must(f"{tcp}: reason", reason in judged.stderr[0], judged.stderr)
             else:
                 self.check("clock", judged.result["parts"][0]["clock"]["source"], "tcp")
 

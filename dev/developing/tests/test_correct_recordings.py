@@ -301,7 +301,7 @@ class CorrectRecordings(Case):
     def test_accepts_all_but_a_bounded_number_of_correct_recordings_of_each_kind(self) -> None:
         for kind, bound in BOUNDS.items():
             several = [item for item in recordings() if item.kind == kind]
-            judged = {item.name: item.judge(self).word
+            judged = {item.name: item.judge(self).timed_verdict
                       for item in several[::1 if self.bench.is_timed else SAMPLE_STEP]}
             words = [*judged.values()]
             refused = sum(word not in ("accepted", "not judged") for word in words)
@@ -326,7 +326,7 @@ class IndistinguishableFaults(Case):
             if inserter.name in ("rare 80 False", "rare 80 True"):
                 files = inserter.write_files(self)
                 self.check(inserter.name, [
-                    judge_files(self, *files, *inserter.args, "--origin", origin).word
+                    judge_files(self, *files, *inserter.args, "--origin", origin).timed_verdict
                     for origin in ("0", f"{TICKS}")], ["accepted", "refused"])
 
 

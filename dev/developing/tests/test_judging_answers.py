@@ -137,11 +137,12 @@ class ChangingFiles(Case):
                 program_call, f"(cd '{self.folder}'; {command.replace('FILE', changed)})")
             stl, recording, severity = map(self.path, ("one.stl", "one.ts", "one.severity"))
             judged = judge_files(self, stl, recording, "--origin", "0", "--severity", severity,
-                                 "-o", self.path("out"), by=program)
+                                 "-o", self.path("out"), program=program)
             word = "accepted" if change == "nothing" else "not judged"
             stored, place = json.loads(self.read("out/one.json")), \
                 f"{change}: {changed}, {program_call}"
-            self.check(f"{place}: verdicts", (judged.word, stored["verdict"]), (word, word))
+            self.check(f"{place}: verdicts", (judged.timed_verdict, stored["verdict"]),
+                       (word, word))
             reason = f"{self.path(changed)} changed while it was judged: judge it again when it " \
                 "is complete"
             self.must(f"{place}: the reason", (reason in (stored["reason"] or "")) ==
@@ -160,6 +161,6 @@ class StoredRecordings(Case):
                                           (write_pipe(self, stream), "one.recording.ts", stream)):
                 judged = judge_files(self, get_example_path("story.stl"), recording, "--origin",
                                      origin, "--keep", "-o", self.path("out"))
-                self.check(f"{word} {name}: verdict", judged.word, word)
+                self.check(f"{word} {name}: verdict", judged.timed_verdict, word)
                 self.check(f"{word} {name}: bytes", self.read(f"out/{name}") == data, True)
                 os.remove(self.path(f"out/{name}"))

@@ -32,7 +32,7 @@ def insert_page(sent: SentPes, frame: int, *rows: bytes) -> SentPes:
 
 
 class SenderFaults(ProgrammeCase):
-    due = TIMES
+    cues = TIMES
 
     def judge_pages(self, *pages: tuple[int, tuple[bytes, ...]]) -> JudgedPair:
         sent = self.sent

@@ -67,7 +67,8 @@ class Choices(Case):
     def judge(self, name: str, *words: str) -> list[tuple[Any, ...]]:
         """Judge a pair, and return the choices. Check that they are printed and complete."""
         judged = judge_files(self, *words)
-        self.check(f"{name}: wrong choices", [*list_choice_errors(judged.result, judged.said)], [])
+        self.check(f"{name}: wrong choices",
+                   [*list_choice_errors(judged.result, judged.printed)], [])
         return list_choices_of(judged)
 
     def test_lists_each_choice_with_its_evidence(self) -> None:
@@ -176,13 +177,13 @@ class Magazines(Case):
                     *get_teletext_packets(get_data_field(two))])
                                                        for item, two in both))
                 judged = judge_files(self, stl, path, "--page", page, *WORDS)
-                self.check(f"{page} {name}: verdict", judged.word,
+                self.check(f"{page} {name}: verdict", judged.timed_verdict,
                            "accepted" if name == "right" else "refused")
                 self.check(f"{page} {name}: page", judged.result["request"]["page"], page)
                 self.check(f"{page} {name}: command", f"--page {page}" in judged.lines("+ ")[-1],
                            page != "888")
             judged = judge_files(self, stl, self.path("first.pes"), "--page", page, *WORDS)
-            self.check(f"{page}: not sent", judged.word, "not judged")
+            self.check(f"{page}: not sent", judged.timed_verdict, "not judged")
 
 
 ALL_ACCEPTED = "accepted 961 frames 49 transmissions; not checked: no_video, losses"
@@ -193,7 +194,7 @@ TELETEXT_ENDS = {1: "refused 74 Late frame 00:00:04:00", 20: "refused 74 Late fr
 
 
 class ForeignPackets(ProgrammeCase):
-    words = WORDS
+    qc_args = WORDS
 
     def setUp(self) -> None:
         super().setUp()
@@ -229,8 +230,8 @@ class ForeignPackets(ProgrammeCase):
 
     def test_judges_no_stream_without_teletext(self) -> None:
         judged = self.judge_stream(self.make_stream(0, 31))
-        self.check("verdict", judged.word, "not judged")
-        self.must("reason", "no PES packets of private_stream_1" in judged.told[0], judged.told)
+        self.check("verdict", judged.timed_verdict, "not judged")
+        self.must("reason", "no PES packets of private_stream_1" in judged.stderr[0], judged.stderr)
 
 
 # first TCI, interval between TCIs, and duration, in frames
@@ -290,7 +291,7 @@ class Profiles(Case):
             "--page 888", "--option english", "--every 25", "--within 2",
             "--late 0:3,1:4,2:4/0:12", "--layout after=0A"], result)
         again = judge_files(self, stl, pes, "--origin", "0", "--profile", self.path("profile"))
-        self.must("accepted", again.word == "accepted", again.said)
+        self.must("accepted", again.timed_verdict == "accepted", again.printed)
 
     def test_proposes_a_layout_unless_it_is_implausible(self) -> None:
         stl = self.write_stl("one.stl")

@@ -52,9 +52,9 @@ class OtherLayouts(Case):
                                        "-o", self.path("out"))
         hint = "subtitle 1 (SN 0) and 29 more subtitles have the right text in another layout: " \
             "row 18, 0A after the text instead of 0A 0A"
-        self.check("verdict", judged.word, "refused")
+        self.check("verdict", judged.timed_verdict, "refused")
         self.check("hints", judged.result["hints"], [f"72: {hint}"])
-        self.must("printed", f"72: {hint}" in judged.said, judged.said)
+        self.must("printed", f"72: {hint}" in judged.printed, judged.printed)
         self.check("remedy", judged.result["faults"][0]["remedy"], hint)
         self.must("report", hint.encode() in self.read("out/one.html"))
 
@@ -62,7 +62,8 @@ class OtherLayouts(Case):
         expected, sent = ([*self.TEXTS[:7], (text, CENTRED), *self.TEXTS[8:]]
                           for text in (b"Hi there", b"Hi thEre"))
         judged = self.judge_sent_texts(expected, sent, layout=[])
-        self.check("verdict and hints", (judged.word, judged.result["hints"]), ("refused", []))
+        self.check("verdict and hints", (judged.timed_verdict, judged.result["hints"]),
+                   ("refused", []))
 
 
 class DecodedPages(Case):
@@ -152,13 +153,14 @@ class OpenSubtitles(Case):
         self.check("another DSC: line", judged.result["line"], "refused 13 Display block 0")
         for dsc in (b"0", b" "):
             stl = write_texts(self, self.TEXTS, "open.stl", dsc)
-            self.check(f"{dsc!r}: a file", judge_files(self, stl, "--open").word, "valid")
+            self.check(f"{dsc!r}: a file", judge_files(self, stl, "--open").timed_verdict, "valid")
             pes = self.schedule(stl, "open.pes", "--open", "--every", "20", "--layout", "after=0A")
             judged = judge_files(self, stl, pes, "--open", "--layout", "after=0A", "-o",
                                  self.path("out"))
-            self.check(f"{dsc!r}: a pair", (judged.word, judged.result["request"]["open"]),
+            self.check(f"{dsc!r}: a pair", (judged.timed_verdict, judged.result["request"]["open"]),
                        ("accepted", True))
             self.must(f"{dsc!r}: report", b"12 subtitles" in self.read("out/one.html"))
             judged = judge_files(self, stl, pes, "--open")
-            self.check(f"{dsc!r}: in another layout", (judged.word, len(judged.result["causes"])),
+            self.check(f"{dsc!r}: in another layout",
+                       (judged.timed_verdict, len(judged.result["causes"])),
                        ("refused", 12))

@@ -51,7 +51,7 @@ def lose(result: list[Packet], count: int, is_announced: bool = False, frame: in
 
 
 class HiddenPages(StoryCase):
-    due, origin = TIMES, 0
+    cues, origin = TIMES, 0
 
     def send_wrong_page(self, every: int = 25) -> SentPes:
         sent = fill_missing_frames(schedule_pages(self, self.stl, every=every))
@@ -99,8 +99,8 @@ class HiddenPages(StoryCase):
                                  (("--allow-lost",), "accepted")):
             judged = self.judge_stream(lose(stream, 3, is_announced=True), *options)
             self.check_answers(f"{options}", judged, {"verdict": verdict, "losses judged": "True"})
-            self.must(f"{options}: line", ANNOUNCED in judged.told, judged.told)
-            self.check(f"{options}: output of check", judged.listed[-1].split()[0], "accepted")
+            self.must(f"{options}: line", ANNOUNCED in judged.stderr, judged.stderr)
+            self.check(f"{options}: output of check", judged.check_lines[-1].split()[0], "accepted")
         for name, count, line in (
                 ("one PES packet and two thirds of another", 5, "refused 45 Lost pes 300"),
                 ("two PES packets", 6, SILENT_STREAM["line"])):
@@ -117,11 +117,11 @@ class HiddenPages(StoryCase):
         for words in ((), ("--pace", "3"), ("--pace", "none")):
             received = self.judge_stream(stream, *words)
             self.check_answers(f"received {words}", received, {"verdict": "refused"})
-            self.check(f"received {words}: note", received.told.count(UNNOTICED_JUMP), 0)
+            self.check(f"received {words}: note", received.stderr.count(UNNOTICED_JUMP), 0)
             judged = self.judge_stream(lose(stream, 3, is_announced=True, frame=frame), *words)
             self.check_answers(f"lost {words}", judged, {
                 "verdict": "accepted", "losses judged": ""})
-            self.check(f"lost {words}: notes", (judged.told.count(UNNOTICED_JUMP),
+            self.check(f"lost {words}: notes", (judged.stderr.count(UNNOTICED_JUMP),
                                                 judged.notes.count(UNNOTICED_JUMP)), (1, 1))
 
     def test_ignores_an_announced_jump_without_loss(self) -> None:

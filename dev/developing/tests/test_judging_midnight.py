@@ -211,9 +211,9 @@ class Programmes(MidnightCase):
             self.check(f"{name}: times", [get_subtitle_times(subtitle) for subtitle in subtitles],
                        [(begin % MIDNIGHT, end % MIDNIGHT) for begin, end in times])
             origin = ORIGIN if times[0][0] < 0 else 0  # that of the day of the first subtitle
-            self.check(f"{name}: judged", judge_files(
-                self, self.path("out/888.stl"), pes, "--origin", str(origin), "--no-complete").word,
-                "accepted")
+            judged = judge_files(self, self.path("out/888.stl"), pes, "--origin", str(origin),
+                                 "--no-complete")
+            self.check(f"{name}: judged", judged.timed_verdict, "accepted")
 
 
 class OnAir(AirCase, MidnightCase):

@@ -28,7 +28,7 @@ class UnreadablePackets(ProgrammeCase):
     """A programme of 20 adjoining subtitles. PES packets 22, 23 and 61 of its transmission are
     missing: gap markers replace them, and become PES packets 22 and 60."""
 
-    due, every, origin = [(60 * at, 60 * at + 60) for at in range(2, 22)], 12, ORIGIN
+    cues, every, origin = [(60 * at, 60 * at + 60) for at in range(2, 22)], 12, ORIGIN
 
     def judge_with_gaps(self, *args: str) -> JudgedPair:
         received = [*self.pes[:22], GAP_MARKER, *self.pes[24:61], GAP_MARKER, *self.pes[62:]]
@@ -48,7 +48,7 @@ class UnreadablePackets(ProgrammeCase):
                    [(45, 22), (45, 60)])
         self.check("losses", [(item["from"], item["to"]) for item in judged.result["losses"]],
                    [(time(21), time(24)), (time(60), time(62))])
-        lines = [line for line in judged.told if "between" in line or "record" in line]
+        lines = [line for line in judged.stderr if "between" in line or "record" in line]
         self.check("lines", (len(lines), lines[2]), (
             3, "record that part again: the missing frames were not checked"))
 
@@ -59,7 +59,7 @@ class UnreadablePackets(ProgrammeCase):
             (["--allow-lost"], "waived"), (["--severity", of_45], "waived"),
             (["--severity", of_others], "refused"), ([], "refused")]
         for options, verdict in rows:
-            self.check(f"{options}", self.judge_with_gaps(*options).word, verdict)
+            self.check(f"{options}", self.judge_with_gaps(*options).timed_verdict, verdict)
 
     def test_waives_no_pair_of_whose_recording_nothing_was_read(self) -> None:
         unread = b"".join(damage_packet(item, 37)
@@ -73,9 +73,9 @@ class UnreadablePackets(ProgrammeCase):
             judged = judge_files(self, *files[row["files"]], "--severity",
                                  self.path(row["severity"]))
             is_unread, name = row["verdict"] == "not judged", f"{row['files']} {row['severity']}"
-            self.check(f"{name}: verdict", judged.word, row["verdict"])
+            self.check(f"{name}: verdict", judged.timed_verdict, row["verdict"])
             self.check(f"{name}: reason", judged.result["reason"], UNREAD if is_unread else None)
-            self.check(f"{name}: printed", judged.told[-1:] == [UNREAD], is_unread)
+            self.check(f"{name}: printed", judged.stderr[-1:] == [UNREAD], is_unread)
             self.check(f"{name}: has no line", judged.result["line"] is None, is_unread)
             self.must(f"{name}: faults", judged.result["faults"])
 
@@ -130,20 +130,20 @@ options      | verdict    | frames
 class Sentences(StoryCase):
     """A programme of 20 subtitles with the subtitle numbers 50 to 69."""
 
-    due, first = subtitle_times(20), 50
-    words = ("--origin", f"{ORIGIN}")
+    cues, first = subtitle_times(20), 50
+    qc_args = ("--origin", f"{ORIGIN}")
 
     def test_says_what_is_wrong_with_the_programme(self) -> None:
         mild = self.write("mild", b"73 warning\n")
         for story, sentence in SENTENCES.items():
             sent, _, options = story.partition(" --")
-            judged = self.tell(sent, *self.words, *(
+            judged = self.judge_changes(sent, *self.qc_args, *(
                 f"--{options}".replace("mild", mild).split() if options else ()))
             self.check(f"{story}: result", judged.sentence, sentence)
-            self.check(f"{story}: last line but one", judged.said[-2][:len(sentence)], sentence)
+            self.check(f"{story}: last line but one", judged.printed[-2][:len(sentence)], sentence)
 
     def test_names_a_subtitle_by_its_place_and_number(self) -> None:
-        result = self.judge(self.change("3 late by 7")).result
+        result = self.judge(self.apply_changes("3 late by 7")).result
         place = {"position": 3, "number": 52, "begin": "00:00:12:00", "end": "00:00:14:10"}
         cause, fault = result["causes"][0], result["faults"][0]
         check_schema(self, result)
@@ -158,7 +158,7 @@ class Sentences(StoryCase):
 
     def test_judges_no_pes_packets_before_frame_0(self) -> None:
         pages = [(ORIGIN - at * TICKS, self.sent[-1][1]) for at in (200, 150, 100, 50)]
-        judged = self.judge([*pages, *self.change("3 late by 4")])
+        judged = self.judge([*pages, *self.apply_changes("3 late by 4")])
         self.check_answers("four pages", judged, {
             "causes": "3 late by 4 frames", "pes": f"4-{len(self.sent) + 3}"})
 
@@ -170,7 +170,7 @@ class Sentences(StoryCase):
         origin = (cues[0] - times[0][0]) * TICKS  # the first subtitles of both files coincide
         for clock, word in (((), "not judged"), (("--origin", f"{origin}"), "refused")):
             judged = judge_files(self, three, self.path("two.pes"), *clock)
-            self.check(f"{clock}", judged.word, word)
+            self.check(f"{clock}", judged.timed_verdict, word)
 
     def test_judges_a_programme_that_is_sent_twice_only_if_one_airing_is_named(self) -> None:
         count = len(self.sent)
@@ -186,7 +186,7 @@ class Sentences(StoryCase):
             self.check(f"{name}: parts", judged.parts("origin", "pes"), [
                 (ORIGIN + int(frames) * TICKS, words[-1]) for frames in row["frames"].split()])
             if "--pes" not in words:
-                advice = [line.split() for line in judged.told
+                advice = [line.split() for line in judged.stderr
                           if line.startswith(("try: ", "or: "))]
                 self.check(f"{name}: advice", [line[-2:] for line in advice], [["--pes", "I-J"]])
                 self.check(f"{name}: options of the call", {*words} <= {*advice[0]}, True)
@@ -216,4 +216,4 @@ class Options(Case):
                                   "--origin", "4242")]}
         for row in read_table(OPTIONS):
             judged = judge_files(self, *pairs[row["pair"]], *row["options"].split())
-            self.check(f"{row['pair']} {row['options']}", judged.word, row["verdict"])
+            self.check(f"{row['pair']} {row['options']}", judged.timed_verdict, row["verdict"])

@@ -20,7 +20,7 @@ class OffFramePts(ProgrammeCase):
     Two of three subtitles are followed by another without a pause.
     """
 
-    due = [(FIRST_TCI + 100 * at, FIRST_TCI + 100 * at + (100 if at % 3 else 60))
+    cues = [(FIRST_TCI + 100 * at, FIRST_TCI + 100 * at + (100 if at % 3 else 60))
            for at in range(10)]
 
     def shift_pts(self, sent: SentPes, places: slice, ticks: int) -> SentPes:
@@ -47,10 +47,10 @@ class OffFramePts(ProgrammeCase):
                 option for option in ADVICE_OPTIONS
                 if option in "".join([sentence, *judged.result["hints"]])], [])
             self.check(f"{name}: with a tolerance", self.judge(
-                sent, "--every", "26", "--within", "1").word, "accepted")
+                sent, "--every", "26", "--within", "1").timed_verdict, "accepted")
 
     def test_a_subtitle_that_was_never_sent_is_named_before_pts_off_frames(self) -> None:
-        begin, end = (TICKS * frame for frame in self.due[6])
+        begin, end = (TICKS * frame for frame in self.cues[6])
         without_7 = [(pts, some) for pts, some in self.sent if not begin <= pts < end]
         sentence = self.judge(self.shift_pts(without_7, slice(2, 3), 9),
                               "--every", "25").verdict.sentence
@@ -61,7 +61,7 @@ class OffFramePts(ProgrammeCase):
 class EarlyFirstSubtitle(ProgrammeCase):
     """A programme whose first page is also sent 25 frames before its TCI."""
 
-    due = [(FIRST_TCI + 100 * at, FIRST_TCI + 100 * at + 60) for at in range(10)]
+    cues = [(FIRST_TCI + 100 * at, FIRST_TCI + 100 * at + 60) for at in range(10)]
 
     def test_names_an_early_first_subtitle_if_its_rows_follow_within_a_frame(self) -> None:
         pts, page = self.sent[0]
@@ -82,7 +82,7 @@ class EarlyFirstSubtitle(ProgrammeCase):
 class NoClock(ProgrammeCase):
     """A programme that is judged without a clock."""
 
-    words = ("--every", "25")
+    qc_args = ("--every", "25")
 
     def test_advises_start_only_if_the_video_has_a_supported_format(self) -> None:
         first, pes = TICKS * 40, join_pes_packets(self.sent)
@@ -90,7 +90,7 @@ class NoClock(ProgrammeCase):
         jpeg_2000 = add_pictures(pes, first, JPEG_2000, make_mpeg_2_picture()).data
         for name, data, is_start in (("PES packets", pes, False), ("MPEG-2", mpeg_2, True),
                                      ("JPEG 2000", jpeg_2000, False)):
-            judged = judge_files(self, self.stl, self.write("one", data), *self.words)
+            judged = judge_files(self, self.stl, self.write("one", data), *self.qc_args)
             advice = judged.verdict.sentence.partition(" was not checked: ")[2]
             self.check(f"{name}: verdict", judged.verdict.word, "relative")
             self.check(f"{name}: --start, --origin", ("--start" in advice, "--origin" in advice),

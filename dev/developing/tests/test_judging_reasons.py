@@ -78,10 +78,10 @@ class Reasons(ProgrammeCase):
         words = f"PID 0x101 is scrambled, in all its {len(self.pes)} TS packets"
         for recording in (self.write("one.ts", data), write_pipe(self, bytes(data))):
             judged = judge_files(self, self.stl, recording)
-            self.check(f"{recording}: verdict", judged.word, "not judged")
+            self.check(f"{recording}: verdict", judged.timed_verdict, "not judged")
             self.check(f"{recording}: sentence", judged.verdict.sentence,
                        f"Not judged: {recording} has no header of page 888; {words}.")
-            self.check(f"{recording}: advice", [line for line in judged.told if "try: " in line],
+            self.check(f"{recording}: advice", [line for line in judged.stderr if "try: " in line],
                        [])
 
     def change_header_length(self, length: int) -> list[bytes]:
@@ -97,7 +97,7 @@ class Reasons(ProgrammeCase):
             words = f"has {9 + length} bytes (PES_header_data_length {length:02X}), but " \
                 "EN 300 472 requires 45 (24)"
             judged = self.judge_stream(data)
-            self.check(f"{length}: verdict", judged.word, word)
+            self.check(f"{length}: verdict", judged.timed_verdict, word)
             for name, sentence in ((f"{length}: sentence", judged.verdict.sentence), (
                     f"{length}: a given PID", self.judge_stream(data, "--pid", "0x101")
                     .verdict.sentence)):
@@ -110,7 +110,7 @@ class Reasons(ProgrammeCase):
         for length in (5, 14, 0x23, 0x25, 36 + 184):
             path = self.write("one.pes", b"".join(self.change_header_length(length)))
             judged = judge_files(self, self.stl, path, "--origin", "0")
-            self.check(f"{length}: verdict", judged.word, "refused")
+            self.check(f"{length}: verdict", judged.timed_verdict, "refused")
             self.must(f"{length}: sentence", f"the PES header has {9 + length} bytes "
                       f"(PES_header_data_length {length:02X}), but EN 300 472 requires 45 (24)"
                       in judged.verdict.sentence, judged.verdict.sentence)
@@ -133,7 +133,7 @@ class Reasons(ProgrammeCase):
                     (("--origin", "0"), "refused", "Refused: ")):
                 judged = judge_files(self, self.stl, path, *WORDS, *words)
                 sentence = judged.verdict.sentence
-                self.check(f"{name} {words}: verdict", judged.word, word)
+                self.check(f"{name} {words}: verdict", judged.timed_verdict, word)
                 self.check(f"{name} {words}: sentence", sentence[:len(begin)], begin)
                 self.must(f"{name} {words}: reason", reason in sentence, sentence)
 
@@ -419,30 +419,30 @@ def add_keeping_repeats(sent: SentPes, is_first_empty: bool = False) -> SentPes:
 
 
 class RepeatsWithKeeping(ProgrammeCase):
-    due = subtitle_times(3)
+    cues = subtitle_times(3)
 
     def test_accepts_keeping_headers_only_if_they_are_allowed(self) -> None:
         sent = add_keeping_repeats(self.sent)
         judged_pair = self.judge(sent, "--keeping")
-        self.must("accepted", judged_pair.word == "accepted" and
+        self.must("accepted", judged_pair.timed_verdict == "accepted" and
                   judged_pair.result["request"]["keeping"] is True
                   and any(" --keeping " in line for line in judged_pair.lines("+ ")),
-                  judged_pair.said)
+                  judged_pair.printed)
         judged_pair = self.judge(sent)
         keeping = sum(item != other for item, other in zip(sent, self.sent))
         words = f"{CLEAR} in {keeping} of {len(self.sent)} headers"
-        self.must("refused", judged_pair.word == "refused"
+        self.must("refused", judged_pair.timed_verdict == "refused"
                   and judged_pair.result["hints"] == [f"67: {words}"]
                   and words in judged_pair.verdict.sentence
                   and judged_pair.result["request"]["keeping"] is False
                   and all(item["meaning"] == REPEAT_WITHOUT_ERASE
                           for item in judged_pair.result["faults"]),
-                  judged_pair.said)
+                  judged_pair.printed)
 
     def test_names_missing_rows_as_the_cause(self) -> None:
         judged_pair = self.judge(add_keeping_repeats(self.sent, is_first_empty=True), "--keeping")
-        self.must("a cause", judged_pair.word == "refused"
+        self.must("a cause", judged_pair.timed_verdict == "refused"
                   and {item["number"] for item in judged_pair.result[
             "faults"]} == {CONTENT} and [item["line"] for item in judged_pair.result["causes"]] ==
             [f"not repeated whole: row 22 {OMITTED_BY_REPEAT}"] and
-            "(row 22 missing after a header" in judged_pair.verdict.sentence, judged_pair.said)
+            "(row 22 missing after a header" in judged_pair.verdict.sentence, judged_pair.printed)

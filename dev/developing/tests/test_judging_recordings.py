@@ -46,10 +46,10 @@ class Recordings(Case):
             for recording in (self.write("one.pes", data), self.write("one.ts", whole),
                               write_pipe(self, data), piped):
                 judged_pair = judge_files(self, STORY, recording, "--every", often, "--origin", "0")
-                lists.add(tuple(judged_pair.listed))
-                self.must(f"{name} {recording}", judged_pair.said[-1] == last and
+                lists.add(tuple(judged_pair.check_lines))
+                self.must(f"{name} {recording}", judged_pair.printed[-1] == last and
                           judged_pair.verdict.fault_count == count
-                          and len(judged_pair.lines("cause: ")) == causes, judged_pair.said)
+                          and len(judged_pair.lines("cause: ")) == causes, judged_pair.printed)
                 self.must(f"{name} {recording}: part", judged_pair.parts("origin", "from", "to") ==
                           [(0, "20:15:00:00", "20:15:09:00")], judged_pair.result["parts"])
                 if "feed" in recording:
@@ -60,7 +60,7 @@ class Recordings(Case):
                         "--complete --all"
                     self.must(f"{name} {recording}: command", [
                         re.sub(r"\d+-\d+", "I-J", line, 1)
-                        for line in judged_pair.lines("+ ")] == [expected], judged_pair.said)
+                        for line in judged_pair.lines("+ ")] == [expected], judged_pair.printed)
             self.must(f"{name}: the same list", len(lists) == 1, lists)
 
     def test_warns_without_changing_the_status_unless_strict(self) -> None:
@@ -85,17 +85,17 @@ class Recordings(Case):
             judged_pair = judge_files(self, stl, path, "--origin", "0")
             warned = judged_pair.result["warnings"]
             self.must(f"{descriptor!r} {ahead}", [item["kind"] for item in warned] == kinds and
-                      judged_pair.word == "accepted" and judged_pair.lines("! warning: ") ==
-                      [item["line"] for item in warned], judged_pair.said)
+                      judged_pair.timed_verdict == "accepted" and [item["line"] for item in warned]
+                      == judged_pair.lines("! warning: "), judged_pair.printed)
             self.check(f"{descriptor!r} {ahead}: lines", [item["line"] for item in warned
                                                           if item["kind"] == "type"], [
                 'the PMT announces page 888 as "initial page", not as subtitles'] * (
                     kinds == ["type"]))
             strict = judge_files(self, stl, path, "--origin", "0", "--strict")
-            self.must(f"{descriptor!r} {ahead}: strict", strict.word == (
-                "warned" if kinds else "accepted") and (not kinds or strict.said[-1].startswith(
+            self.must(f"{descriptor!r} {ahead}: strict", strict.timed_verdict == (
+                "warned" if kinds else "accepted") and (not kinds or strict.printed[-1].startswith(
                     "not accepted, since --strict treats warnings as faults "
-                    f"({', '.join(kinds)}): ")), strict.said)
+                    f"({', '.join(kinds)}): ")), strict.printed)
 
     def test_handles_truncated_files(self) -> None:
         pes = read_example_file("story.pes")
@@ -105,12 +105,12 @@ class Recordings(Case):
         for data in (pes + later[:100], make_stream_of_pids((TELETEXT_PID, pes + later))[:-188],
                      stream):
             judged_pair = judge_files(self, STORY, self.write("cut.rec", data), "--origin", "0")
-            self.must("cut", judged_pair.word == "accepted" and [
+            self.must("cut", judged_pair.timed_verdict == "accepted" and [
                 item["kind"]
                 for item in judged_pair.result["warnings"]] == ["cut"] * (data != stream),
-                      judged_pair.said)
+                      judged_pair.printed)
         cut = self.write("cut.stl", read_example_file("story.stl")[:-128])
-        self.must("counts", judge_files(self, cut, "--strict").said[-1].startswith(
+        self.must("counts", judge_files(self, cut, "--strict").printed[-1].startswith(
             "not accepted, since --strict treats warnings as faults (blocks, subtitles): "))
 
     def test_judges_a_pipe_in_parts(self) -> None:
@@ -118,10 +118,10 @@ class Recordings(Case):
         sent = schedule_pages(self, stl)
         data = join_pes_packets(add_pauses(sent, 1000))
         result = judge_files(self, stl, write_pipe(self, data), "--breaks", "1")
-        self.must("in two parts", result.word == "accepted" and all(
+        self.must("in two parts", result.timed_verdict == "accepted" and all(
             f" check {stl} one.recording.pes " in line for line in result.lines("+ ")) and \
             result.parts("origin") == [
-            (ORIGIN,), (ORIGIN + 1000 * TICKS,)], result.said)
+            (ORIGIN,), (ORIGIN + 1000 * TICKS,)], result.printed)
 
     def test_counts_losses_of_the_page_pid_only(self) -> None:
         stl = write_programme(self, subtitle_times(10), 2)
@@ -138,12 +138,12 @@ class Recordings(Case):
                 for recording in (self.write("one.ts", data), write_pipe(self, data)):
                     judged_pair = judge_files(self, stl, recording, "--origin", "0",
                                               "--every", "100")
-                    self.must(f"{page} {lost} {recording}", judged_pair.word == word and
-                              "more place" not in "".join(judged_pair.said) and
+                    self.must(f"{page} {lost} {recording}", judged_pair.timed_verdict == word and
+                              "more place" not in "".join(judged_pair.printed) and
                               judged_pair.parts("pid") == [(page,)] and [
                                   (item["judged"], item["lost_ts_packets"]) for item in
                                   judged_pair.result["losses"]] == [(True, 1)] * (lost == page),
-                              judged_pair.said)
+                              judged_pair.printed)
 
     def test_reports_foreign_bytes(self) -> None:
         pes = read_example_file("story.pes")
@@ -155,14 +155,14 @@ class Recordings(Case):
                                   (junk, 188, "40 bytes")):
             for recording in (self.write("one.ts", data), write_pipe(self, data)):
                 result = judge_files(self, STORY, recording, "--origin", "0")
-                self.must(f"{size} {count} {recording}", result.word == "accepted" and
+                self.must(f"{size} {count} {recording}", result.timed_verdict == "accepted" and
                           result.parts("pid", "packet_size") == [(257, size)] and
-                          [line.removesuffix(skipped) for line in result.said
-                           if line.endswith(skipped)] == [count] * bool(count), result.said)
+                          [line.removesuffix(skipped) for line in result.printed
+                           if line.endswith(skipped)] == [count] * bool(count), result.printed)
         for data, words in ((pes, ""), (pes + b"x" * 50, cut)):
             result = judge_files(self, STORY, write_pipe(self, data), "--origin", "0")
-            self.must(words, result.word == "accepted" and
-                      any(cut in item for item in result.said) == bool(words), result.said)
+            self.must(words, result.timed_verdict == "accepted" and
+                      any(cut in item for item in result.printed) == bool(words), result.printed)
 
     def test_reports_missing_or_ambiguous_pids(self) -> None:
         pes = read_example_file("story.pes")
@@ -199,14 +199,15 @@ class Recordings(Case):
                                                                     "stream", [])]
         for words, why, to_type in rows:
             result = judge_files(self, *words)
-            typed = [item.split(" ", 4)[-1] for item in result.told
+            typed = [item.split(" ", 4)[-1] for item in result.stderr
                      if item.startswith(("try: ", "or: "))]
-            self.must(f"{words}", result.word == "not judged" and why in "".join(result.told) and
-                      not result.told[0].startswith("./") and
-                      typed == to_type, result.told)
+            self.must(f"{words}", result.timed_verdict == "not judged" and
+                      why in "".join(result.stderr) and not result.stderr[0].startswith("./") and
+                      typed == to_type, result.stderr)
         for pid in ("0x101", "0x102"):
             result = judge_files(self, STORY, both, "--pid", pid)
-            self.must(pid, result.word == "accepted" and result.parts("pid") == [(int(pid, 16),)])
+            self.check(pid, (result.timed_verdict, result.parts("pid")),
+                       ("accepted", [(int(pid, 16),)]))
 
     def test_stores_a_recording_and_its_hashes(self) -> None:
         pes = read_example_file("story.pes")
@@ -240,8 +241,8 @@ class Recordings(Case):
         self.check("alone", sorted(os.listdir(self.path("alone"))),
                    ["one.html", "one.json", "one.txt"])
         result = judge_files(self, ACCENT, self.write("one.ts", b"x"), "-o", self.path("out"))
-        self.must("said", result.word == "refused" and b"one.ts: it was not read" in
-                  self.read("out/one.html"), result.said)
+        self.must("said", result.timed_verdict == "refused" and b"one.ts: it was not read" in
+                  self.read("out/one.html"), result.printed)
 
     def test_judges_a_subtitle_file_alone(self) -> None:
         valid = "The subtitle file is valid: {}. No recording was judged."
@@ -251,9 +252,9 @@ class Recordings(Case):
                                     "valid: 1 subtitle; no recording was judged"]),
                            (ACCENT, ["refused 50 Character block 1 at 6"])):
             result = judge_files(self, stl)
-            self.must(stl, result.said[-len(lines):] == lines and result.parts("from", "pes") ==
-                      [(None, None)], result.said)
-            self.check(f"{stl}: faults", "1 faults" in result.said, stl == ACCENT)
+            self.must(stl, result.printed[-len(lines):] == lines and result.parts("from", "pes") ==
+                      [(None, None)], result.printed)
+            self.check(f"{stl}: faults", "1 faults" in result.printed, stl == ACCENT)
 
     def test_a_subtitle_file_alone_is_never_accepted(self) -> None:
         mild = self.write("mild", b"16 warning\nothers warning\n")
@@ -322,7 +323,7 @@ class Recordings(Case):
         for words, word in ("", "Not judged"), (f"--origin {origin}", "Refused"):
             result = judge_files(self, stl, self.path("one.pes"), *words.split())
             self.must(word, result.result["sentence"].startswith(
-                f"{word}: probably another programme's subtitle file: "), result.said)
+                f"{word}: probably another programme's subtitle file: "), result.printed)
 
     def test_a_file_whose_texts_come_at_other_times_is_not_another_programme_s(self) -> None:
         due = subtitle_times(20)
@@ -334,8 +335,8 @@ class Recordings(Case):
             self.schedule(sent, "one.pes", "--every", "25")
             for words in ("", "--origin 0"):
                 result = judge_files(self, stl, self.path("one.pes"), *words.split())
-                self.must(f"{name} {words}", "another programme" not in "".join(result.said),
-                          result.said)
+                self.must(f"{name} {words}", "another programme" not in "".join(result.printed),
+                          result.printed)
 
     def test_finds_the_causes_behind_a_delay_of_all_subtitles(self) -> None:
         """All subtitles are 3 frames late, and one of them has another fault by that clock."""
@@ -385,7 +386,7 @@ class Recordings(Case):
         self.check("cause", (cause["name"], cause["time"], cause["subtitle"]["position"]),
                    ("another text in a pause", time, 1))
         self.must("faults", {fault["cause"]["name"] for fault in result.result["faults"]} ==
-                  {cause["name"]} and "1 pause with another text" in result.said, result.said)
+                  {cause["name"]} and "1 pause with another text" in result.printed, result.printed)
         page = self.read("out/one.html").decode()
         row = page.partition('<tr id="s1-pause"')[2].partition("</tr>")[0]
         self.must("row", f"<td>{time}</td><td>{end}</td>" in row and row.startswith(' class="bad')

@@ -77,15 +77,16 @@ class RefusedSubtitles(Case):
         for pes, end in ((self.pes, "all have the right text from the first frame to the last"),
                          (slow, 'subtitle 6 at 00:00:24:00, "Number 6", appeared 5 frames late')):
             result = self.judge(self.write_stl(3), pes)
-            self.must(pes, result.word == "refused" and result.verdict.sentence.startswith(
+            self.must(pes, result.timed_verdict == "refused" and result.verdict.sentence.startswith(
                 f"Refused: {first}; 9 other subtitles were judged: {end}. Not checked: "),
                       result.verdict.sentence)
-            self.must(f"{pes}: line", result.said[-1] == "refused 50 Character block 3 at 0" and
+            self.must(f"{pes}: line", result.printed[-1] == "refused 50 Character block 3 at 0" and
                       result.verdict.status == 1 and result.lines("undecided: ") == [
                           first.replace(" has fault", ", until 00:00:14:10, has fault", 1)],
-                      result.said)
-            self.must(f"{pes}: list", result.listed[0] == result.said[-1] and
-                      "refused 78 Undecided frame 00:00:10:10" in result.listed, result.listed)
+                      result.printed)
+            self.must(f"{pes}: list", result.check_lines[0] == result.printed[-1] and
+                      "refused 78 Undecided frame 00:00:10:10" in result.check_lines,
+                      result.check_lines)
         for bad, words, more in (((3, 5), "2 of 10 subtitles have faults: subtitle 3 at ", ""),
                                  (range(2, 6), "4 of 10 subtitles have faults: ", " and 1 more; 6"),
                                  (range(2, 9), "7 of 10 subtitles have ", " and 4 more; 3 other")):
@@ -124,7 +125,7 @@ class RefusedSubtitles(Case):
                                                                            {4: {7: 14}})), self.pes)
         self.must("overlapped",
                   [item["verdict"] for item in judged_pair.result["subtitles"]][1:5] ==
-                  ["right", "not known", "wrong", "right"], judged_pair.said)
+                  ["right", "not known", "wrong", "right"], judged_pair.printed)
 
     def test_waives_file_faults_and_fault_78_by_number(self) -> None:
         slow = self.write("slow.pes",
@@ -142,7 +143,7 @@ class RefusedSubtitles(Case):
                 (b"others warning\n", self.pes, "waived", "Waived, since ", others)):
             judged_pair = self.judge(self.write_stl(3), pes, "--severity",
                                      self.write("severity", text))
-            self.must(f"{text!r} {pes}", judged_pair.word == word, judged_pair.said)
+            self.must(f"{text!r} {pes}", judged_pair.timed_verdict == word, judged_pair.printed)
             self.must(f"{text!r} {pes}: each", {
                 (item["number"], item["severity"]) for item in judged_pair.result["faults"]} >= {
                     (50, "error" if text[:2] == b"78" else "warning")},
@@ -155,8 +156,8 @@ class RefusedSubtitles(Case):
             damage_packet(item, 33) for item in packets(self.read("one.pes"))))
         judged_pair = self.judge(self.write_stl(3), unread, "--severity",
                                  self.write("severity", b"others warning\n"))
-        self.must("nothing was read", judged_pair.word == "not judged" and
-                  judged_pair.verdict.unjudged_reason == UNREAD, judged_pair.said)
+        self.must("nothing was read", judged_pair.timed_verdict == "not judged" and
+                  judged_pair.verdict.unjudged_reason == UNREAD, judged_pair.printed)
 
     def test_ignores_refused_subtitles_outside_the_range(self) -> None:
         for words, word, counts in (
@@ -165,10 +166,10 @@ class RefusedSubtitles(Case):
                 (("--to", "00:00:24:00"), "refused", (4, 1)),
                 (("--from", "00:00:20:00", "--to", "00:00:10:00"), "not judged", None)):
             result = self.judge(self.write_stl(3), self.pes, *words)
-            self.must(f"{words}", result.word == word and result.verdict.subtitle_counts == (
-                counts and SubtitleCounts(*counts)), result.said)
+            self.check(f"{words}", (result.timed_verdict, result.verdict.subtitle_counts),
+                       (word, counts and SubtitleCounts(*counts)))
         self.must("none is left", " has no subtitle with a TCI at " in
-                  result.told[0], result.told)
+                  result.stderr[0], result.stderr)
 
     def test_judges_each_part_with_refused_subtitles(self) -> None:
         two = [(pts + 3600 * 500 * (pts >= 3600 * 480), packets) for pts, packets in self.sent]
@@ -181,12 +182,12 @@ class RefusedSubtitles(Case):
                                       self.write("two.pes", join_pes_packets(sent)),
                                       "--breaks",
                                       "1", "--every", "100")
-            self.must(f"{bad} {printed}",
-                      judged_pair.word == "refused" and printed in judged_pair.verdict.sentence
+            self.must(f"{bad} {printed}", judged_pair.timed_verdict == "refused"
+                      and printed in judged_pair.verdict.sentence
                       and len(judged_pair.result["parts"]) == 2 and
                       judged_pair.verdict.subtitle_counts == SubtitleCounts(10 - len(bad),
                                                                             len(bad)),
-                      judged_pair.said)
+                      judged_pair.printed)
 
     def test_draws_the_judged_subtitles_by_a_layout(self) -> None:
         self.blocks = [(begin, end, b"N\xc8umber %d" % number)
@@ -203,19 +204,19 @@ class RefusedSubtitles(Case):
 
             path = self.write("one.pes", replace_pts(self.read("house.pes"), shift_late_pts))
             result = self.judge(self.write_stl(*bad), path, *words)
-            self.must(f"{bad} {by}", result.word == ("refused" if bad else "accepted") and
+            self.must(f"{bad} {by}", result.timed_verdict == ("refused" if bad else "accepted") and
                       printed in result.verdict.sentence and
-                      " --layout " in result.lines("+ ")[-1], result.said)
+                      " --layout " in result.lines("+ ")[-1], result.printed)
 
     def test_notes_why_other_subtitles_are_not_judged(self) -> None:
         empty = self.write("empty.pes", b"")
         judged_pair = judge_files(self, self.write_stl(3), empty, *WORDS)
-        self.must("refused", judged_pair.word == "refused" and judged_pair.listed == [
+        self.must("refused", judged_pair.timed_verdict == "refused" and judged_pair.check_lines == [
             "refused 50 Character block 3 at 0", "1 faults"] and
             judged_pair.result["subtitle_counts"] is None and
             f"the other subtitles were not judged: {empty} is empty" in judged_pair.verdict.notes
                   and
-            " (block 3), the national option " in judged_pair.verdict.sentence, judged_pair.said)
+            " (block 3), the national option " in judged_pair.verdict.sentence, judged_pair.printed)
         odd, mild = bytearray(self.read("good.stl")), self.write("severity", b"others warning\n")
         odd[11:12] = b"7"  # with an invalid DSC, all subtitles are refused
         rows: list[tuple[str, list[str], str]] = [
@@ -224,17 +225,17 @@ class RefusedSubtitles(Case):
             (self.path("odd.stl"), [], "refused")]
         for stl, more, word in rows:
             judged_pair = judge_files(self, stl, *more, *WORDS, "--severity", mild)
-            self.must(f"named warnings {stl} {more}", judged_pair.word == word and
+            self.must(f"named warnings {stl} {more}", judged_pair.timed_verdict == word and
                       judged_pair.verdict.unjudged_reason == (UNREAD if word == "not judged"
                                                               else None),
-                      judged_pair.said)
+                      judged_pair.printed)
         for stl, when in ((self.write_stl(3), "check*--pes*--all*"), (self.stl, "show*")):
             judged_pair = judge_files(self, stl, self.pes, *WORDS,
-                                      by=self.make_program_with_exception(when, "exit 9"))
-            self.must(f"{when}: not answered", judged_pair.word == "not judged", judged_pair.said)
+                                      program=self.make_program_with_exception(when, "exit 9"))
+            self.check(f"{when}: not answered", judged_pair.timed_verdict, "not judged")
         with mock.patch("subtitles.judging.pair.find_parts", side_effect=ValueError):
             judged_pair = judge_files(self, self.write_stl(3), self.pes, *WORDS)
-        self.must("a mistake", judged_pair.word == "not judged", judged_pair.said)
+        self.must("a mistake", judged_pair.timed_verdict == "not judged", judged_pair.printed)
 
     def test_looks_for_each_character_once(self) -> None:
         bad = range(19, 800, 19)

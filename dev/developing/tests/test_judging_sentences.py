@@ -199,7 +199,7 @@ class RecordingEnds(ProgrammeCase):
             severity = self.write("mild", f"{waived} warning\n".encode() if waived else b"")
             result = self.judge(sent, "--severity", severity)
             self.must(waived, sentence in result.verdict.sentence, result.verdict.sentence)
-            self.must(waived, result.said[-1].startswith(last), result.said[-1])
+            self.must(waived, result.printed[-1].startswith(last), result.printed[-1])
 
 
 def make_header(c4: int = 8, c5: int = 8, c7: int = 1, c11: int = 8) -> bytes:
@@ -219,13 +219,13 @@ HEADERS = {
 
 
 class NamedPlaces(ProgrammeCase):
-    due, words = TIMES, ("--origin", "0", "--option", "german")
+    cues, qc_args = TIMES, ("--origin", "0", "--option", "german")
     shown = 'subtitle 3, "Number 3, \u00d6sl"'
 
     def judge_with(self, frame: int, header: bytes) -> JudgedPair:
         """Judge a recording with this header at a frame."""
         self.stl = write_programme(self, TIMES, text=b"Number %d, \xc8Osl")
-        sent = schedule_pages(self, self.stl, *self.words[2:])
+        sent = schedule_pages(self, self.stl, *self.qc_args[2:])
         changed = [(pts, [header, *some[1:]] if pts == frame * TICKS % CLOCK else some)
                    for pts, some in sent]
         self.must(f"{frame}: changed", changed != sent)
@@ -244,7 +244,7 @@ class NamedPlaces(ProgrammeCase):
 
 
 class EmptyRanges(ProgrammeCase):
-    due, words = TIMES, ()
+    cues, qc_args = TIMES, ()
 
     def test_reports_a_range_without_pes_packets(self) -> None:
         for words in ((), ("--origin", "0")):
@@ -253,8 +253,8 @@ class EmptyRanges(ProgrammeCase):
                 path = self.path("one.pes")
                 printed = f"{path} has 7 PES packets, 0-6: --pes {pes} is outside " \
                     "this range"
-                self.must(f"{pes} {words}", (printed in judged.told) == is_none and
-                          (judged.word == "not judged") >= is_none, judged.told)
+                self.must(f"{pes} {words}", (printed in judged.stderr) == is_none and
+                          (judged.timed_verdict == "not judged") >= is_none, judged.stderr)
 
 
 NO_BOX = 'no receiver shows "Hi", which is outside of a box'
@@ -367,14 +367,15 @@ class VisibleRows(Case):
             sent = self.write("one.pes", join_pes_packets(schedule_pages(self, stl, *option)))
             for more in ((), (sent, "--origin", "0")):
                 judged = judge_files(self, stl, *more, *option)
-                self.must(f"{text!r} {more}", judged.word == (
-                    word if more or word == "refused" else "valid"), judged.said)
+                self.must(f"{text!r} {more}", judged.timed_verdict == (
+                    word if more or word == "refused" else "valid"), judged.printed)
                 if word == "refused":
                     self.must(f"{text!r}: sentence", judged.result["sentence"].startswith(
                         f"Refused: {words}; 3 faults in all"), judged.result["sentence"])
-                    self.must(f"{text!r}: lines", judged.result["worst_fault"] == judged.said[-1] ==
-                              "refused not shown block 1" and judged.said[-2].endswith(
-                                  " See docs/manual/refusals.md#not-shown."), judged.said)
+                    self.must(f"{text!r}: lines", judged.result["worst_fault"] ==
+                              judged.printed[-1] == "refused not shown block 1" and
+                              judged.printed[-2].endswith(
+                                  " See docs/manual/refusals.md#not-shown."), judged.printed)
                     self.must(f"{text!r}: faults", [
                         (item["name"], item["number"], item["block"], item["subtitle"]["position"])
                         for item in judged.result["faults"]] == [
@@ -385,8 +386,8 @@ class VisibleRows(Case):
                     word == "accepted" and bool(words)), warned)
         judged = judge_files(self, stl, *option, "--layout", "before=0B")
         self.must("by a layout", [item["kind"] for item in judged.result["warnings"]] ==
-                  ["hidden"] * 3, judged.said)
+                  ["hidden"] * 3, judged.printed)
         mild = self.write("mild", b"not shown warning\n")
         judged = judge_files(self, write_programme(self, times, text=b"\x1dHi"), "--severity", mild)
-        self.must("waived", judged.word == "waived" and {
-            item["severity"] for item in judged.result["faults"]} == {"warning"}, judged.said)
+        self.must("waived", judged.timed_verdict == "waived" and {
+            item["severity"] for item in judged.result["faults"]} == {"warning"}, judged.printed)

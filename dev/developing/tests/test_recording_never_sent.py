@@ -215,7 +215,7 @@ class Announcements(Case):
 class JudgedStreams(ProgrammeCase):
     """Streams whose PMT announces page 888 on the PID 0x111 (NEW), which never carries its rows."""
 
-    words = ()
+    qc_args = ()
 
     def judge_planned_stream(self, plan: Sequence[tuple[int, int]], sent: CarriedPackets,
                              *args: str, count: int | None = None) -> JudgedPair:
@@ -230,14 +230,14 @@ class JudgedStreams(ProgrammeCase):
     def check_never_sent(self, name: str, judged: JudgedPair, reason: str) -> None:
         """Check that a pair is refused with the one fault `never sent`, and nothing is judged."""
         result, line = judged.result, "refused never sent"
-        self.check(f"{name}: verdict", (judged.word, result["status"], result["line"],
+        self.check(f"{name}: verdict", (judged.timed_verdict, result["status"], result["line"],
                                         result["worst_fault"]), ("refused", 1, line, line))
         faults = [(fault["number"], fault["name"], fault["meaning"]) for fault in result["faults"]]
         self.check(f"{name}: faults", faults, [(None, "never sent", reason)])
         self.check(f"{name}: sentence", judged.verdict.sentence, f"Refused: {reason}.")
         self.check(f"{name}: parts", (result["parts"], result["subtitle_counts"]), ([], None))
         self.must(f"{name}: a checksum", result["inputs"]["recording"]["sha256"])
-        self.must(f"{name}: told", any("announces page 888" in line for line in judged.said))
+        self.must(f"{name}: told", any("announces page 888" in line for line in judged.printed))
 
     def test_refuses_a_page_that_comes_on_another_pid(self) -> None:
         words = "page 888 is announced on PID 0x111, but was never sent (PID 0x111 has no TS " \
@@ -255,7 +255,7 @@ class JudgedStreams(ProgrammeCase):
             "another announced at the end": ([(0, OLD), (len(self.pes) - 1, NEW)], [])}
         for name, (plan, more) in rows.items():
             judged = self.judge_planned_stream(plan, self.send_on_old_pid, "--every", "25", *more)
-            self.check(name, judged.word, "accepted")
+            self.check(name, judged.timed_verdict, "accepted")
 
     def test_refuses_headers_without_rows_on_the_announced_pid(self) -> None:
         whole, third = len(self.pes), len(self.pes) // 3
@@ -273,17 +273,18 @@ class JudgedStreams(ProgrammeCase):
                 self.check_never_sent(name, judged, "page 888 is announced on PID 0x111, but was "
                                       "never sent")
             else:
-                self.check(name, judged.word, "not judged")
+                self.check(name, judged.timed_verdict, "not judged")
 
     def test_reports_that_one_of_several_programmes_never_sends_it(self) -> None:
         first, frames = decode_pts(self.pes[0]), find_frame_of_day(decode_pts(self.pes[-1]), 0) or 0
         result = multiplex_programmes([Programme({OLD: self.pes}, first),
                                        Programme({NEW: []}, first, VIDEO_PID + 1)], frames)
         judged = self.judge_stream(result.data)
-        self.check("verdict", judged.word, "not judged")
-        self.must("reason", judged.told[0].endswith("but sent only on PID 0x101, not on PID 0x111"),
-                  judged.told)
-        self.check("suggested PIDs", [line.split()[-1] for line in judged.told
+        self.check("verdict", judged.timed_verdict, "not judged")
+        self.must("reason",
+                  judged.stderr[0].endswith("but sent only on PID 0x101, not on PID 0x111"),
+                  judged.stderr)
+        self.check("suggested PIDs", [line.split()[-1] for line in judged.stderr
                                       if line.startswith(("try: ", "or: "))], ["0x101", "0x111"])
 
     def test_reports_a_refused_subtitle_first(self) -> None:
@@ -294,14 +295,14 @@ class JudgedStreams(ProgrammeCase):
         self.check("faults", (judged.verdict.line, {
             item["number"] for item in judged.result["faults"]}),
                    ("refused 50 Character block 3 at 7", {50, None}))
-        self.must("other subtitles", judged.told[0].startswith(
+        self.must("other subtitles", judged.stderr[0].startswith(
             "the other subtitles were not judged: page 888 is announced on PID 0x111, but was "
-            "never sent "), judged.told)
+            "never sent "), judged.stderr)
 
     def test_is_not_judged_if_the_fault_is_waived(self) -> None:
         path = self.write("severity", b"never sent warning\n")
         judged = self.judge_planned_stream([(0, NEW)], self.send_headers_only, "--severity", path)
-        self.check("verdict", judged.word, "not judged")
+        self.check("verdict", judged.timed_verdict, "not judged")
 
     def test_writes_report_and_result_of_a_page_never_sent(self) -> None:
         out = self.path("out")
@@ -314,7 +315,7 @@ class JudgedStreams(ProgrammeCase):
 class SourcesWithoutPage(ProgrammeCase):
     """Transmissions of ten subtitles, of which the rows or the headers too are missing."""
 
-    words = ("--every", "25")
+    qc_args = ("--every", "25")
 
     def remove_rows(self, last: int = 1 << 30) -> SentPes:
         """Return the transmission without the rows up to frame `last`."""
@@ -327,7 +328,7 @@ class SourcesWithoutPage(ProgrammeCase):
                 for pts, packets in self.remove_rows()]
 
     def test_refuses_headers_without_rows_if_a_subtitle_is_expected(self) -> None:
-        end, count, headers = self.due[-1][1], len(self.sent), self.remove_rows()
+        end, count, headers = self.cues[-1][1], len(self.sent), self.remove_rows()
         later = [(pts + TICKS * 2 * end, pes_packets) for pts, pes_packets in self.sent]
         clock, before, behind = (("--origin", f"{origin % CLOCK}")
                                  for origin in (0, TICKS * 2 * end, -TICKS * 2 * end))
@@ -352,27 +353,27 @@ class SourcesWithoutPage(ProgrammeCase):
             "some PES packets, by --pes": (headers, ("--pes", f"0-{count}"), "")}
         for name, (sent, words, printed) in rows.items():
             judged = judge_files(self, self.stl, self.write("one.pes", join_pes_packets(sent)),
-                                 *self.words, *words)
+                                 *self.qc_args, *words)
             reason = judged.verdict.sentence.partition(" while subtitles are expected: ")
             self.check(name, reason[2], printed and f"{printed}.")
             if printed:
                 self.check(f"{name}: verdict", (
-                    reason[0], judged.word, judged.verdict.line, judged.result["parts"]), (
+                    reason[0], judged.timed_verdict, judged.verdict.line, judged.result["parts"]), (
                         "Refused: page 888 is never sent", "refused", "refused never sent", []))
 
     def test_does_not_say_never_sent_if_a_pes_packet_can_not_be_read(self) -> None:
         pes = packets(join_pes_packets(self.remove_rows()))
         path = self.write("one.pes", b"".join([*pes[:3], damage_packet(pes[3], 37), *pes[4:]]))
-        judged = judge_files(self, self.stl, path, *self.words, "--origin", "0")
+        judged = judge_files(self, self.stl, path, *self.qc_args, "--origin", "0")
         self.check("sentence", "never sent while" in judged.verdict.sentence, False)
 
     def test_refuses_headers_without_rows_in_a_stream(self) -> None:
         result = self.judge_stream(make_service_stream(self.remove_rows()))
-        self.check("stream", (result.word, "headers, no row" in result.verdict.sentence),
+        self.check("stream", (result.timed_verdict, "headers, no row" in result.verdict.sentence),
                    ("refused", True))
 
     def test_accepts_headers_for_blank_subtitles(self) -> None:
-        stl = write_programme(self, self.due, text=b" ", name="blank.stl")
+        stl = write_programme(self, self.cues, text=b" ", name="blank.stl")
         pes = self.write("one.pes", join_pes_packets(self.remove_rows()))
-        result = judge_files(self, stl, pes, *self.words, "--origin", "0")
+        result = judge_files(self, stl, pes, *self.qc_args, "--origin", "0")
         self.check("verdict", "never sent while" in result.verdict.sentence, False)

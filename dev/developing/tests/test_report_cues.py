@@ -86,10 +86,10 @@ class ActualTimes(ProgrammeCase):
             rows = self.judge(sent).result["subtitles"]
             self.check(f"{name}: times", [(row["actual_in"], row["actual_out"]) for row in rows], [
                 (format_frame(tci) if begin <= tci <= last else None,
-                 format_frame(tco) if begin < tco <= last else None) for tci, tco in self.due])
+                 format_frame(tco) if begin < tco <= last else None) for tci, tco in self.cues])
             self.check(f"{name}: right", [row["position"] for row in rows
                                           if row["verdict"] == "right"],
-                       [number for number, (tci, tco) in enumerate(self.due, 1)
+                       [number for number, (tci, tco) in enumerate(self.cues, 1)
                         if begin <= tci and tco <= last + 1])
 
     def test_gives_the_actual_times_of_a_moved_subtitle(self) -> None:
@@ -99,7 +99,7 @@ class ActualTimes(ProgrammeCase):
                               for row in rows], [
                 (format_frame(tci + by * (number == 3)), format_frame(tco),
                  "wrong" if number == 3 else "right")
-                for number, (tci, tco) in enumerate(self.due, 1)])
+                for number, (tci, tco) in enumerate(self.cues, 1)])
 
     def read_csv(self, *args: str) -> tuple[dict[str, Any], list[dict[str, str]]]:
         """Judge a pair. Return the JSON result, and the rows of the CSV file."""
@@ -108,7 +108,7 @@ class ActualTimes(ProgrammeCase):
             return result, [*csv.DictReader(file)]
 
     def test_writes_a_csv_row_for_the_pair_and_each_subtitle(self) -> None:
-        tci = self.due[2][0] * TICKS
+        tci = self.cues[2][0] * TICKS
         late = [(pts + 3 * TICKS * (pts == tci), some) for pts, some in self.sent]
         result, (pair, *rows) = self.read_csv(
             self.write("one.pes", join_pes_packets(late)), "--origin", "0")

@@ -10,7 +10,7 @@ from developing.pes import make_packet, make_pes_packet
 from subtitles.common.times import CLOCK, TICKS
 from subtitles.formats.stl import GSI, TTI
 from .judged import JudgedPair, ProgrammeCase, judge_files
-from .stories import Story, StoryCase, first_tick, read_vectors
+from .stories import Story, StoryCase, get_tci_pts, read_vectors
 from .streams import multiplex_frames
 from .transmissions import (
     LASTS, ORIGIN, SentPes, join_pes_packets, make_delay, make_numbered_row, packets,
@@ -26,7 +26,7 @@ BYTES = re.compile(r"(block|pes) (\d+): (\d+)=([0-9A-F]{2})")
 
 def is_of(pts: int, number: int) -> bool:
     """Return whether a page transmission shows the subtitle with this number."""
-    return 0 <= pts - first_tick(f"{number}") < LASTS * TICKS
+    return 0 <= pts - get_tci_pts(f"{number}") < LASTS * TICKS
 
 
 def change_first_row_of_6(sent: SentPes, change: Callable[[bytes], bytes]) -> SentPes:
@@ -40,7 +40,7 @@ def change_letter(row: bytes) -> bytes:
 
 class Reports(StoryCase):
     text, lines = b"\3No! <&> %d", 2
-    ways = {
+    more_changes = {
         "6 in row 24": lambda sent: change_first_row_of_6(
             sent, lambda row: make_numbered_row(24, b"\x0dElsewhere.")),
         "6 with a wrong letter": lambda sent: change_first_row_of_6(sent, change_letter),
@@ -52,7 +52,7 @@ class Reports(StoryCase):
             (pts, sent[-1][1] if is_of(pts - 25 * TICKS, 6) else some) for pts, some in sent],
         "another page in a pause": lambda sent: sorted([*sent, *(
             (pts + 75 * TICKS, [some[0], make_numbered_row(20, b"Elsewhere"), some[-1]])
-            for pts, some in sent if pts == first_tick("2"))]),
+            for pts, some in sent if pts == get_tci_pts("2"))]),
         "6 with a wrong letter before the right one": lambda sent: [
             (pts, [some[0], change_letter(some[1]), *some[1:]] if is_of(pts, 6) else some)
             for pts, some in sent],
@@ -60,9 +60,9 @@ class Reports(StoryCase):
             (pts, [PLAIN_HEADER, *some[1:]] if is_of(pts, 6) else some) for pts, some in sent],
         "other packets before": lambda sent: [
             (sent[0][0] - 40 * TICKS, sent[-1][1][-1:]), *sent],
-        "5 a tick late": lambda sent: [(pts + (pts == first_tick("5")), some)
+        "5 a tick late": lambda sent: [(pts + (pts == get_tci_pts("5")), some)
                                        for pts, some in sent],
-        "from subtitle 3 on": lambda sent: [item for item in sent if item[0] > first_tick("3")]}
+        "from subtitle 3 on": lambda sent: [item for item in sent if item[0] > get_tci_pts("3")]}
 
     def report(self, story: Story) -> tuple[JudgedPair, str]:
         """Judge a recording. Return the judged pair and its report."""
@@ -70,7 +70,7 @@ class Reports(StoryCase):
         self.sent = schedule_pages(self, self.stl, origin=ORIGIN)
         stl = bytearray(self.read("one.stl"))
         pes = [bytearray(make_pes_packet(pts % CLOCK, some))
-               for pts, some in self.change(story["sent"])]
+               for pts, some in self.apply_changes(story["sent"])]
         for kind, block, offset, value in BYTES.findall(story["bytes"]):
             data, begin = (pes[int(block)], 0) if kind == "pes" else (
                 stl, GSI + TTI * (int(block) - 1) if int(block) else 0)
@@ -110,7 +110,7 @@ class StreamReports(ProgrammeCase):
     """A transport stream in which the PTS and the PCR wrap after 20 seconds."""
 
     origin = CLOCK - 500 * TICKS
-    words = ("--origin", f"{origin}")
+    qc_args = ("--origin", f"{origin}")
 
     def test_names_the_length_of_the_stream_and_the_options_and_waivers(self) -> None:
         third = self.origin + 300 * TICKS

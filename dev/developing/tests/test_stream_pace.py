@@ -333,7 +333,7 @@ class Losses(ProgrammeCase):
     """A stream with a PES packet of one TS packet in each frame, from 10:00:00:00 on. If 16 are
     lost, the continuity counter goes on as if none were, and only the intervals show it."""
 
-    due = TIMES
+    cues = TIMES
     first = 660  # number of the first lost PES packet, whose frame is 10:00:26:10
     lost, silent = "45 Lost pes 660", "79 Silent frame 10:00:26:11"
 
@@ -342,8 +342,9 @@ class Losses(ProgrammeCase):
 
     def check_faults(self, name: str, judged: JudgedPair, word: str, *faults: str) -> None:
         """Check the verdict, and the lines of all faults."""
-        listed = [line for line in judged.listed if line.startswith("refused")]
-        self.check(name, (judged.word, listed), (word, [f"refused {line}" for line in faults]))
+        listed = [line for line in judged.check_lines if line.startswith("refused")]
+        self.check(name, (judged.timed_verdict, listed),
+                   (word, [f"refused {line}" for line in faults]))
 
     def test_measures_the_pace_of_a_regular_stream(self) -> None:
         judged = self.judge_stream(self.make_stream_packets(fill_missing_frames(self.sent)))
@@ -371,9 +372,11 @@ class Losses(ProgrammeCase):
         for cut, count in ((remove_pid_packets, 32), (remove_pid_packets, 160),
                            (delete_between, 160)):
             judged = self.judge_stream(cut(multiplex, self.first, count))
-            self.check(f"{cut.__name__} {count}: verdict", judged.word, "refused")
-            self.must(f"{cut.__name__} {count}: faults", f"refused {self.silent}" in judged.listed
-                      and not any("refused 45" in line for line in judged.listed), judged.listed)
+            self.check(f"{cut.__name__} {count}: verdict", judged.timed_verdict, "refused")
+            self.must(f"{cut.__name__} {count}: faults",
+                      f"refused {self.silent}" in judged.check_lines
+                      and not any("refused 45" in line for line in judged.check_lines),
+                      judged.check_lines)
 
     def test_judges_by_the_given_pace(self) -> None:
         multiplex = remove_pid_packets(self.make_stream_packets(fill_missing_frames(self.sent)),
@@ -383,7 +386,7 @@ class Losses(ProgrammeCase):
                 ("--pace=none", "accepted", None, []), ("--pace=17", "accepted", 17, []),
                 ("--pace=16", "refused", 16, []), ("--allow-lost", "waived", 2, [PACE_LINE])):
             judged = self.judge_stream(multiplex, option)
-            self.check(option, (judged.word, judged.lines("pace: "), judged.parts("pace")),
+            self.check(option, (judged.timed_verdict, judged.lines("pace: "), judged.parts("pace")),
                        (word, lines, [(pace,)]))
             self.check(f"{option}: requested", judged.result["request"]["pace"],
                        option[7:] if option.startswith("--pace") else None)
@@ -392,7 +395,7 @@ class Losses(ProgrammeCase):
         sent = fill_missing_frames(self.sent)
         pipe = write_pipe(self, join_packets(remove_pid_packets(self.make_stream_packets(sent),
                                                                 self.first, 16)))
-        self.check_faults("a pipe", judge_files(self, self.stl, pipe, *self.words), "refused",
+        self.check_faults("a pipe", judge_files(self, self.stl, pipe, *self.qc_args), "refused",
                           self.silent)
         self.check_faults("PES packets", self.judge(sent[:self.first] + sent[self.first + 16:]),
                           "refused", "79 Silent frame 10:00:26:10")
@@ -409,13 +412,14 @@ class Losses(ProgrammeCase):
             name = f"{cut.__name__} {count}"
             judged = self.judge_stream(cut(multiplex, first, count))
             self.check_faults(name, judged, word, *["45 Lost pes 155"] * (word == "refused"))
-            self.check(f"{name}: the note", (IRREGULAR_NOTE in judged.told,
+            self.check(f"{name}: the note", (IRREGULAR_NOTE in judged.stderr,
                                              IRREGULAR_NOTE in judged.notes), (True, True))
             self.check(f"{name}: no pace", (judged.lines("pace: "), judged.parts("pace")),
                        ([], [(None,)]))
         for option in ("--pace=none", "--pace=180"):
             judged = self.judge_stream(remove_pid_packets(multiplex, first, 16), option)
-            self.check(option, (judged.word, IRREGULAR_NOTE in judged.told), ("accepted", False))
+            self.check(option, (judged.timed_verdict, IRREGULAR_NOTE in judged.stderr),
+                       ("accepted", False))
         # The first burst of each subtitle ends 24 frames after its TCI; the fault is 100 later.
         self.check_faults("--pace=100", self.judge_stream(multiplex, "--pace=100"), "refused", *(
             f"79 Silent frame 10:00:{10 * at + 4:02}:24" for at in range(6)))

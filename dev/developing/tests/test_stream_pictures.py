@@ -317,14 +317,14 @@ class Pairs(Case):
             path = self.write("one.ts", multiplex_programmes([programme], end - begin).data)
             judged_pair = judge_files(self, stl, path, "--origin", "0", *words.split())
             name = f"{words} {places} {frames}"
-            self.check(name, judged_pair.word, word)
+            self.check(name, judged_pair.timed_verdict, word)
             if frames and places[0] < tco:
                 last = f"to {format_frame(places[1] - 1)}" if places[1:] else "on"
                 count = f"{abs(frames)} frame{'s' * (abs(frames) != 1)}"
                 self.must(f"{name}: text", any(
                     f"from {format_frame(places[0])} {last}, subtitles are {count} "
                     f"{'early' if frames > 0 else 'late'} for viewers: the video's timestamps jump"
-                    in item for item in judged_pair.said), judged_pair.said)
+                    in item for item in judged_pair.printed), judged_pair.printed)
 
     def test_refuses_a_jump_of_video_and_pcr_just_before_the_end(self) -> None:
         times = subtitle_times(5)
@@ -336,7 +336,7 @@ class Pairs(Case):
                                   later=[(tco - 5 - begin, 4 * TICKS)])
             path = self.write("one.ts", multiplex_programmes([programme], tco + 3 - begin).data)
             judged_pair = judge_files(self, stl, path, "--origin", "0")
-            self.check(f"{is_late}", judged_pair.word, word)
+            self.check(f"{is_late}", judged_pair.timed_verdict, word)
             places = [fault.time for fault in judged_pair.verdict.named_faults]
             self.check(f"{is_late}, places", places, [format_frame(tco - 5)] * is_late)
 

@@ -145,14 +145,14 @@ class JudgedRecordings(ProgrammeCase):
     def test_judges_nothing_if_survey_and_packets_differ(self) -> None:
         path = self.write("one.ts", remove_first_ts_packet(
             make_stream_of_pids((PID, join_pes_packets(self.sent))), self.pes[7]))
-        verdict = judge_files(self, self.stl, path, *self.words, "--allow-lost").verdict
+        verdict = judge_files(self, self.stl, path, *self.qc_args, "--allow-lost").verdict
         self.check("the correct program", (verdict.word, verdict.status), ("waived", 0))
         for name, (pattern, replacement) in SURVEY_CHANGES.items():
             program = self.write_program("program", FAULTY_PROGRAM.format(
                 python=sys.executable, program=self.bench.program, pattern=pattern,
                 replacement=replacement))
-            verdict = judge_files(self, self.stl, path, *self.words, "--allow-lost",
-                                  by=program).verdict
+            verdict = judge_files(self, self.stl, path, *self.qc_args, "--allow-lost",
+                                  program=program).verdict
             self.check(name, (verdict.word, verdict.status, verdict.not_judged_kind,
                               "SurveyMismatch" in (verdict.unjudged_reason or "")),
                        ("not judged", 70, "bug", True))

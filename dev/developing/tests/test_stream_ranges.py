@@ -51,7 +51,7 @@ class DayFiles(Case):
                 ((*LATER, "--to", "00:01:06:00"), "accepted", 2),
                 ((*LATER, "--to", "00:01:06:01"), "accepted", 3)):
             judged_pair = judge_files(self, day, second, "--origin", "0", *words)
-            self.check(f"{words}", (judged_pair.word, judged_pair.verdict.subtitle_count),
+            self.check(f"{words}", (judged_pair.timed_verdict, judged_pair.verdict.subtitle_count),
                        (word, count))
             if word != "not judged":
                 self.check(f"{words}: subtitles", len(judged_pair.result["subtitles"]), count)
@@ -59,7 +59,7 @@ class DayFiles(Case):
     def test_reports_only_subtitles_in_the_range(self) -> None:
         day = self.write_day()
         judged = judge_files(self, day, self.write_second(), *LATER, "-o", self.path("out"))
-        self.check("part", (judged.word, judged.parts("from", "to", "stl")),
+        self.check("part", (judged.timed_verdict, judged.parts("from", "to", "stl")),
                    ("accepted", [("00:01:02:00", "00:01:07:15", day)]))
         self.check("places", [item["position"] for item in judged.result["subtitles"]], [4, 5, 6])
         page = self.read("out/one.html")
@@ -73,14 +73,16 @@ class DayFiles(Case):
         third_bad = self.write_day(*texts[:2], BAD, *texts[3:], name="third.stl")
         last_bad, second = self.write_day(*texts[:5], BAD, name="last.stl"), self.write_second()
         judged = judge_files(self, third_bad, second, *LATER, "-o", self.path("out"))
-        self.check("outside", (judged.word, judged.verdict.subtitle_count), ("accepted", 3))
+        self.check("outside", (judged.timed_verdict, judged.verdict.subtitle_count),
+                   ("accepted", 3))
         self.check("no range", judge_files(self, third_bad, second).verdict.line,
                    "refused 50 Character block 3 at 11")
         judged = judge_files(self, last_bad, second, *LATER, "-o", self.path("out"))
         self.check("inside", (judged.verdict.line, judged.result["faults"][0]["subtitle"][
             "position"]), ("refused 50 Character block 6 at 11", 6))
         for words, word in ((EARLIER, "valid"), ((), "refused"), (LATER, "refused")):
-            self.check(f"no recording, {words}", judge_files(self, last_bad, *words).word, word)
+            self.check(f"no recording, {words}", judge_files(self, last_bad, *words).timed_verdict,
+                       word)
 
     def test_refuses_a_range_without_subtitles(self) -> None:
         day, second = self.write_day(), self.write_second()
@@ -88,14 +90,14 @@ class DayFiles(Case):
                       ("--to", "00:00:00:00"), (*LATER, "--to", "00:01:02:00")):
             for recording in list[list[str]]([[], [second]]):
                 result = judge_files(self, day, *recording, *words)
-                self.must(f"{words} {recording}", result.word == "not judged" and
-                          f"{day} has no subtitle with a TCI" in result.told[-1], result.said)
+                self.must(f"{words} {recording}", result.timed_verdict == "not judged" and
+                          f"{day} has no subtitle with a TCI" in result.stderr[-1], result.printed)
         result = judge_files(self, day, "--from", "00:05:00:00", "--to", "00:06:00:00")
         self.check("reason", result.verdict.unjudged_reason, f"{day} has no subtitle with a TCI at "
                    "00:05:00:00 or later and before 00:06:00:00")
         none = self.write("none.stl", make_gsi_block(b"", 0, 0))
         result = judge_files(self, none, second)
-        self.check("a file without subtitles", (result.word, result.told[-1]),
+        self.check("a file without subtitles", (result.timed_verdict, result.stderr[-1]),
                    ("not judged", f"{none} has no subtitle"))
 
     def test_refuses_invalid_times(self) -> None:
@@ -114,7 +116,8 @@ class DayFiles(Case):
                 for pts, packets in schedule_pages(self, write_programme(self, times))]
         result = judge_files(self, day, self.write("day.pes", join_pes_packets(sent)),
                              "--breaks", "1", "--to", "00:04:00:00")
-        self.check("accepted", (result.word, result.verdict.subtitle_count), ("accepted", 14))
+        self.check("accepted", (result.timed_verdict, result.verdict.subtitle_count),
+                   ("accepted", 14))
         commands = result.lines("+ ")
         self.must("commands", len(commands) == 2 and
                   "--from 00:00:04:00 --to 00:00:30:10" in commands[0] and
@@ -186,33 +189,34 @@ class SkippedSubtitles(Case):
             whole = write_programme(self, [title, *times], name="whole.stl", first=0)
             for recording in list[list[str]]([[], [pes, "--origin", "0"]]):
                 result = judge_files(self, whole, *recording)
-                notes = [item for item in result.told if "00:00:00:00" in item]
+                notes = [item for item in result.stderr if "00:00:00:00" in item]
                 self.must(f"{title} {recording}", len(notes) == 1 and notes[0].endswith(
-                    "give --from 10:00:02:00"), result.said)
+                    "give --from 10:00:02:00"), result.printed)
                 self.must(f"{title} {recording}: refused", not (recording or number == 21) or
-                          str(number) in (result.verdict.line or ""), result.said)
+                          str(number) in (result.verdict.line or ""), result.printed)
                 result = judge_files(self, whole, *recording, "--from", "10:00:02:00")
-                self.must(f"{title} {recording}: without",
-                          result.word == ("accepted" if recording else "valid") and not any(
-                              "00:00:00:00" in item for item in result.told), result.said)
+                self.must(f"{title} {recording}: without", result.timed_verdict == (
+                    "accepted" if recording else "valid") and
+                    "00:00:00:00" not in "\n".join(result.stderr), result.printed)
 
 
 class AdjoiningSubtitles(ProgrammeCase):
     """Subtitles of which the second, third and fourth follow each other without a pause."""
 
-    due = [(100, 150), (200, 250), (250, 300), (300, 350), (400, 450), (500, 550)]
+    cues = [(100, 150), (200, 250), (250, 300), (300, 350), (400, 450), (500, 550)]
 
     def test_advises_pauses_instead_of_an_end_between_adjoining_subtitles(self) -> None:
         for frame in (250, 300):
             judged = self.judge(self.sent, "--to", format_frame(frame))
-            self.check(f"{frame}", (judged.word, judged.result["parts"]), ("not judged", []))
+            self.check(f"{frame}", (judged.timed_verdict, judged.result["parts"]),
+                       ("not judged", []))
             ends = [word.rpartition(" ")[2] for word in judged.verdict.suggestions]
             self.check(f"{frame}: suggested ends", ends, [format_frame(151), format_frame(351)])
             self.check(f"{frame}: reason", judged.verdict.unjudged_reason, "--to ends the range at "
                        f"{format_frame(frame)}, where the next subtitle follows directly: the page "
                        "is not erased there")
         for frame in (151, 351, 500):
-            self.check(f"{frame}", self.judge(self.sent, "--to", format_frame(frame)).word,
+            self.check(f"{frame}", self.judge(self.sent, "--to", format_frame(frame)).timed_verdict,
                        "accepted")
 
     def test_reports_other_faults_and_not_the_end_between_adjoining_subtitles(self) -> None:
@@ -221,20 +225,21 @@ class AdjoiningSubtitles(ProgrammeCase):
         one_late = make_delay(1, 200 * TICKS, 200 * TICKS)(self.sent)
         for name, sent in (("another page", other), ("a late subtitle", one_late)):
             judged = self.judge(sent, "--to", format_frame(250))
-            self.check(name, judged.word, "refused")
+            self.check(name, judged.timed_verdict, "refused")
         self.check("sentence", judged.sentence,
                    'Refused: subtitle 2 at 00:00:08:00, "Number 2", appeared 1 frame late.')
 
     def test_expects_pages_with_the_options_of_the_call(self) -> None:
         words = "--open", "--layout", "row=-2", "--option", "german", "--page", "150"
         stl = write_subtitle_file(
-            self, [(*item, b"Gr\xc8u\xfbe %d" % item[0]) for item in self.due], row=20)
+            self, [(*item, b"Gr\xc8u\xfbe %d" % item[0]) for item in self.cues], row=20)
         with open(stl, "r+b") as file:
             file.seek(11)
             file.write(b"0")  # set DSC to open subtitles
         pes = self.schedule(stl, "one.pes", "--every", "25", *words)
         judged = judge_files(self, stl, pes, "--origin", "0", *words, "--to", format_frame(250))
-        self.check("suggestions", (judged.word, len(judged.verdict.suggestions)), ("not judged", 2))
+        self.check("suggestions", (judged.timed_verdict, len(judged.verdict.suggestions)),
+                   ("not judged", 2))
 
     def test_finds_an_end_that_only_the_next_subtitle_makes_a_fault(self) -> None:
         # The part has the frames 100 to 200. The number and the frames of faults, --within, and the
@@ -253,7 +258,7 @@ class AdjoiningSubtitles(ProgrammeCase):
 
     def test_finds_the_pauses_near_a_frame(self) -> None:
         subtitles = [Subtitle(at, at, begin, end, 22, 2, b"")
-                     for at, (begin, end) in enumerate(self.due)]
+                     for at, (begin, end) in enumerate(self.cues)]
         # The number of subtitles in the file, a frame, and the nearest TCOs that a pause follows
         for count, frame, expected in ((6, 300, [150, 350]), (6, 100, [150]), (6, 500, [450, 550]),
                                        (4, 300, [150, 350]), (0, 300, [])):
