@@ -26,50 +26,60 @@ BEGIN = 900_000
 TIMES = [(BEGIN + 100 * at, BEGIN + 100 * at + 50) for at in range(6)]
 
 
+OTHER_ROWS = (make_numbered_row(22, b"Others"),)  # a text that no subtitle has
+
+
 def insert_page(sent: SentPes, frame: int, *rows: bytes) -> SentPes:
+    """Return the transmission with a page with these rows at a frame, in place of any other."""
     pts = frame * TICKS
     return sorted([*(item for item in sent if item[0] != pts), (pts, [HEADER, *rows, CLOSING])])
 
 
 class SenderFaults(ProgrammeCase):
+    """The subtitles "Number 1" to "Number 6" appear every 100 frames from 10:00:00:00 on, for 50
+    frames each. Pages with other rows are added to their transmission or replace some of it."""
+
     cues = TIMES
 
     def judge_pages(self, *pages: tuple[int, tuple[bytes, ...]]) -> JudgedPair:
+        """Judge the transmission with pages given by frames after 10:00:00:00 and rows."""
         sent = self.sent
         for frame, rows in pages:
             sent = insert_page(sent, BEGIN + frame, *rows)
         return self.judge(sent)
 
-    def causes(self, told: JudgedPair) -> list[tuple[Any, ...]]:
+    def list_causes(self, judged: JudgedPair) -> list[tuple[Any, ...]]:
         return [(item["name"], item["subtitle"]["number"], item["line"])
-                for item in told.result["causes"]]
+                for item in judged.result["causes"]]
 
-    def test_reports_an_unexpected_text_in_a_pause(self) -> None:
-        other = (make_numbered_row(22, b"Others"),)
+    def test_reports_an_unexpected_text_in_the_pause_after_a_subtitle(self) -> None:
         for number, frame, time in ((1, 60, "10:00:02:10"), (3, 270, "10:00:10:20")):
-            judged = self.judge_pages((frame, other))
+            judged = self.judge_pages((frame, OTHER_ROWS))
             words = f"another text was sent in a pause, at {time}"
             line = f'{words}; received "Others"'
-            self.check(f"{frame}: causes", self.causes(judged),
+            self.check(f"{frame}: causes", self.list_causes(judged),
                        [("another text in a pause", number, line)])
             self.check(f"{frame}: line", judged.lines("cause: "), [line])
             self.check(f"{frame}: sentence", judged.sentence, f'Refused: {words}: "Others".')
-        self.check("two", self.judge_pages((60, other), (270, other)).sentence,
+
+    def test_counts_the_pauses_with_an_unexpected_text(self) -> None:
+        self.check("sentence", self.judge_pages((60, OTHER_ROWS), (270, OTHER_ROWS)).sentence,
                    "Refused: another text was sent in 2 pauses, the first at 10:00:02:10.")
-        counts = self.judge_pages((60, other), (130, other)).result["cause_counts"]
-        self.check("one of them at a subtitle's time", {
-            name: count for name, count in counts.items() if count},
-            {"another text in a pause": 1, "wrong text": 1})
 
-    def test_never_names_an_own_text_as_a_foreign_one(self) -> None:
+    def test_counts_an_unexpected_text_while_a_subtitle_is_shown_as_a_wrong_text(self) -> None:
+        counts = self.judge_pages((60, OTHER_ROWS), (130, OTHER_ROWS)).result["cause_counts"]
+        self.check("causes", {name: count for name, count in counts.items() if count},
+                   {"another text in a pause": 1, "wrong text": 1})
+
+    def test_names_no_other_text_if_a_subtitle_is_repeated_after_its_tco(self) -> None:
         judged = self.judge_pages((60, (make_numbered_row(22, b"Number 1"),)))
-        self.check("causes", [cause[0] for cause in self.causes(judged)
-                              if cause[0] == "another text in a pause"], [])
+        self.check("causes", self.list_causes(judged),
+                   [("unknown", 1, "unknown: sent after its TCO, at 10:00:02:10")])
 
-    def test_names_an_extra_row(self) -> None:
+    def test_names_an_extra_row_only_if_the_other_rows_are_right(self) -> None:
         own = next(packets[1] for pts, packets in self.sent if pts == TICKS * (BEGIN + 100))
         prices = make_numbered_row(11, b"Share prices")
-        # The rows that are sent, and what the cause and the sentence say of additional ones.
+        # The rows sent for subtitle 2, and what the cause and the sentence say of additional ones.
         rows: dict[str, tuple[tuple[bytes, ...], str]] = {
             "one more": ((own, prices), "an additional row: 11"),
             "two more": ((make_numbered_row(3, b"A"), make_numbered_row(11, b"B"), own),
@@ -84,16 +94,16 @@ class SenderFaults(ProgrammeCase):
             self.must(f"{name}: sentence", text in judged.sentence, judged.sentence)
 
     def test_the_manual_lists_each_cause(self) -> None:
-        rows = read(os.path.join(TOP, "docs", "manual", "refusals.md")) or ""
-        begins = [line.partition(": ")[0] for line in rows.splitlines() if line.startswith("- `")]
+        manual = read(os.path.join(TOP, "docs", "manual", "refusals.md")) or ""
+        items = [line.partition(": ")[0] for line in manual.splitlines() if line.startswith("- `")]
         for name in CAUSE_NAMES:
-            self.must(name, any(f"`{name}" in one for one in begins))
+            self.must(name, any(f"`{name}" in item for item in items))
 
 
-# Causes of refused subtitles, by tables. A row has the subtitles with their frames, and the decoded
-# pages with their first frames. `100:a/4` is a page that another header ends 4 frames later. `!`
-# has the frames of a pause between PES packets, `?` unreadable frames, `~` lost frames, and `@` a
-# frame with rows without a header.
+# Causes of refused subtitles, by tables. A row has the subtitles (`100-150 a` has its TCI in frame
+# 100, its TCO in frame 150, and the text of page a), and the decoded pages with their first frames:
+# `100:a/4` is a page that another header ends 4 frames later. `!` has the frames of a pause between
+# PES packets, `?` unreadable frames, `~` lost frames, and `@` a frame with rows without a header.
 
 CAUSES_FILE = os.path.join(DEV, "vectors", "causes.tsv")
 END = 1600  # end of the examined range of frames
@@ -116,7 +126,7 @@ def make_page_named(name: str) -> Rows:
     return tuple(page)
 
 
-def empty(within: int = 0) -> Timeline:
+def make_empty_timeline(within: int = 0) -> Timeline:
     return Timeline(Packets(0), PAGE, 0, within)
 
 
@@ -135,7 +145,7 @@ def make_programme(subtitles: str, first_number: int = 1) -> ExpectedPages:
 def decode(sent: str, programme: ExpectedPages, within: int = 0, first: int = 0,
            last: int = 999) -> Timeline:
     """Return the decoded pages of a row, for a recording from frame `first` to frame `last`."""
-    decoded = empty(within)
+    decoded = make_empty_timeline(within)
     spans: dict[str, list[Span]] = {mark: [] for mark in "!?~@"}
     for item in sent.split():
         if item[0] in spans:
@@ -152,7 +162,7 @@ def decode(sent: str, programme: ExpectedPages, within: int = 0, first: int = 0,
     return decoded
 
 
-def fake_answer(spans: list[Span], *edges: tuple[int, int]) -> Any:
+def fake_check_output(spans: list[Span], *edges: tuple[int, int]) -> Any:
     """Return output of `check`: fault 72 in the frames `spans`, and other faults with frames."""
     firsts = {number: parse_fault_line(f"refused {number} Edge frame {format_frame(frame)}")
               for number, frame in edges}
@@ -178,9 +188,14 @@ def format_cause(cause: Cause, sent: str) -> str:
 
 class StoredRows(unittest.TestCase):
     """Each row of dev/vectors/causes.tsv has random subtitles, decoded pages and options; and the
-    causes, the subtitles to which some faults belong, and the delays when it was last reviewed."""
+    results that were last reviewed: the causes, the numbers of the subtitles to which the faults 63
+    and 74 and the first three faults 72 belong, and the delays of the subtitles in frames.
 
-    def find(self, subtitles: str, sent: str, words: str) -> list[str]:
+    Options are the tolerance `within`, the first and last recorded frame by PES packets (`first`,
+    `last`) and by PCR (`reach`), the frames of the faults 63 (`begin`) and 74 (`end`), and the
+    first subtitle's `number`."""
+
+    def find_results(self, subtitles: str, sent: str, words: str) -> list[str]:
         options = dict(word.split("=") for word in words.split())
         programme = make_programme(subtitles, int(options.get("number", 1)))
         decoded = decode(sent, programme, *(int(options[name])
@@ -188,7 +203,7 @@ class StoredRows(unittest.TestCase):
         causes = Causes(programme, decoded,
                         parse_span(options["reach"]) if "reach" in options else None)
         spans = find_wrong_spans(causes)
-        causes.classify_faults(fake_answer(spans, *(
+        causes.classify_faults(fake_check_output(spans, *(
             (number, int(options[name])) for number, name in ((63, "begin"), (74, "end"))
             if name in options)))
         printed = [f"{format_cause(cause, sent)} until {cause.final_frame}"
@@ -205,10 +220,12 @@ class StoredRows(unittest.TestCase):
             for line in file:
                 subtitles, sent, options, *expected = line.rstrip("\n").split("\t")
                 with self.subTest(subtitles, sent=sent, options=options):
-                    self.assertEqual(self.find(subtitles, sent, options), expected)
+                    self.assertEqual(self.find_results(subtitles, sent, options), expected)
 
 
-# Rows whose causes were derived by hand.
+# Rows whose causes were derived by hand: subtitles, decoded pages, and the expected causes with
+# their subtitle, their frames if early or late, and the decoded page. `2 early 3, b` means that
+# page b of subtitle 2 was sent 3 frames early.
 ROWS_BY_HAND = {
     "as expected": ("100-150 a", "0:- 100:a 150:-", ""),
     "late by 3 frames": ("100-150 a", "0:- 103:a 150:-", "1 late 3, a"),
@@ -302,7 +319,7 @@ ROWS_BY_HAND = {
 
 
 class CausesByHand(unittest.TestCase):
-    def test_keeps_the_first_of_several_wrong_frames(self) -> None:
+    def test_keeps_the_first_wrong_frame_of_a_subtitle(self) -> None:
         causes: Any = SimpleNamespace(
             finder=SimpleNamespace(find_text_in_pause=lambda *_: None),
             first_wrong_frames={}, cause_by_index={0: None})
@@ -315,7 +332,7 @@ class CausesByHand(unittest.TestCase):
             programme = make_programme(subtitles)
             causes = Causes(programme, decode(sent, programme))
             spans = find_wrong_spans(causes)
-            causes.classify_faults(fake_answer(spans))
+            causes.classify_faults(fake_check_output(spans))
             places = {cause.subtitle_index for cause in causes.list_causes()}
             with self.subTest(name):
                 self.assertEqual("; ".join(format_cause(cause, sent)
@@ -324,36 +341,43 @@ class CausesByHand(unittest.TestCase):
                     item = causes.find_cause(72, first)
                     self.assertIn(item and item.subtitle_index, places)
 
-    def test_extends_the_recording_by_its_pcr(self) -> None:
-        for reach, expected in ((None, (10, 20)), ((5, 30), (5, 30)), ((12, 18), (10, 20)),
-                                ((5, 18), (5, 20)), ((12, 30), (10, 30))):
-            decoded = empty()
+    def test_a_recording_covers_the_frames_of_its_pes_packets_and_of_its_pcr(self) -> None:
+        for pcr_frames, expected in ((None, (10, 20)), ((5, 30), (5, 30)), ((12, 18), (10, 20)),
+                                     ((5, 18), (5, 20)), ((12, 30), (10, 30))):
+            decoded = make_empty_timeline()
             decoded.first, decoded.last = 10, 20
-            causes = Causes(ExpectedPages([], []), decoded, reach and Span(*reach))
-            self.assertEqual(causes.find_covered_span(), expected, reach)
+            causes = Causes(ExpectedPages([], []), decoded, pcr_frames and Span(*pcr_frames))
+            self.assertEqual(causes.find_covered_span(), expected, pcr_frames)
 
-    def test_looks_around_the_first_and_last_frame(self) -> None:
-        for held_from, first, last, expected in (
-                (100, 100, 149, (0, None)), (101, 97, 149, (0, None)), (101, 98, 149, (None, None)),
-                (101, 98, 150, (None, 0)), (101, 98, 151, (None, 0)), (90, 103, 150, (0, 0))):
-            programme, decoded = ExpectedPages([Subtitle(1, 1, 100, 150, 20, 2, b"")],
-                                               [make_page_named("a")]), \
-                empty()
-            for frame, name in ((held_from, "-"), (103, "a"), (155, "-")):
+    def test_finds_causes_of_early_and_late_ends_only_in_recorded_frames(self) -> None:
+        """A subtitle is expected from frame 100 to 150, but its page is shown from 103 to 155. The
+        PES packets from 103 to 140 are judged, which faults 63 and 74 at these frames report."""
+        # The first frame of the decoded blank page before the subtitle, the first and last frame
+        # that the PCR covers, and whether the faults 63 and 74 have a cause. The first has one if
+        # the blank page is decoded at 100 or the recording covers 97, as long before 100 as 103 is
+        # after it; the second has one if the recording covers 150.
+        for blank_from, first, last, have_causes in (
+                (100, 100, 149, (True, False)), (101, 97, 149, (True, False)),
+                (101, 98, 149, (False, False)), (101, 98, 150, (False, True)),
+                (101, 98, 151, (False, True)), (90, 103, 150, (True, True))):
+            programme, decoded = make_programme("100-150 a"), make_empty_timeline()
+            for frame, name in ((blank_from, "-"), (103, "a"), (155, "-")):
                 decoded.record_page(frame, make_page_named(name))
             decoded.first, decoded.last = 103, 140
             causes = Causes(programme, decoded, Span(first, last))
-            causes.classify_faults(fake_answer([], (63, 103), (74, 140)))
-            result = tuple(item and item.subtitle_index
-                           for item in (causes.find_cause(63, 103), causes.find_cause(74, 140)))
-            self.assertEqual(result, expected, (held_from, first, last))
+            causes.classify_faults(fake_check_output([], (63, 103), (74, 140)))
+            result = [item and item.subtitle_index
+                      for item in (causes.find_cause(63, 103), causes.find_cause(74, 140))]
+            self.assertEqual(result, [0 if has_cause else None for has_cause in have_causes],
+                             (blank_from, first, last))
 
     def test_describes_a_cause_as_values_and_as_text(self) -> None:
-        pages = [make_page_named(name) for name in "abc"]
-        programme = ExpectedPages([Subtitle(at, at + 5, 100 * at, 100 * at + 50, 20, 2, b"")
-                                   for at in (1, 2, 3)], pages)
-        wording = CauseDescriber(Causes(programme, empty()), "english")
+        """Subtitles 1 to 3 have the subtitle numbers (SN) 6 to 8 and the pages a to c."""
+        programme = make_programme("100-150 a;200-250 b;300-350 c", first_number=6)
+        wording = CauseDescriber(Causes(programme, make_empty_timeline()), "english")
         due, other, strange = (f"Line {name} / and more {name}" for name in "acz")
+        # The cause of subtitle 1: its name, frames, sent page, the index of the subtitle with this
+        # page, and details; and its text.
         for name, frames, sent, of, words, printed in (
                 (LATE, 3, "a", None, "", "late by 3 frames"),
                 (EARLY, 1, None, None, "why", "early by 1 frame: why"),
@@ -370,21 +394,23 @@ class CausesByHand(unittest.TestCase):
                 (known["name"], known["frames"], known["expected_text"], known["decoded_text"],
                  known["other_number"], known["other_position"], known["line"], known["subtitle"]),
                 (name, frames, due, sent and f"Line {sent} / and more {sent}", of and 8, of and 3,
-                 printed,
-                 {"position": 1, "number": 6, "begin": "00:00:04:00", "end": "00:00:06:00"}),
-                             (name, frames, sent))
+                 printed, {"position": 1, "number": 6, "begin": "00:00:04:00",
+                           "end": "00:00:06:00"}), (name, frames, sent))
             self.assertEqual(wording.format_line(cause), "cause: subtitle 1 (SN 6) at 00:00:04:00, "
                              f'"{due}": {printed}', (name, frames, sent))
 
     def test_counts_causes_of_all_parts_by_name(self) -> None:
-        def part(*names: str) -> Any:
+        def fake_part(*names: str) -> Any:
             causes = [Cause(at, name, 1, None, None, "", 0) for at, name in enumerate(names)]
             return SimpleNamespace(list_causes=lambda: causes, pause_texts={},
                                    cause_by_index=dict(enumerate(causes)))
 
-        parts, counts = [part(LATE, NEVER), part(), part(NEVER, LATE, LATE)], "3 late, 2 never sent"
+        parts = [fake_part(LATE, NEVER), fake_part(), fake_part(NEVER, LATE, LATE)]
+        counts = "3 late, 2 never sent"
         self.assertEqual(list_cause_counts(parts), counts)
         self.assertEqual(format_cause_counts(parts), f"5 subtitles with a wrong page: {counts}")
         self.assertEqual(count_causes(parts), {**dict.fromkeys(CAUSE_NAMES, 0), NEVER: 2, LATE: 3})
-        self.assertEqual(format_cause_counts([part(LATE)]), "1 subtitle with a wrong page: 1 late")
-        self.assertEqual((list_cause_counts([part()]), format_cause_counts([part()])), ("", ""))
+        self.assertEqual(format_cause_counts([fake_part(LATE)]),
+                         "1 subtitle with a wrong page: 1 late")
+        without = [fake_part()]
+        self.assertEqual((list_cause_counts(without), format_cause_counts(without)), ("", ""))

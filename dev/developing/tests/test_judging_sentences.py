@@ -6,7 +6,7 @@ import itertools
 import re
 import unittest
 from types import SimpleNamespace
-from typing import Any
+from typing import Any, Iterator
 
 from developing.pes import make_packet
 from subtitles.common.times import CLOCK, TICKS
@@ -34,33 +34,36 @@ from .transmissions import (
 from .test_formats_characters import ANY_SUBCODE, CHARACTER, LEVEL_1, Receiver, TEXT_OFFSET
 from .test_judging_faults import cause, make_causes
 
-ADD = f"was not checked: {advise_on_clock(False)}"
+NOT_CHECKED = f"was not checked: {advise_on_clock(False)}"
 PACKET_FAULTS_ONLY = {3, 4}  # fault numbers that `check` does not report
 VERB = re.compile(r"\b(is|are|has|have|was|were|does|ends|comes|begins?|differs|fall|appeared|"
                   r"lacks|had|do)\b")
 
 
 class HeaderOptions(unittest.TestCase):
-    def test_names_the_option_of_a_header(self) -> None:
-        for bits, request in itertools.product(range(8), OPTIONS):
-            sent = select_option(bits, request)
-            words = f"the header is {sent.name}, but --option is {request.word}" if sent else \
+    def test_names_the_option_of_a_header_unless_it_is_the_requested_one(self) -> None:
+        for bits, requested in itertools.product(range(8), OPTIONS):  # bits C12 to C14
+            sent = select_option(bits, requested)
+            words = f"the header is {sent.name}, but --option is {requested.word}" if sent else \
                 "C12, C13 and C14 are set, which is reserved"
-            with self.subTest(bits=bits, asked=request.word):
-                self.assertEqual(describe_control_bits(bytes([8, 8, 0, 8, 0, 8, 1, bits << 1]),
-                                                       request.word), [words] * (sent != request))
+            with self.subTest(bits=bits, requested=requested.word):
+                self.assertEqual(
+                    describe_control_bits(bytes([8, 8, 0, 8, 0, 8, 1, bits << 1]), requested.word),
+                    [words] * (sent != requested))
 
-    def test_selects_the_option_of_the_region_or_of_the_default_region(self) -> None:
-        for bits, judged, expected in ((0, "english", "english"), (0, "polish", "polish"),
-                                       (4, "polish", "german"), (5, "polish", "spanish"),
-                                       (7, "croatian", "romanian"), (7, "polish", None),
-                                       (0, "estonian", "english"), (6, "estonian", "lithuanian")):
-            option = select_option(bits, OPTION_BY_WORD[judged])
-            self.assertEqual(option and option.word, expected, (bits, judged))
+    def test_reads_bits_by_the_region_of_the_option_or_by_the_default_region(self) -> None:
+        # The bits C12 to C14, the requested option, and the option that the bits mean.
+        for bits, requested, expected in (
+                (0, "english", "english"), (0, "polish", "polish"), (4, "polish", "german"),
+                (5, "polish", "spanish"), (7, "croatian", "romanian"), (7, "polish", None),
+                (0, "estonian", "english"), (6, "estonian", "lithuanian")):
+            option = select_option(bits, OPTION_BY_WORD[requested])
+            self.assertEqual(option and option.word, expected, (bits, requested))
 
 
 GAP = parse_fault_line("refused 73 Gap frame 10:00:00:00")
-NO_CLOCK = f"No clock was given, so a delay that they all share {ADD}."
+NO_CLOCK = f"No clock was given, so a delay that they all share {NOT_CHECKED}."
+# The verdict, the number of subtitles and other facts; and the sentence that is made from them.
 SENTENCES: dict[str, tuple[Facts, str]] = {
     "not judged: the first line of the reason": (
         Facts(NOT_JUDGED, 0, reason="no\nmore"), "Not judged: no."),
@@ -105,13 +108,13 @@ SENTENCES: dict[str, tuple[Facts, str]] = {
         f"All 2 subtitles match relative to each other within 1 frame. {NO_CLOCK}"),
     "relative parts": (
         Facts(RELATIVE, 6, parts=2), "All 6 subtitles match relative to the others in their part. "
-        f"No clock was given, so a delay that all subtitles in a part share {ADD}."),
+        f"No clock was given, so a delay that all subtitles in a part share {NOT_CHECKED}."),
     "one relative subtitle": (Facts(RELATIVE, 1), "The subtitle has the right text and duration. "
-                              f"No clock was given, so its delay {ADD}."),
+                              f"No clock was given, so its delay {NOT_CHECKED}."),
     "relative and waived": (
         Facts(RELATIVE, 2, first=GAP, faults=1, hint="no header"), "Waived, since these faults are "
         "declared as warnings: from 10:00:00:00 on, no header. No clock was given, so a delay that "
-        f"all subtitles share {ADD}."),
+        f"all subtitles share {NOT_CHECKED}."),
     "two losses and a gap": (
         Facts(REFUSED, 2, first=parse_fault_line("refused 45 Lost pes 7"), faults=3, lost=[
             "a", "b"], counts=[FaultCount(45, "Lost", 2), FaultCount(73, "Gap", 1)]),
@@ -120,16 +123,15 @@ SENTENCES: dict[str, tuple[Facts, str]] = {
 
 class Sentences(unittest.TestCase):
     def test_describes_each_verdict(self) -> None:
-        self.assertTrue(ADD.endswith("add --origin PTS (the PTS of the subtitle file's "
-                                     "00:00:00:00)"), ADD)
+        self.assertTrue(NOT_CHECKED.endswith("add --origin PTS (the PTS of the subtitle file's "
+                                             "00:00:00:00)"), NOT_CHECKED)
         for name, (seen, expected) in SENTENCES.items():
             with self.subTest(name):
                 self.assertEqual(write_sentence(seen), expected)
 
-    def test_has_a_sentence_for_each_number(self) -> None:
+    def test_has_a_sentence_for_each_fault_number_in_the_manual(self) -> None:
         self.assertEqual(set(FAULT_CLAUSES), FAULT_NUMBERS - PACKET_FAULTS_ONLY)
-        known = {number for number, item in read_meanings().items() if number in FAULT_NUMBERS}
-        self.assertLessEqual(known - PACKET_FAULTS_ONLY, set(FAULT_CLAUSES))
+        self.assertEqual(set(FAULT_CLAUSES), set(read_meanings()))
         for number, words in FAULT_CLAUSES.items():
             for place, begin in (("frame 10:00:00:00", "at 10:00:00:00,"),
                                  ("pes 7", "in PES packet 7,"), ("block 0", "in block 0,"),
@@ -157,8 +159,8 @@ class Sentences(unittest.TestCase):
 BEGIN = 900_000
 TIMES = [(BEGIN + 50 * at, BEGIN + 50 * at + 40) for at in range(6)]
 
-# The frames of the received PES packets, by how much all subtitles are late, the fault and the
-# option of the hint, and part of the sentence.
+# The frames of the received PES packets, the frames by which all subtitles are late (negative:
+# early) by --origin, the fault and the option in the hint, and a part of the sentence.
 ENDS = """
 received | late by | hint                  | sentence
 100-1060 | 2       |                       | all 10 subtitles appeared 2 frames late
@@ -166,11 +168,13 @@ received | late by | hint                  | sentence
 110-1060 | 0       | 63 --from 00:00:08:00 | the recording begins after the first TCI
 110-1060 | 2       | 63 --from 00:00:08:00 | all 10 subtitles appeared 2 frames late
 100-1050 | 0       | 74 --to 00:00:38:11   | the recording ends before the last TCO
-100-960  | 0       | 74 --to 00:00:38:11   |
+100-960  | 0       | 74 --to 00:00:38:11   | the recording ends before the last TCO
 """
 
 
 class RecordingEnds(ProgrammeCase):
+    """The subtitles 1 to 10 appear at the frames 100, 200, .. 1000, for 60 frames each."""
+
     def test_counts_subtitles_that_are_cut_off(self) -> None:
         for row in read_table(ENDS):
             first, last = (TICKS * int(frame) for frame in row["received"].split("-"))
@@ -185,9 +189,11 @@ class RecordingEnds(ProgrammeCase):
             self.must(f"{name}: sentence", row["sentence"] in judged.sentence, judged.sentence)
 
     def test_never_leads_with_a_waived_fault(self) -> None:
-        sent = delay_subtitle(3, 2)(self.sent)
+        """Subtitle 3 is 2 frames late (fault 72), and subtitle 1 has an even byte (fault 68)."""
+        sent = delay_subtitle(3, by=2)(self.sent)
         pts, (header, text, *more) = sent[0]
         sent[0] = pts, [header, text[:-1] + bytes([text[-1] ^ 0x80]), *more]
+        # The severity file makes `waived` a warning; part of the sentence, and of the last line.
         for waived, sentence, last in (
                 ("", "subtitle 3 at 00:00:12:00, \"Number 3\", appeared 2 frames late; also 68 "
                      "Parity",
@@ -207,7 +213,8 @@ def make_header(c4: int = 8, c5: int = 8, c7: int = 1, c11: int = 8) -> bytes:
     return make_packet(0, 0, [8, 8, 0, c4, 0, c5, c7, c11], b" " * 32)
 
 
-# Changed values in the header of a page, and what the sentence says of the page.
+# Changed values in the header of a page, each with four control bits, and what the sentence says
+# of the page.
 HEADERS = {
     "c5=0": "hides the picture on some receivers: C6 (subtitle) is clear",
     "c7=9": "is not shown on some receivers: C10 (inhibit display) is set",
@@ -219,11 +226,13 @@ HEADERS = {
 
 
 class NamedPlaces(ProgrammeCase):
-    cues, qc_args = TIMES, ("--origin", "0", "--option", "german")
-    shown = 'subtitle 3, "Number 3, \u00d6sl"'
+    """German subtitles, "Number 1, \u00d6sl" and so on, appear every 50 frames from 10:00:00:00 on
+    for 40 frames. The header of one page is wrong: that of subtitle 3 or of the blank page after.
+    """
 
-    def judge_with(self, frame: int, header: bytes) -> JudgedPair:
-        """Judge a recording with this header at a frame."""
+    cues, qc_args = TIMES, ("--origin", "0", "--option", "german")
+
+    def judge_with_header(self, frame: int, header: bytes) -> JudgedPair:
         self.stl = write_programme(self, TIMES, text=b"Number %d, \xc8Osl")
         sent = schedule_pages(self, self.stl, *self.qc_args[2:])
         changed = [(pts, [header, *some[1:]] if pts == frame * TICKS % CLOCK else some)
@@ -232,13 +241,13 @@ class NamedPlaces(ProgrammeCase):
         return self.judge(changed)
 
     def test_names_the_subtitle_of_a_wrong_header(self) -> None:
-        first, last = TIMES[2]
-        pages = {first: f"10:00:04:00, {self.shown},",
-                 last: "10:00:05:15, the page after subtitle 3"}
+        begin, end = TIMES[2]
+        pages = {begin: '10:00:04:00, subtitle 3, "Number 3, \u00d6sl",',
+                 end: "10:00:05:15, the page after subtitle 3"}
         for (values, effect), (frame, page) in itertools.product(HEADERS.items(), pages.items()):
             header = make_header(**{name: int(value) for name, _, value in (
                 word.partition("=") for word in values.split())})
-            sentence = self.judge_with(frame, header).sentence
+            sentence = self.judge_with_header(frame, header).sentence
             expected = f"Refused: at {page} {effect}"
             self.check(f"{values} at {frame}", sentence[:len(expected)], expected)
 
@@ -246,21 +255,22 @@ class NamedPlaces(ProgrammeCase):
 class EmptyRanges(ProgrammeCase):
     cues, qc_args = TIMES, ()
 
-    def test_reports_a_range_without_pes_packets(self) -> None:
+    def test_does_not_judge_a_range_without_pes_packets(self) -> None:
         for words in ((), ("--origin", "0")):
-            for pes, is_none in (("100-200", True), ("7-7", True), ("6-200", False)):
+            for pes, verdict in (("100-200", "not judged"), ("7-7", "not judged"),
+                                 ("6-200", "refused")):
                 judged = self.judge(self.sent[:7], "--pes", pes, *words)
-                path = self.path("one.pes")
-                printed = f"{path} has 7 PES packets, 0-6: --pes {pes} is outside " \
+                reason = f"{self.path('one.pes')} has 7 PES packets, 0-6: --pes {pes} is outside " \
                     "this range"
-                self.must(f"{pes} {words}", (printed in judged.stderr) == is_none and
-                          (judged.timed_verdict == "not judged") >= is_none, judged.stderr)
+                self.check(f"{pes} {words}", (judged.timed_verdict, reason in judged.stderr),
+                           (verdict, verdict == "not judged"))
 
 
 NO_BOX = 'no receiver shows "Hi", which is outside of a box'
 SAME_COLOUR = 'no receiver shows "Hi", which has the colour of its background'
 ONE = 'libzvbi does not show "Hi", which follows a single start box (0B); ffmpeg does'
-# Cells of a row, its visibility, and the expected message.
+# The bytes of a row (0A end box, 0B start box, 1C black background, 1D new background, 00 to 07 and
+# 10 to 17 colours of text and mosaics), which receivers show it, and the message about it.
 ROWS: tuple[tuple[bytes, Visibility, str], ...] = (
     (b"", Visibility.ALL, ""), (b"\x0b\x0b\x0a\x0a", Visibility.ALL, ""),  # no characters
     (b"\x0b\x0bHi\x0a\x0a", Visibility.ALL, ""), (b"\x0b\x0bHi", Visibility.ALL, ""),
@@ -293,7 +303,7 @@ HIDDEN, OPACITY_OFFSET, FOREGROUND_OFFSET, BACKGROUND_OFFSET = 0, 2, 3, 4
 class DrawingReceiver(Receiver):
     """A receiver that decodes pages with libzvbi and reads the characters drawn by it."""
 
-    def letters(self, cells: bytes) -> str:
+    def draw_row(self, cells: bytes) -> str:
         """Return the characters that libzvbi shows for the cells of a row."""
         text = self.row([HEADER, make_packet(0, 20, (), cells.ljust(40)), CLOSING], 20)
         page = ctypes.create_string_buffer(65536)
@@ -309,15 +319,18 @@ class DrawingReceiver(Receiver):
 
 class VisibleRows(Case):
     def test_finds_the_characters_that_decoders_show(self) -> None:
-        for cells, sight, words in ROWS:
+        for cells, visibility, message in ROWS:
             self.check(cells.hex(),
                        (find_visibility(cells), describe_hidden_characters(cells, "english")),
-                       (sight, words))
-        for paper, ink, of_paper, of_ink in itertools.product(range(8), range(8), (0, 16), (0, 16)):
-            for behind, expected in ((b"", ink == paper), (b"\x1c", ink == 0)):  # black background
-                cells = b"\x0b\x0b%c\x1d%c%sHi" % (paper + of_paper, ink + of_ink, behind)
+                       (visibility, message))
+
+    def test_no_decoder_shows_text_in_the_colour_of_its_background(self) -> None:
+        colours = [*range(8), *range(0x10, 0x18)]  # of text and of mosaics, from black to white
+        for paper, ink in itertools.product(colours, colours):
+            for last_code, is_hidden in ((b"", ink % 8 == paper % 8), (b"\x1c", ink % 8 == 0)):
+                cells = b"\x0b\x0b%c\x1d%c%sHi" % (paper, ink, last_code)
                 self.assertEqual(find_visibility(cells),
-                                 Visibility.NONE if expected else Visibility.ALL, cells)
+                                 Visibility.NONE if is_hidden else Visibility.ALL, cells)
 
     def test_agrees_with_libzvbi(self) -> None:
         try:
@@ -326,7 +339,7 @@ class VisibleRows(Case):
             self.skipTest("what libzvbi draws, which is not installed")
         for cells, _, _ in ROWS:
             expected = "".join(chr(cell.code) for cell in decode_cells(cells) if cell.is_shown)
-            self.check(cells.hex(), receiver.letters(cells), expected)
+            self.check(cells.hex(), receiver.draw_row(cells), expected)
 
     def test_reports_each_hidden_row_with_its_block(self) -> None:
         shown, hidden, partly = (cells.ljust(40) for cells in (b"\x0b\x0bHi", b"Hi", b"\x0bHi"))
@@ -342,52 +355,73 @@ class VisibleRows(Case):
         self.check("warnings", hidden_rows.warnings, [
             Notice(HIDDEN_KIND, f"{first} 2: {ONE}", "00:00:01:00")])
 
-    def test_checks_only_files_with_codes_that_may_hide(self) -> None:
+    def test_checks_only_files_with_a_layout_or_with_codes_that_may_hide_text(self) -> None:
         for code, has_layout, at in itertools.product(range(256), (False, True), range(3)):
-            texts = [b"one", b"two", b"three"]
+            texts = [b"one", b"two", b"three"]  # the code is inserted into one of them
             texts[at] = texts[at][:at] + bytes([code]) + texts[at][at:]
             subtitles = [Subtitle(1, 1, 25, 50, 20, 2, text) for text in texts]
             lines = make_cell_lines(texts[at], ENGLISH)
             drawn = [] if isinstance(lines, TextFault) else [prepare_line(item, PLAIN) for item in
                                                              lines]
-            result = may_hide_rows(subtitles, has_layout)
-            self.assertEqual(result, has_layout or code in (0x0A, 0x0B, 0x1D), (code, at))
-            self.assertTrue(result
-                            or all(find_visibility(item) == Visibility.ALL for item in drawn), code)
+            is_checked = may_hide_rows(subtitles, has_layout)
+            self.assertEqual(is_checked, has_layout or code in (0x0A, 0x0B, 0x1D), (code, at))
+            self.assertTrue(is_checked or all(find_visibility(item) == Visibility.ALL
+                                              for item in drawn), code)
 
-    def test_refuses_an_invisible_row_and_warns_of_a_partly_visible_one(self) -> None:
-        times = [(900_000 + 50 * at, 900_040 + 50 * at) for at in range(3)]
-        option, first = ("--option", "german"), "subtitle 1 (SN 7) at 10:00:00:00, row 22: "
-        for text, word, why in (
-                (b"\x1dHi", "refused", SAME_COLOUR), (b"Hi\x0b", "refused", NO_BOX),
-                (b"\x0a\x0aHi", "refused", NO_BOX), (b"\x0bHi", "accepted", ONE),
-                (b"Hi", "accepted", "")):
-            stl = write_programme(self, times, text=text.replace(b"Hi", b"Hi\xc8O"), first=7)
-            words = why and first + why.replace("Hi", "HiÖ")
-            sent = self.write("one.pes", join_pes_packets(schedule_pages(self, stl, *option)))
-            for more in ((), (sent, "--origin", "0")):
-                judged = judge_files(self, stl, *more, *option)
-                self.must(f"{text!r} {more}", judged.timed_verdict == (
-                    word if more or word == "refused" else "valid"), judged.printed)
-                if word == "refused":
-                    self.must(f"{text!r}: sentence", judged.result["sentence"].startswith(
-                        f"Refused: {words}; 3 faults in all"), judged.result["sentence"])
-                    self.must(f"{text!r}: lines", judged.result["worst_fault"] ==
-                              judged.printed[-1] == "refused not shown block 1" and
-                              judged.printed[-2].endswith(
-                                  " See docs/manual/refusals.md#not-shown."), judged.printed)
-                    self.must(f"{text!r}: faults", [
-                        (item["name"], item["number"], item["block"], item["subtitle"]["position"])
-                        for item in judged.result["faults"]] == [
-                        ("not shown", None, at, at) for at in (1, 2, 3)], judged.result["faults"])
-                warned = [item["line"] for item in judged.result["warnings"]
-                          if item["kind"] == "hidden"]
-                self.must(f"{text!r}: warnings", warned[:1] == [words] * (
-                    word == "accepted" and bool(words)), warned)
-        judged = judge_files(self, stl, *option, "--layout", "before=0B")
-        self.must("by a layout", [item["kind"] for item in judged.result["warnings"]] ==
-                  ["hidden"] * 3, judged.printed)
+
+class InvisibleRows(Case):
+    """Three subtitles with the same text (SN 7 to 9) appear from 10:00:00:00 on. They are judged
+    alone, and with their correct transmission."""
+
+    def judge_text(self, text: bytes) -> Iterator[tuple[bool, JudgedPair]]:
+        """Judge subtitles without and with a recording. "\u00d6" is added to "Hi" in their text."""
+        stl = write_programme(self, [(900_000 + 50 * at, 900_040 + 50 * at) for at in range(3)],
+                              text=text.replace(b"Hi", b"Hi\xc8O"), first=7)
+        sent = schedule_pages(self, stl, "--option", "german")
+        recording = self.write("one.pes", join_pes_packets(sent))
+        for more in ((), (recording, "--origin", "0")):
+            yield bool(more), judge_files(self, stl, *more, "--option", "german")
+
+    def list_hidden_warnings(self, judged: JudgedPair) -> list[str]:
+        return [item["line"] for item in judged.result["warnings"] if item["kind"] == "hidden"]
+
+    def test_refuses_subtitles_that_no_receiver_shows(self) -> None:
+        for text, why in ((b"\x1dHi", SAME_COLOUR), (b"Hi\x0b", NO_BOX), (b"\x0a\x0aHi", NO_BOX)):
+            begin = "Refused: subtitle 1 (SN 7) at 10:00:00:00, row 22: " \
+                f"{why.replace('Hi', 'HiÖ')}; 3 faults in all"
+            for has_recording, judged in self.judge_text(text):
+                name = f"{text!r} {has_recording}"
+                self.check(f"{name}: verdict", judged.timed_verdict, "refused")
+                self.check(f"{name}: sentence", judged.result["sentence"][:len(begin)], begin)
+                self.check(f"{name}: worst fault", (judged.result["worst_fault"],
+                                                    judged.printed[-1]),
+                           ("refused not shown block 1",) * 2)
+                self.must(f"{name}: manual", judged.printed[-2].endswith(
+                    " See docs/manual/refusals.md#not-shown."), judged.printed)
+                self.check(f"{name}: faults", [
+                    (item["name"], item["number"], item["block"], item["subtitle"]["position"])
+                    for item in judged.result["faults"]],
+                    [("not shown", None, at, at) for at in (1, 2, 3)])
+                self.check(f"{name}: warnings", self.list_hidden_warnings(judged), [])
+
+    def test_warns_of_subtitles_that_some_receivers_do_not_show(self) -> None:
+        message = f"subtitle 1 (SN 7) at 10:00:00:00, row 22: {ONE.replace('Hi', 'HiÖ')}"
+        for text, warnings in ((b"\x0bHi", [message]), (b"Hi", [])):
+            for has_recording, judged in self.judge_text(text):
+                self.check(f"{text!r} {has_recording}",
+                           (judged.timed_verdict, self.list_hidden_warnings(judged)[:1]),
+                           ("accepted" if has_recording else "valid", warnings))
+
+    def test_warns_of_subtitles_that_a_layout_hides_from_some_receivers(self) -> None:
+        [*self.judge_text(b"Hi")]
+        judged = judge_files(self, self.path("one.stl"), "--option", "german", "--layout",
+                             "before=0B")
+        self.check("kinds", [item["kind"] for item in judged.result["warnings"]], ["hidden"] * 3)
+
+    def test_a_severity_file_waives_invisible_rows(self) -> None:
         mild = self.write("mild", b"not shown warning\n")
-        judged = judge_files(self, write_programme(self, times, text=b"\x1dHi"), "--severity", mild)
-        self.must("waived", judged.timed_verdict == "waived" and {
-            item["severity"] for item in judged.result["faults"]} == {"warning"}, judged.printed)
+        judged = judge_files(self, write_programme(self, TIMES[:3], text=b"\x1dHi"),
+                             "--severity", mild)
+        self.check("verdict", judged.timed_verdict, "waived")
+        self.check("severities", {item["severity"] for item in judged.result["faults"]},
+                   {"warning"})
