@@ -36,6 +36,7 @@ OTHER_LINES = ("refused 38 UnitLength pes 7", "refused 70 Repeat frame 00:00:09:
 
 
 def make_part_verdict(parts: Sequence[Part], severity: Severity | None = None) -> Verdict:
+    """Return the verdict on a pair with a given clock and these parts; all faults are errors."""
     severity = severity or Severity(None)
     return Verdict(make_pair_request(), severity, "now", [
         dataclasses.replace(part, severity=severity) for part in parts])
@@ -63,8 +64,8 @@ def read_lines(case: Case, lines: Sequence[str]) -> CheckOutput:
 
 
 class Verdicts(Case):
-    def three(self, *refused: int) -> list[Part]:
-        """Return three parts of a hundred frames each. Those with the given numbers are refused."""
+    def make_three_parts(self, *refused: int) -> list[Part]:
+        """Return three parts of 100 frames each. Those with the indexes `refused` are refused."""
         return [make_part(100 * at, 100 * at + 99, 5, make_answer(REFUSED if at in refused else
                           ("accepted 10 frames 2 transmissions",)), at + 1) for at in range(3)]
 
@@ -73,19 +74,24 @@ class Verdicts(Case):
         lost = [Gap(None, None, "", LossPlace(1, 2, missing=9), True)]
         strange = [Notice(kind, kind, None) for kind in ("pause", "page", "pause")]
         mild = self.write("mild", b"72 warning\nnever sent warning\n")
-        self.write("house", b"--allow-lost\n--severity %s\n" % mild.encode())
-        of_house = {"request": make_pair_request("--profile", self.path("house"))}
+        self.write("allowing", b"--allow-lost\n--severity %s\n" % mild.encode())
+        allowing = {"request": make_pair_request("--profile", self.path("allowing"))}
         strict = {"request": make_pair_request("--strict"), "warnings": strange}
         self.write("relative", b"--relative\n")
         untimed = {"request": make_example_request("one.stl", "one.pes")}
         in_profile = {"request": make_example_request("one.stl", "one.pes", "--profile",
                                                       self.path("relative"))}
-        is_unused = {"request": make_pair_request("--profile", self.path("relative"))}
+        unused_profile = {"request": make_pair_request("--profile", self.path("relative"))}
         relative = "relative 10 frames 2 transmissions"
         good, content, first = "accepted 10 frames 2 transmissions", REFUSED[0], OTHER_LINES[0]
         has = "; the profile has --allow-lost and --severity"
         warned, of_loss = "not accepted, since --strict treats warnings as faults (pause, page)", \
             "not accepted, since TS packets are lost"
+        # A letter for each part: `a`, `r` or `o` for an accepted part, one with the fault 72, or
+        # one with the faults 38 and 70, all with a given clock; `f` for an accepted part with an
+        # estimated clock. Then members of the verdict (`is_mild`: the file `mild` makes fault 72
+        # and `never sent` warnings), the verdict, its last line, and the line of the worst fault,
+        # or `None` if that is the last line.
         rows: list[tuple[str, dict[str, Any], str, str | None, str | None]] = [
             ("a", {}, "accepted", good, good),
             ("aa", {}, "accepted", "accepted 20 frames 4 transmissions in 2 parts", None),
@@ -97,9 +103,9 @@ class Verdicts(Case):
             ("a", {"named_faults": [never, left], "is_mild": True}, "refused", left.line, None),
             ("a", {"named_faults": [never], "is_mild": True}, "waived", f"waived: {never.line}",
              None),
-            ("r", {"is_mild": True, **of_house}, "waived", f"waived: {content}{has}", None),
+            ("r", {"is_mild": True, **allowing}, "waived", f"waived: {content}{has}", None),
             ("ror", {"is_mild": True}, "refused", first, None),
-            ("a", {"gaps": lost, **of_house}, "lost", f"{of_loss}: {good}{has}", None),
+            ("a", {"gaps": lost, **allowing}, "lost", f"{of_loss}: {good}{has}", None),
             ("ra", {"gaps": lost, "is_mild": True}, "lost", f"{of_loss}: waived: {content}", None),
             ("a", strict, "warned", f"{warned}: {good}", None),
             ("r", {**strict, "is_mild": True}, "warned", f"{warned}: waived: {content}", None),
@@ -110,7 +116,7 @@ class Verdicts(Case):
             ("f", {}, "relative", relative, relative),
             ("ff", untimed, "relative", "relative 20 frames 4 transmissions in 2 parts", None),
             ("f", in_profile, "relative", f"{relative}; the profile has --relative", None),
-            ("a", is_unused, "accepted", good, good),
+            ("a", unused_profile, "accepted", good, good),
             ("f", {"request": make_example_request("one.stl", "one.pes", "--strict")}, "relative",
              relative, relative),
             ("f", {**untimed, "gaps": lost}, "lost", f"{of_loss}: {relative}", None),
@@ -119,19 +125,21 @@ class Verdicts(Case):
              "warned", f"{warned}: {relative}", None),
             ("r", {**untimed, "is_mild": True}, "relative", f"relative, waived: {content}", None),
             ("fo", untimed, "refused", first, None)]
-        for names, known, word, line, lead in rows:
-            is_mild = known.get("is_mild", False)
-            verdict = dataclasses.replace(make_part_verdict(
-                [make_part(0, 99, 0,
-                           make_answer({"r": REFUSED, "o": OTHER_LINES}.get(name, (good,))), number,
-                           RECORDING if name == "f" else GIVEN)
-                 for number, name in enumerate(names, 1)], Severity(mild if is_mild else None)),
-                **{name: value for name, value in known.items() if name != "is_mild"})
-            self.check(f"{names} {known}", (verdict.word, verdict.line, verdict.worst_line),
-                       (word, line, lead or line))
+        lines_of = {"a": [good], "f": [good], "r": REFUSED, "o": OTHER_LINES}
+        for letters, members, word, line, worst_line in rows:
+            parts = [make_part(0, 99, 0, make_answer(lines_of[letter]), number,
+                               RECORDING if letter == "f" else GIVEN)
+                     for number, letter in enumerate(letters, 1)]
+            severity = Severity(mild if "is_mild" in members else None)
+            verdict = dataclasses.replace(make_part_verdict(parts, severity), **{
+                name: value for name, value in members.items() if name != "is_mild"})
+            self.check(f"{letters} {members}", (verdict.word, verdict.line, verdict.worst_line),
+                       (word, line, worst_line or line))
 
-    def test_is_not_judged_with_a_reason_or_a_failed_output(self) -> None:
+    def test_is_not_judged_after_an_error_or_a_failed_output(self) -> None:
         full, broken = FailedOutput("full", "resource"), FailedOutput("broken", "bug")
+        # The error, the outputs that failed, the reason and status of the verdict, and whether
+        # another call would give the same verdict.
         rows: list[tuple[Unjudged | None, list[FailedOutput], str, int, bool]] = [
             (Unjudged("why", "undecided"), [], "why", 2, True),
             (Unjudged("why", "usage"), [], "why", 64, True),
@@ -142,69 +150,87 @@ class Verdicts(Case):
             (Unjudged("why", "signal", is_stopped=True), [], "why", 2, False)]
         for refused, (unjudged, failed, why, status, is_final) in itertools.product(
                 ((), (0,), (2,)), rows):
-            verdict = dataclasses.replace(make_part_verdict(self.three(*refused)),
+            verdict = dataclasses.replace(make_part_verdict(self.make_three_parts(*refused)),
                                           unjudged=unjudged, failed_outputs=failed)
-            self.must(f"{refused} {unjudged} {failed}", (
+            self.check(f"{refused} {unjudged} {failed}", (
                 verdict.word, verdict.status, verdict.line, verdict.subtitle_counts,
-                verdict.unjudged_reason,
-                verdict.is_final) == ("not judged", status, None, None, why, is_final),
-                      verdict.unjudged_reason)
-        self.must("judged", make_part_verdict(self.three()).is_final)
+                verdict.unjudged_reason, verdict.is_final),
+                ("not judged", status, None, None, why, is_final))
+
+    def test_another_call_gives_the_same_verdict_if_there_is_no_error(self) -> None:
+        self.must("final", make_part_verdict(self.make_three_parts()).is_final)
 
     def test_keeps_each_warning_once(self) -> None:
-        notice, other, verdict = Notice("pause", "1", None), Notice("pause", "2",
-                                                                    None), make_part_verdict([])
+        notice, other = Notice("pause", "1", None), Notice("pause", "2", None)
+        verdict = make_part_verdict([])
         verdict.warn([notice, notice])
         verdict.warn([other, notice])
         self.check("each", verdict.warnings, [notice, other])
 
-    def test_the_sentence_names_the_first_loss(self) -> None:
-        verdict = make_part_verdict(self.three())
-        verdict.gaps = [Gap("1", "9", f"{at} lost", LossPlace(1, 2, 3), item)
-                        for at, item in enumerate((False, True, False, True, True))]
-        self.must("judged", verdict.sentence.startswith(
-            "Not accepted: between 1 and 9: 1 lost, and in 2 more places;"), verdict.sentence)
-        refused = dataclasses.replace(make_part_verdict(self.three(0)), named_faults=[
+    def make_verdict_with_gaps(self) -> Verdict:
+        """Return a verdict on three parts with the gaps 0 to 4. 1, 3 and 4 have judged frames."""
+        verdict = make_part_verdict(self.make_three_parts())
+        verdict.gaps = [Gap("1", "9", f"{at} lost", LossPlace(1, 2, 3), is_judged=at in (1, 3, 4))
+                        for at in range(5)]
+        return verdict
+
+    def test_the_sentence_names_the_first_loss_in_judged_frames(self) -> None:
+        sentence = self.make_verdict_with_gaps().sentence
+        self.must("judged", sentence.startswith(
+            "Not accepted: between 1 and 9: 1 lost, and in 2 more places;"), sentence)
+
+    def test_the_sentence_names_a_fault_without_a_number_first(self) -> None:
+        refused = dataclasses.replace(make_part_verdict(self.make_three_parts(0)), named_faults=[
             NamedFault(NEVER_SENT, "nothing was sent")])
         self.check("a name", refused.sentence, "Refused: nothing was sent; 2 faults in all.")
-        alone = verdict.narrow_to_part(verdict.parts[1], verdict.gaps[3:4])
-        self.must("of a part", (alone.parts, alone.gaps) == (verdict.parts[1:2], verdict.gaps[3:4])
-                  and "and in" not in alone.sentence, alone.sentence)
 
-    def test_counts_losses_of_any_part(self) -> None:
-        for shift in (0, CLOCK - 150 * TICKS):
-            verdict = make_part_verdict([make_part(100 * at, 100 * at + 99, shift, number=at + 1)
+    def test_the_verdict_on_a_part_has_its_own_gaps_alone(self) -> None:
+        whole = self.make_verdict_with_gaps()
+        part = whole.narrow_to_part(whole.parts[1], whole.gaps[3:4])
+        self.check("part", (part.parts, part.gaps), (whole.parts[1:2], whole.gaps[3:4]))
+        self.must("sentence", "and in" not in part.sentence, part.sentence)
+
+    def test_a_loss_is_judged_if_it_lies_within_a_part(self) -> None:
+        """Three parts have the frames 0 to 99, 100 to 199 and 200 to 299. Each loss is between two
+        consecutive frames. With the second origin the PTS wrap at frame 150."""
+        for origin in (0, CLOCK - 150 * TICKS):
+            verdict = make_part_verdict([make_part(100 * at, 100 * at + 99, origin, number=at + 1)
                                          for at in range(3)])
-            for frames in ([10, 110, 210], [99, 299, -5], [99, 150], [150, 99], [10, 299, -9]):
-                verdict.gaps = make_gaps([make_loss_between(frame, frame + 1, shift)
-                                          for frame in frames],
-                                         verdict.parts)
-                result, judged = \
-                    verdict.collect_grounds().judged_losses, [frame % 100 < 99 and 0 < frame < 300
-                                                              for frame in frames]
-                self.must(f"{shift} {frames}", result == judged and
-                          verdict.is_lost == any(judged), result)
+            # The frames before the losses, and which losses are judged.
+            for frames, judged in (([10, 110, 210], [True, True, True]),
+                                   ([99, 299, -5], [False, False, False]),
+                                   ([99, 150], [False, True]), ([150, 99], [True, False]),
+                                   ([10, 299, -9], [True, False, False])):
+                verdict.gaps = make_gaps([make_loss_between(frame, frame + 1, origin)
+                                          for frame in frames], verdict.parts)
+                self.check(f"{origin} {frames}", (
+                    verdict.collect_grounds().judged_losses, verdict.is_lost),
+                    (judged, any(judged)))
 
     def test_finds_announced_jumps_of_each_part(self) -> None:
+        """Some of three parts, each of 100 frames, have a jump from their frame 50 to 60."""
         recording: Any = SimpleNamespace(list_losses=lambda jumps: [
             LossPlace(before, after, is_announced=True) for before, after in jumps])
-        for own in ((0,), (1,), (2,), (0, 2), (0, 1, 2), ()):
+        for indexes in ((0,), (1,), (2,), (0, 2), (0, 1, 2), ()):
             parts = [make_part(100 * at, 100 * at + 99, 0, recording=recording, jumps=[
-                (TICKS * (100 * at + 50), TICKS * (100 * at + 60))] * (at in own))
+                (TICKS * (100 * at + 50), TICKS * (100 * at + 60))] * (at in indexes))
                      for at in range(3)]
-            result = [(gap.after, gap.is_judged) for gap in find_gaps(recording, parts)]
-            self.must(f"{own}", result == [(format_frame(100 * at + 50), True) for at in own] and [
-                len(part.find_loss_places()) for part in parts] == [at in own for at in range(3)],
-                      result)
+            self.check(f"{indexes}: gaps", [
+                (gap.after, gap.is_judged) for gap in find_gaps(recording, parts)],
+                [(format_frame(100 * at + 50), True) for at in indexes])
+            self.check(f"{indexes}: losses of parts", [
+                len(part.find_loss_places()) for part in parts], [at in indexes for at in range(3)])
 
     def test_a_loss_has_the_times_of_its_part(self) -> None:
-        for frame, times in ((50, ("00:00:02:00", "00:00:02:01")),
-                             (150, ("00:00:06:00", "00:00:06:01")),
-                             (2350, ("00:00:14:00", "00:00:14:01")),
-                             (2500, ("00:01:40:00", "00:01:40:01"))):
-            parts = [make_part(100, 199, 0), make_part(300, 399, TICKS * 2000, number=2)]
-            gap, = make_gaps([LossPlace(TICKS * frame, TICKS * (frame + 1), 1)], parts)
-            self.must(f"{frame}", (gap.after, gap.before) == times, gap)
+        """Part 1 has the frames 100 to 199 with the origin 0, and part 2 the frames 300 to 399 with
+        an origin 2000 frames later. A loss in no part has times by the clock of part 1."""
+        parts = [make_part(100, 199, 0), make_part(300, 399, TICKS * 2000, number=2)]
+        for pts_frame, times in ((50, ("00:00:02:00", "00:00:02:01")),
+                                 (150, ("00:00:06:00", "00:00:06:01")),
+                                 (2000 + 350, ("00:00:14:00", "00:00:14:01")),
+                                 (2500, ("00:01:40:00", "00:01:40:01"))):
+            gap, = make_gaps([LossPlace(TICKS * pts_frame, TICKS * (pts_frame + 1), 1)], parts)
+            self.check(f"{pts_frame}", (gap.after, gap.before), times)
 
     def test_formats_the_times_of_losses(self) -> None:
         for before, after, words in (
@@ -213,51 +239,54 @@ class Verdicts(Case):
                 (TICKS, None, "between 00:00:00:01 and the end"),
                 (-1, 0, "between the beginning and 00:00:00:00"),
                 (TICKS * 2_159_999, TICKS * 2_160_000, "between 23:59:59:24 and the end")):
-            for origin in (0, CLOCK - 40 * TICKS):
+            for origin in (0, CLOCK - 40 * TICKS):  # with the second, the PTS wrap
                 first, second = (None if pts is None else (origin + pts) % CLOCK
                                  for pts in (before, after))
                 place, part = LossPlace(first, second, 3, gap_marker=0), make_part(0, 1, origin)
                 part = dataclasses.replace(part, pes=(0, 0))
-                result, = make_gaps([place], [part])
-                self.must(f"{words} {origin}",
-                          result.format_line() == f"{words}: 3 TS packets were lost" and
-                          result.is_judged and result.place is place, result)
+                gap, = make_gaps([place], [part])
+                self.check(f"{words} {origin}", (gap.format_line(), gap.is_judged, gap.place),
+                           (f"{words}: 3 TS packets were lost", True, place))
 
     def test_frames_with_losses_are_not_clean(self) -> None:
+        """In both of two parts, `check` reports the frames 100 to 199 as clean. Losses of part 2
+        that have a gap marker are known to `check`; the others are only known by the PCR."""
         printed = ["trusted frames 00:00:04:00 00:00:07:24", "accepted 10 frames 2 transmissions"]
-        hole, other = (LossPlace(TICKS * at - 5, TICKS * (at + 10) - 5, missing=9)
+        loss, other = (LossPlace(TICKS * at - 5, TICKS * (at + 10) - 5, missing=9)
                        for at in (151, 121))
-        mark, early = LossPlace(TICKS * 170, TICKS * 180, 1, gap_marker=7), ("--within", "1")
-        cases: list[tuple[list[LossPlace], Sequence[str], list[tuple[int, int]]]] = [
-            ([], (), [(100, 199)]), ([mark], (), [(100, 199)]),
-            ([hole], (), [(100, 149), (160, 199)]), ([hole], early, [(100, 150), (161, 199)]),
-            ([mark, hole, other], (), [(100, 119), (130, 149), (160, 199)])]
-        for places, words, expected in cases:
+        marked, late = LossPlace(TICKS * 170, TICKS * 180, 1, gap_marker=7), ("--within", "1")
+        rows: list[tuple[list[LossPlace], Sequence[str], list[tuple[int, int]]]] = [
+            ([], (), [(100, 199)]), ([marked], (), [(100, 199)]),
+            ([loss], (), [(100, 149), (160, 199)]), ([loss], late, [(100, 150), (161, 199)]),
+            ([marked, loss, other], (), [(100, 119), (130, 149), (160, 199)])]
+        for places, words, clean_frames in rows:
             parts = [make_part(100, 199, 0, make_answer(printed), 1),
                      make_part(100, 199, 0, make_answer(printed), 2, places=places,
                                request=make_example_request("a.stl", "a.pes", *words))]
             known = ResultSource(make_part_verdict(parts), ProgramInfo("1", "0" * 64, None))
-            result = [(trusted_frame["part"], trusted_frame["from"], trusted_frame["to"])
-                      for trusted_frame in list_trusted_frames(known)]
-            self.must(f"{places} {words}", result == [(1, format_frame(100), format_frame(199)), *(
-                (2, format_frame(first), format_frame(last)) for first, last in expected)], result)
+            self.check(f"{places} {words}", [
+                (item["part"], item["from"], item["to"]) for item in list_trusted_frames(known)],
+                [(1, format_frame(100), format_frame(199)), *(
+                    (2, format_frame(first), format_frame(last)) for first, last in clean_frames)])
 
     def test_counts_faults_of_each_number_in_all_parts(self) -> None:
         verdict = make_part_verdict([make_part(0, 9, 0, make_answer(item))
                                      for item in (REFUSED, OTHER_LINES, OTHER_LINES)])
         counts = [tuple(item) for item in count_fault_numbers(
             verdict.parts, lambda part: part.check_output.counts_by_number)]
-        verdict.named_faults.append(NamedFault(NEVER_SENT, ""))
         self.check("each", counts, [(72, "Content", 1), (38, "UnitLength", 2), (70, "Repeat", 2)])
-        self.check("in all", verdict.fault_count, 6)
-        self.check("subtitles", verdict.subtitle_counts, SubtitleCounts(0, 0))
-        verdict.valid_subtitles, verdict.subtitle_count = \
-            ValidSubtitles([], [], frozenset({4, 5})), 2
-        self.check("beside", verdict.subtitle_counts, SubtitleCounts(0, 2))
-        letter = make_answer(["refused 50 Character block 1 at 4", "1 faults"])
-        self.must("a file",
-                  make_part_verdict([*self.three(),
-                                     make_part(0, 9, 0, letter)]).subtitle_counts is None)
+        verdict.named_faults.append(NamedFault(NEVER_SENT, ""))
+        self.check("in all, with one without a number", verdict.fault_count, 6)
+
+    def test_counts_judged_and_refused_subtitles(self) -> None:
+        verdict = make_part_verdict(self.make_three_parts(0))
+        verdict.subtitle_count = 2
+        self.check("valid file", verdict.subtitle_counts, SubtitleCounts(judged=2, refused=0))
+        verdict.valid_subtitles = ValidSubtitles([], [], skipped_positions=frozenset({4, 5}))
+        self.check("others judged", verdict.subtitle_counts, SubtitleCounts(judged=0, refused=2))
+        refused_file = make_answer(["refused 50 Character block 1 at 4", "1 faults"])
+        verdict = make_part_verdict([*self.make_three_parts(), make_part(0, 9, 0, refused_file)])
+        self.check("others not judged", verdict.subtitle_counts, None)
 
     def test_spreads_the_delays_of_subtitles(self) -> None:
         of_spreads: list[tuple[list[int | None], DelaySpread | None]] = [
@@ -267,15 +296,19 @@ class Verdicts(Case):
             self.check(f"{several}", summarize_delays(several), expected)
         delays: list[list[int | None]] = [[1, None], [], [7]]
         parts = [dataclasses.replace(part, delays=known)
-                 for part, known in zip(self.three(), delays)]
+                 for part, known in zip(self.make_three_parts(), delays)]
         self.check("of all parts", make_part_verdict(parts).delays, DelaySpread(1, 7, 7, 1))
 
 
 class PartDecisions(Case):
-    def test_detects_whether_a_part_was_read(self) -> None:
+    def test_detects_whether_any_pes_packet_of_a_part_was_read(self) -> None:
+        """PES packets with the faults 38 and 61 are not read. If the subtitle file has a fault
+        (50), clean frames or faults of the transmission show that PES packets were read."""
         refused, accepted = "50 Character block 1 at 4", "accepted 51 frames 2 transmissions"
         trusted = "trusted frames 10:00:00:00 10:00:01:24"
-        of_lists: list[tuple[int, tuple[int, int] | None, list[str], bool]] = [
+        # The number of PES packets in the recording, the first and last one of the part, lines of
+        # `check`, and whether a PES packet was read.
+        rows: list[tuple[int, tuple[int, int] | None, list[str], bool]] = [
             (3, (0, 2), ["38 X pes 0", "ended 38 X pes 2"], False),
             (3, (0, 2), ["38 X pes 0", "ended 38 X pes 1"], True),
             (3, (0, 2), ["38 X pes 1", "ended 38 X pes 2"], True),
@@ -291,7 +324,7 @@ class PartDecisions(Case):
             (2, (0, 1), [refused, "78 Undecided frame 10:00:02:00"], True),
             (2, (0, 1), [refused, "33 Flags pes 0"], True),
             (2, (0, 1), [refused, "33 Flags pes 0", "ended 33 Flags pes 1"], False)]
-        for count, pes, some, expected in of_lists:
+        for count, pes, some, expected in rows:
             lines = [line if line[0].isalpha() else f"refused {line}" for line in some]
             faults = sum(line.startswith("refused ") for line in lines)
             printed = make_answer([*lines, *[f"{faults} faults"] * bool(faults)])
@@ -299,13 +332,17 @@ class PartDecisions(Case):
             part = make_part(0, 9, 0, printed, packets=packets, pes=pes)
             self.check(f"{count} {pes} {lines}", part.is_read(), expected)
 
-        lines = [f"refused {refused}", trusted, "1 faults"]
-        for first, last in ((900_000, 900_024), (900_000, 900_049)):  # 25 or 50 frames are lost
-            part = make_part(900_000, 900_050, 0, make_answer(lines), pes=(0, 1), places=[
-                make_loss_between(first - 1, last + 2, missing=9)])
-            self.check(f"a hole from {first} to {last}", part.is_read(), last < 900_049)
+    def test_a_part_is_not_read_if_all_its_clean_frames_are_lost(self) -> None:
+        lines = ["refused 50 Character block 1 at 4",
+                 "trusted frames 10:00:00:00 10:00:01:24", "1 faults"]
+        first = 900_000  # 10:00:00:00
+        for lost_frames, is_read in ((25, True), (50, False)):
+            part = make_part(first, first + 50, 0, make_answer(lines), pes=(0, 1), places=[
+                make_loss_between(first - 1, first + lost_frames + 1, missing=9)])
+            self.check(f"{lost_frames} lost frames", part.is_read(), is_read)
 
-    def test_counts_the_headers_of_its_own_pes_packets(self) -> None:
+    def test_counts_the_headers_in_the_readable_pes_packets_of_a_part(self) -> None:
+        # First PES packet, number of PES packets, PTS, step of the PTS, flags, headers
         runs = [PacketRun(0, 2, 0, 9, "h", "88080812"), PacketRun(2, 4, 20, 9, "h", "88080810"),
                 PacketRun(6, 1, 60, 0, "hh", "88080818+88080810"),
                 PacketRun(7, 1, None, 0, "h", "88080814"),
@@ -313,11 +350,11 @@ class PartDecisions(Case):
                 PacketRun(9, 1, 90, 0, "h", "8808081A")]
         part = make_part(0, 9, 0, packets=Packets(0, runs), pes=(3, 8))
         english, german = (bytes([8, 8, 0, 8, 0, 8, 1, last]) for last in (0, 8))
-        self.check("heard", part.count_headers(), {english: 4, german: 1})
-        self.check("options", part.find_option_bits(),
+        self.check("headers", part.count_headers(), {english: 4, german: 1})
+        self.check("options of all headers", part.find_option_bits(),
                    {option.bits for option in (ENGLISH, GERMAN, SWEDISH, ROMANIAN)})
 
-    def test_decodes_the_pages_of_a_part(self) -> None:
+    def test_decodes_the_pages_of_a_part_once(self) -> None:
         packets = survey_packets(self, b"".join(make_pes_packet(TICKS * at - 5, [
             HEADER, make_numbered_row(20, b"%d" % at), CLOSING]) for at in range(10, 60, 10)))
         recording: Any = SimpleNamespace(packets=packets)
@@ -329,15 +366,21 @@ class PartDecisions(Case):
         for pes, frames in (((1, 2), [20, 30]), ((0, 3), [10, 20, 30, 40])):
             result = part.add_packets(pes, summed)
             self.check(f"{pes}", (result.pes, result.judged_file), (pes, summed))
-            self.check(f"{pes}: held", result.decoded_pages
+            self.check(f"{pes}: frames with a new page", result.decoded_pages
                        and [*result.decoded_pages.frames], frames)
-            self.must(f"{pes}: made once",
+            self.must(f"{pes}: decoded once",
                       result.decoded_pages is dataclasses.replace(result, hint="x").decoded_pages)
+
+    def test_opens_the_subtitle_file_with_the_range_and_the_skipped_subtitles(self) -> None:
+        request = make_example_request("a.stl", "a.pes", "--from", "00:00:01:00")
+        part = Part(3, request, OutputNames("a", "", None), make_answer(), None, None, {4})
         with mock.patch("subtitles.judging.part.SubtitleFile") as file:
             part.open_subtitle_file()
         file.assert_called_once_with("", request.between, {4})
 
     def test_passes_losses_and_range_to_the_causes(self) -> None:
+        """The recorded frames are 0 to 250, the judged frames 100 to 199. Packets are lost between
+        the frames 120 and 129, and between 150 and 159; only a stream shows where."""
         places = [LossPlace(TICKS * at, TICKS * (at + 9), missing=9) for at in (120, 150)]
         for refusal, is_stream in itertools.product((None, 31), (True, False)):
             recording: Any = SimpleNamespace(
@@ -358,8 +401,9 @@ class PartDecisions(Case):
             causes.return_value.classify_faults.assert_called_once_with(part.check_output)
             self.must("named", part_causes is causes.return_value)
 
-    def test_finds_the_skipped_pes_packets(self) -> None:
-        of_lines: list[tuple[tuple[str, ...], list[tuple[int, int]]]] = [
+    def test_finds_the_pes_packets_that_check_skipped(self) -> None:
+        # Lines of `check`, and the first and last of consecutive skipped PES packets.
+        rows: list[tuple[tuple[str, ...], list[tuple[int, int]]]] = [
             ((), []), (("refused 38 X pes 3",), [(3, 3)]),
             (("refused 38 X pes 3", "ended 38 X pes 5"), [(3, 5)]),
             (("refused 38 X pes 3", "refused 38 X pes 7", "ended 38 X pes 9"), [(3, 3), (7, 9)]),
@@ -369,27 +413,26 @@ class PartDecisions(Case):
             (("refused 45 X pes 0", "refused 62 X pes 4", "refused 44 X pes 5"), [(0, 0)]),
             (("refused 72 X frame 00:00:00:01", "refused 33 X pes 1", "refused 40 X pes 2"),
              [(1, 2)])]
-        for lines, expected in of_lines:
+        for lines, expected in rows:
             self.check(f"{lines}", [*read_lines(self, lines).skipped_packets], expected)
 
 
 class FaultNumbers(Case):
-    def test_delaying_faults_are_complete(self) -> None:
-        self.check("pages are moved", DELAYING_FAULTS,
+    def test_lists_the_faults_that_can_delay_a_page(self) -> None:
+        self.check("numbers", DELAYING_FAULTS,
                    {30, 31, 32, 44, 45, 60, 62, 63, 71, 72, 74, 77})
 
-    def test_finds_the_end_of_each_fault(self) -> None:
+    def test_finds_the_end_of_each_fault_and_the_clean_frames(self) -> None:
         lines = ["refused 72 Content frame 00:00:01:00 row 1 column 1",
                  "refused 38 UnitLength pes 4", "ended 72 Content frame 00:00:02:00",
                  "refused 72 Content frame 00:00:03:00 row 1 column 1", "ended 38 UnitLength pes 9",
                  "refused 38 UnitLength pes 11", "refused 72 Content frame 00:00:04:00 row 2 "
                  "column 1", "ended 72 Content frame 00:00:05:00",
                  "trusted frames 00:00:06:00 00:00:07:00", "trusted frames 00:00:09:00 00:00:09:00"]
-        answer = read_lines(self, lines)
-        result = [tuple(answer.fault_ends.get(index, NO_END)) for index in range(5)]
-        self.check("ends", result, [("00:00:02:00", None), (None, 9), (None, None), (None, None),
-                                    ("00:00:05:00", None)])
-        self.must("trusted", [*answer.trusted_frames] == [(150, 175), (225, 225)],
-                  answer.trusted_frames)
-        self.must("marks", [*answer.fault_spans[72]] == [(25, 50), (75, 75), (100, 125)],
-                  answer.fault_spans)
+        output = read_lines(self, lines)
+        ends = [tuple(output.fault_ends.get(index, NO_END)) for index in range(5)]
+        self.check("last frame or PES packet of each fault", ends, [
+            ("00:00:02:00", None), (None, 9), (None, None), (None, None), ("00:00:05:00", None)])
+        self.check("clean frames", [*output.trusted_frames], [(150, 175), (225, 225)])
+        self.check("frames of fault 72", [*output.fault_spans[72]],
+                   [(25, 50), (75, 75), (100, 125)])
