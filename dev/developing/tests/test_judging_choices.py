@@ -15,11 +15,12 @@ from subtitles.cli.measure import (
     Delays, MeasuredRecording, explain_omission, make_profile_lines, measure, propose_repeat_limit)
 from subtitles.common.program import TOP, read
 from subtitles.common.times import TICKS
+from subtitles.judging.status import RELATIVE, STATUSES
 from subtitles.request.lines import read_profile, read_options
 from subtitles.request.request import CHOICES, describe_option, make_request
 from subtitles.stream.pace import PAUSED, Pace, REGULAR
 from subtitles.stream.repeats import Repeats
-from .bench import Case, get_example_path, get_tool_path
+from .bench import Case, get_example_path
 from .judged import JudgedPair, ProgrammeCase, judge_files
 from .streams import OLD, Shape, make_planned_stream, make_multiplex, join_packets
 from .parts import make_example_request
@@ -42,7 +43,8 @@ PACE = "pace", None, None, None, 1, "not checked: losses on this PID alone, sinc
     "there are too few PES packets to measure their interval"
 LANGUAGE = "option", "english", None, None, None, "option: english, since the language of the " \
     "file (LC) is 09"
-# Arguments, and the expected choices: option, value, matches, total, part, printed line.
+CHOICE_KEYS = ("option", "value", "matches", "total", "part", "line")
+# Arguments, and the expected choices, with their values in the order of `CHOICE_KEYS`.
 ROWS: dict[str, tuple[Sequence[str], list[tuple[Any, ...]]]] = {
     "a stream": (TS, [PID, ORIGIN_CHOICE_TS, CUT, PACE]),
     "a given PID": ((*TS, "--pid", "0x101"), [ORIGIN_CHOICE_TS, CUT, PACE]),
@@ -58,13 +60,15 @@ LANGUAGES = {b"08": ("german", "the language of the file (LC) is 08"),
 
 
 def list_choices_of(judged_pair: JudgedPair) -> list[tuple[Any, ...]]:
-    keys = ("option", "value", "matches", "total", "part", "line")
-    return sorted((tuple(choice[key] for key in keys) for choice in judged_pair.result["choices"]),
-                  key=lambda values: CHOICES.index(values[0]))
+    choices = [tuple(choice[key] for key in CHOICE_KEYS)
+               for choice in judged_pair.result["choices"]]
+    return sorted(choices, key=lambda values: CHOICES.index(values[0]))
 
 
 class Choices(Case):
-    def judge(self, name: str, *words: str) -> list[tuple[Any, ...]]:
+    """qc chooses a PID, a clock, PES packets, a pace and a national option that are not given."""
+
+    def list_choices(self, name: str, *words: str) -> list[tuple[Any, ...]]:
         """Judge a pair, and return the choices. Check that they are printed and complete."""
         judged = judge_files(self, *words)
         self.check(f"{name}: wrong choices",
@@ -73,32 +77,36 @@ class Choices(Case):
 
     def test_lists_each_choice_with_its_evidence(self) -> None:
         for name, (words, expected) in ROWS.items():
-            self.check(name, self.judge(name, *words), expected)
+            self.check(name, self.list_choices(name, *words), expected)
 
     def test_chooses_a_clock_and_a_range_for_each_part(self) -> None:
+        """A break of 130 frames divides 24 subtitles into two parts."""
         stl = write_programme(self, subtitle_times(24))
         path = self.write("one.pes", join_pes_packets(add_pauses(schedule_pages(self, stl), 130)))
         first, second = f"{ORIGIN}", f"{ORIGIN + 130 * TICKS}"
         for name, words, clocks in (("no clock", (), [(first, 1), (second, 2)]),
                                     ("the clock of part 1", ("--origin", first), [(second, 2)])):
-            choices = self.judge(name, stl, path, "--breaks", "1", "--every", "25", *words)
+            choices = self.list_choices(name, stl, path, "--breaks", "1", "--every", "25", *words)
             self.check(f"{name}: clocks", [(value, part) for option, value, _, _, part, _ in choices
                                            if option == "origin"], clocks)
             self.check(f"{name}: ranges", [part for option, *_, part, _ in choices
                                            if option == "pes"], [1, 2])
 
     def test_chooses_the_pace_of_regular_pes_packets(self) -> None:
+        """There is a PES packet in each frame from 100 to 6099."""
         stl = write_programme(self, subtitle_times(60))
         sent = dict(schedule_pages(self, stl))
         path = self.write("one.pes", join_pes_packets([
             (TICKS * frame, sent.get(TICKS * frame, [])) for frame in range(100, 6100)]))
-        pace, = [choice for choice in self.judge("regular", stl, path, "--origin", "0")
-                 if choice[0] == "pace"]
-        self.check("pace", (pace[1], pace[4:]), (
-            "1", (1, "pace: PES packets are at most 1 frame apart: --pace 1")))
-        self.check("evidence", (pace[2] == pace[3], pace[3] > 5_000), (True, True))
+        (_, pace, matches, total, part, line), = [
+            choice for choice in self.list_choices("regular", stl, path, "--origin", "0")
+            if choice[0] == "pace"]
+        self.check("pace", (pace, part, line), (
+            "1", 1, "pace: PES packets are at most 1 frame apart: --pace 1"))
+        self.check("all intervals match", (matches == total, total > 5_000), (True, True))
 
     def test_chooses_no_pace_if_pes_packets_pause(self) -> None:
+        """After 25 frames with PES packets, 35 frames have none except those of page changes."""
         stl = write_programme(self, subtitle_times(60))
         sent = dict(schedule_pages(self, stl))
         multiplex = make_multiplex([
@@ -109,7 +117,7 @@ class Choices(Case):
             ((), [(None, None, None, 1)]), (("--pace", "none"), [])]
         for words, expected in rows:
             name = f"{words}"
-            choices = self.judge(name, stl, path, "--origin", f"{TICKS * 250}", *words)
+            choices = self.list_choices(name, stl, path, "--origin", f"{TICKS * 250}", *words)
             paces = [choice for choice in choices if choice[0] == "pace"]
             self.check(f"{name}: pace", [choice[1:5] for choice in paces], expected)
             self.check(f"{name}: line", ["not checked: " in choice[5] for choice in paces],
@@ -127,23 +135,24 @@ class Choices(Case):
             path = self.write(
                 "one.stl", b"" if language is None else data[:14] + language + data[16:])
             request = make_request(make_parser("").parse_args([path, "--option", "auto"]))
-            self.must(f"{language!r}", request.option == option and
-                      describe_option(request) == f"option: {option}, since {why}",
-                      describe_option(request))
+            self.check(f"{language!r}", (request.option, describe_option(request)),
+                       (option, f"option: {option}, since {why}"))
+
+    def judge_batch(self, *words: str) -> list[dict[str, Any]]:
+        """Judge a list with two pairs; only for the second pair, the list gives an option."""
+        self.write("list", f"{' '.join(PES)}\n{' '.join(PES)} --option english".encode())
+        process = self.tool("qc", "--batch", "list", "-o", "out", "-p", self.bench.program,
+                            "--option", "auto", *words)
+        self.check(f"{words}: status", process.status, STATUSES[RELATIVE])
+        return [json.loads(self.read(f"out/{name}.json")) for name in ("story", "story~2")]
 
     def test_chooses_the_option_of_each_pair_of_a_batch(self) -> None:
-        self.write("list", "\n".join([" ".join(PES), f"{' '.join(PES)} --option english"]).encode())
-        process = self.call([get_tool_path("qc"), "--batch", "list", "-o", "out", "-p",
-                             self.bench.program, "--option", "auto"])
-        results = [json.loads(self.read(f"out/{name}.json")) for name in ("story", "story~2")]
-        options = [[item["value"] for item in known["choices"] if item["option"] == "option"]
-                   for known in results]
-        self.must("the first", process.status == 3 and options == [["english"], []],
-                  (process, options))
-        process = self.call([get_tool_path("qc"), "--batch", "list", "-o", "out", "-p",
-                             self.bench.program, "--option", "auto", "--resume"])
-        self.must("kept", process.status == 3 and results == [
-            json.loads(self.read(f"out/{name}.json")) for name in ("story", "story~2")], process)
+        self.check("options", [
+            [item["value"] for item in result["choices"] if item["option"] == "option"]
+            for result in self.judge_batch()], [["english"], []])
+
+    def test_resume_keeps_results_with_a_chosen_option(self) -> None:
+        self.check("kept", self.judge_batch(), self.judge_batch("--resume"))
 
     def test_the_manual_lists_each_choice(self) -> None:
         manual = read(os.path.join(TOP, "docs", "manual", "qc.md")) or ""
@@ -164,23 +173,23 @@ WORDS = "--origin", "0", "--every", "100"
 
 class Magazines(Case):
     def test_judges_only_the_requested_page(self) -> None:
+        """The texts of a subtitle file and other texts are sent on two pages of one PID."""
         stl = write_programme(self, subtitle_times(5))
-        other = write_programme(self, subtitle_times(5), text=b"Another %d", name="other.stl")
+        others = write_programme(self, subtitle_times(5), text=b"Another %d", name="other.stl")
         for magazine in range(1, 9):
-            page, wrong = f"{magazine}88", "188" if magazine == 8 else "888"
-            for name, first, second in (("right", page, wrong), ("wrong", wrong, page)):
-                self.schedule(stl, "first.pes", "--page", first, "--every", "25")
-                self.schedule(other, "second.pes", "--page", second, "--every", "25")
+            page, other = f"{magazine}88", "188" if magazine == 8 else "888"
+            for page_of_texts, page_of_others, verdict in ((page, other, "accepted"),
+                                                           (other, page, "refused")):
+                self.schedule(stl, "first.pes", "--page", page_of_texts, "--every", "25")
+                self.schedule(others, "second.pes", "--page", page_of_others, "--every", "25")
                 both = zip(packets(self.read("first.pes")), packets(self.read("second.pes")))
-                path = self.write("both.pes", b"".join(make_pes_packet(decode_pts(item), [
-                    *get_teletext_packets(get_data_field(item)),
-                    *get_teletext_packets(get_data_field(two))])
-                                                       for item, two in both))
+                path = self.write("both.pes", b"".join(make_pes_packet(decode_pts(first), [
+                    *get_teletext_packets(get_data_field(first)),
+                    *get_teletext_packets(get_data_field(second))]) for first, second in both))
                 judged = judge_files(self, stl, path, "--page", page, *WORDS)
-                self.check(f"{page} {name}: verdict", judged.timed_verdict,
-                           "accepted" if name == "right" else "refused")
-                self.check(f"{page} {name}: page", judged.result["request"]["page"], page)
-                self.check(f"{page} {name}: command", f"--page {page}" in judged.lines("+ ")[-1],
+                self.check(f"{page}: {verdict}", (
+                    judged.timed_verdict, judged.result["request"]["page"]), (verdict, page))
+                self.check(f"{page}: command", f"--page {page}" in judged.lines("+ ")[-1],
                            page != "888")
             judged = judge_files(self, stl, self.path("first.pes"), "--page", page, *WORDS)
             self.check(f"{page}: not sent", judged.timed_verdict, "not judged")
@@ -194,6 +203,9 @@ TELETEXT_ENDS = {1: "refused 74 Late frame 00:00:04:00", 20: "refused 74 Late fr
 
 
 class ForeignPackets(ProgrammeCase):
+    """From one PES packet on, the PID of the Teletext has other data: PES packets with the start
+    code of another stream (fault 31), or with another PES_packet_length (fault 32)."""
+
     qc_args = WORDS
 
     def setUp(self) -> None:
@@ -201,12 +213,12 @@ class ForeignPackets(ProgrammeCase):
         last, blank = self.sent[-1]
         self.pes += [make_pes_packet(last + 90_000 * at, blank) for at in range(1, 5)]
 
-    def make_stream(self, first: int, number: int) -> bytes:
-        """Return a stream with the fault `number` (31 or 32) in all PES packets from `first` on."""
+    def make_stream(self, first: int, fault: int) -> bytes:
+        """Return a stream with the fault 31 or 32 in all PES packets from `first` on."""
         def list_carried_packets(at: int) -> list[tuple[int, bytes]]:
             item = self.pes[at]
             if at >= first:
-                item = b"\0\0\1\xbf" + item[4:] if number == 31 else \
+                item = b"\0\0\1\xbf" + item[4:] if fault == 31 else \
                     item[:4] + (len(item) + 4).to_bytes(2, "big") + item[6:] + b"\xff" * 10
             return [(OLD, item)]
 
@@ -229,12 +241,12 @@ class ForeignPackets(ProgrammeCase):
                                                  if warning["kind"] == "cut"], [])
 
     def test_judges_no_stream_without_teletext(self) -> None:
-        judged = self.judge_stream(self.make_stream(0, 31))
+        judged = self.judge_stream(self.make_stream(first=0, fault=31))
         self.check("verdict", judged.timed_verdict, "not judged")
         self.must("reason", "no PES packets of private_stream_1" in judged.stderr[0], judged.stderr)
 
 
-# first TCI, interval between TCIs, and duration, in frames
+# First TCI (10:00:00:00), interval between TCIs, and duration, in frames
 FIRST_TCI, DISTANCE, DURATION = 900_000, 100, 60
 LINES = ("Good evening.", "Here", "is the news of today", "Thank you, Anne.", "Yes", "No no no")
 
@@ -247,58 +259,70 @@ PROPOSED_LAYOUTS = {
     "row=-1": "", "before=0B0B06": "", "double,row=-1": "", "": ""}
 
 
-def make_number_text(number: int, end: str = "") -> bytes:
-    both = [f"{end}{number} {LINES[(number + at) % len(LINES)]}{end}" for at in (0, 1)]
+ON_TIME = Delays(begins=Counter({0: 3}), ends=Counter({0: 3}), early=[], unseen=[])
+LATE = Delays(begins=Counter({0: 1, 2: 1}), ends=Counter({1: 4}), early=[], unseen=[])
+MEASURED = MeasuredRecording(
+    pid="0x101", lines=[], repeats=[Repeats(9, 25, 7, 25)], paces=[Pace(REGULAR, 1, 3)],
+    delays=[ON_TIME], headers=(9, 0), is_alone=True, option_bits={0}, sendings=[])
+
+
+def make_number_text(number: int, margin: str = "") -> bytes:
+    both = [f"{margin}{number} {LINES[(number + at) % len(LINES)]}{margin}" for at in (0, 1)]
     return "\x8a\x8a".join(both).encode("latin-1")
 
 
 class Profiles(Case):
-    def write_stl(self, name: str, end: str = "", justify: int = 2, count: int = 12) -> str:
-        return write_subtitle_file(self, [(begin, begin + DURATION, make_number_text(number, end))
-                                    for number in range(count)
-                                    for begin in [FIRST_TCI + DISTANCE * number]], name, 0, 20,
-                                   justify)
+    """--measure prints the options with which recordings of correct subtitles are accepted.
 
-    def profile(self, *args: str) -> list[str]:
+    The subtitles have two lines each, in row 20 and below, and the subtitle numbers 0, 1 and so on.
+    """
+
+    def write_stl(self, name: str, margin: str = "", justify: int = 2, count: int = 12) -> str:
+        begins = [FIRST_TCI + DISTANCE * number for number in range(count)]
+        return write_subtitle_file(self, [
+            (begin, begin + DURATION, make_number_text(number, margin))
+            for number, begin in enumerate(begins)], name, first=0, row=20, justify=justify)
+
+    def measure_profile(self, *args: str) -> list[str]:
         process = self.tool("qc", "--measure", *args)
         self.must(f"{args}", process.status == 0 and not process.told, process)
         read_profile(self.write("profile", process.out))
         return process.out.decode().splitlines()
 
     def propose_options(self, *args: str) -> list[str]:
-        return [line for line in self.profile(*args) if not line.startswith("#")]
+        return [line for line in self.measure_profile(*args) if not line.startswith("#")]
 
     def test_proposes_the_longest_distance_of_repeats(self) -> None:
-        several = [Repeats(9, 30, 5, 25), Repeats(8, 50, 7, 26), Repeats(3, 40, 9, None)]
-        for some in itertools.permutations(several):
-            proposal = propose_repeat_limit(some)
-            self.must(f"{some}", (proposal.text, *proposal.lines) == (
+        measured = [Repeats(headers=9, longest=30, longest_start=5, usual=25),
+                    Repeats(headers=8, longest=50, longest_start=7, usual=26),
+                    Repeats(headers=3, longest=40, longest_start=9, usual=None)]
+        for repeats in itertools.permutations(measured):
+            proposal = propose_repeat_limit(repeats)
+            self.check(f"{repeats}", (proposal.text, *proposal.lines), (
                 "--every 50", "every: 20 headers of the page, at most 50 frames apart (usually "
-                              "26); the longest interval begins at 00:00:00:07"), proposal)
+                              "26); the longest interval begins at 00:00:00:07"))
 
     def test_a_measured_profile_accepts_its_recording(self) -> None:
+        """Subtitles appear 0, 1 or 2 frames late, in turn."""
         stl = self.write_stl("one.stl")
         sent = schedule_pages(self, stl, "--layout", "fit,after=0A")
-        moved = []
-        for pts, packets in sent:
-            frame = pts // TICKS - FIRST_TCI
-            is_begin = frame % DISTANCE == 0 and 0 <= frame < 12 * DISTANCE
-            moved.append((pts + TICKS * (frame // DISTANCE % 3) * is_begin, packets))
-        pes = self.write("one.pes", join_pes_packets(moved))
-        words = [stl, pes, "--origin", "0"]
-        result = self.propose_options(*words)
-        self.must("proposed", result == [
+        for at, (pts, packets) in enumerate(sent):
+            number, rest = divmod(pts // TICKS - FIRST_TCI, DISTANCE)
+            if rest == 0 and 0 <= number < 12:
+                sent[at] = pts + TICKS * (number % 3), packets
+        pes = self.write("one.pes", join_pes_packets(sent))
+        self.check("proposed", self.propose_options(stl, pes, "--origin", "0"), [
             "--page 888", "--option english", "--every 25", "--within 2",
-            "--late 0:3,1:4,2:4/0:12", "--layout after=0A"], result)
+            "--late 0:3,1:4,2:4/0:12", "--layout after=0A"])
         again = judge_files(self, stl, pes, "--origin", "0", "--profile", self.path("profile"))
-        self.must("accepted", again.timed_verdict == "accepted", again.printed)
+        self.check("verdict", again.timed_verdict, "accepted")
 
     def test_proposes_a_layout_unless_it_is_implausible(self) -> None:
         stl = self.write_stl("one.stl")
         for layout, reason in PROPOSED_LAYOUTS.items():
             pes = self.write("one.pes", join_pes_packets(schedule_pages(
                 self, stl, *(["--layout", layout] if layout else []))))
-            lines = self.profile(stl, pes)
+            lines = self.measure_profile(stl, pes)
             self.check(f"{layout}: proposed", [line for line in lines
                                                if line.startswith("--layout")],
                        [f"--layout {layout}"] * bool(layout and not reason))
@@ -308,12 +332,12 @@ class Profiles(Case):
     def test_shows_the_evidence_against_a_layout(self) -> None:
         stl = self.write_stl("one.stl")
         against = f"# against it: {stl}, subtitle 1 (SN 0) at 10:00:00:00: sent row "
-        for name, end, justify, words, printed in (
+        for name, margin, justify, words, printed in (
                 ("spaces", " ", 2, (), "a space is in the box in 12 of the 12 others"),
                 ("block", "", 1, ("--layout", "left=9"),
                  "lines form a block, aligned left, in ")):
-            sent = schedule_pages(self, self.write_stl(f"{name}.stl", end, justify), *words)
-            lines = self.profile(stl, self.write("one.pes", join_pes_packets(sent)))
+            sent = schedule_pages(self, self.write_stl(f"{name}.stl", margin, justify), *words)
+            lines = self.measure_profile(stl, self.write("one.pes", join_pes_packets(sent)))
             self.check(f"{name}: proposed", [line for line in lines
                                              if line.startswith("--layout")], [])
             for part in (printed, "The nearest, ", against, "# against it: 7 more"):
@@ -321,18 +345,19 @@ class Profiles(Case):
 
     def test_names_a_subtitle_with_another_layout(self) -> None:
         stl = self.write_stl("one.stl")
-        item, other = schedule_pages(self, stl, "--layout", "after=0A"), schedule_pages(self, stl)
-        frame = (FIRST_TCI + 3 * DISTANCE) * TICKS
-        mixed = [second if frame <= first[0] < frame + DURATION * TICKS else first
-                 for first, second in zip(item, other)]
-        lines = self.profile(stl, self.write("one.pes", join_pes_packets(mixed)))
+        usual, other = schedule_pages(self, stl, "--layout", "after=0A"), schedule_pages(self, stl)
+        tci_pts = (FIRST_TCI + 3 * DISTANCE) * TICKS
+        mixed = [second if tci_pts <= first[0] < tci_pts + DURATION * TICKS else first
+                 for first, second in zip(usual, other)]
+        lines = self.measure_profile(stl, self.write("one.pes", join_pes_packets(mixed)))
         against = [line for line in lines if line.startswith("# against it: ")]
         self.must("one", "--layout after=0A" in lines and len(against) == 1 and
                   f"{stl}, subtitle 4 (SN 3) at 10:00:12:00: sent row 20" in against[0], lines)
-        self.must("rests", "# layout: 11 of 12 subtitles as they were sent; after=0A is based on "
-                  "12, of which 11 were sent so" in lines, lines)
+        self.must("evidence", "# layout: 11 of 12 subtitles as they were sent; after=0A is based "
+                  "on 12, of which 11 were sent so" in lines, lines)
 
     def test_measures_all_pairs_together(self) -> None:
+        """Two pairs have six subtitles each. A layout is only proposed if at least ten show it."""
         paths = []
         for number, every in enumerate((25, 50)):
             stl = self.write_stl(f"{number}.stl", count=6)
@@ -344,12 +369,6 @@ class Profiles(Case):
         self.must("one", "--every 25" in alone and "--layout after=0A" not in alone, alone)
 
     def test_proposes_only_options_that_fit_all_recordings(self) -> None:
-        on_time = Delays(Counter({0: 3}), Counter({0: 3}), [], [])
-        late = Delays(Counter({0: 1, 2: 1}), Counter({1: 4}), [], [])
-        first = MeasuredRecording(
-            pid="0x101", lines=[], repeats=[Repeats(9, 25, 7, 25)],
-            paces=[Pace(REGULAR, 1, 3)], delays=[on_time], headers=(9, 0), is_alone=True,
-            option_bits={0}, sendings=[])
         request = make_example_request("a.stl", "a.ts", "--origin", "0")
         same = ["--page 888", "--pid 0x101", "--option english", "--every 25", "--pace 2"]
         # What differs in a second recording, the option that is no longer proposed for both, and
@@ -363,20 +382,23 @@ class Profiles(Case):
             ({"repeats": [Repeats(9, 50, 7, 25)]}, "--every 25", "--every 50"),
             ({"paces": [Pace(REGULAR, 2, 5)]}, "--pace 2", "--pace 4"),
             ({"paces": [Pace(PAUSED, 2, 5)]}, "--pace 2", ""),
-            ({"delays": [late]}, "", "--within 2|--late 0:4,2:1/0:3,1:4"),
+            ({"delays": [LATE]}, "", "--within 2|--late 0:4,2:1/0:3,1:4"),
             ({"headers": (9, 4)}, "", "--keeping"),
             ({"headers": (9, 4), "is_alone": False}, "", ""), ({"is_alone": False}, "", "")]
         for changes, missing, new in rows:
             expected = {*same, *filter(None, new.split("|"))} - {missing}
-            for both in itertools.permutations((first, first._replace(**changes))):
+            for both in itertools.permutations((MEASURED, MEASURED._replace(**changes))):
                 lines = [*make_profile_lines([request, request], both)]
                 result = [line for line in lines if not line.startswith("#")]
                 self.check(f"{changes}", sorted(result), sorted(expected))
-        for words, is_known in (((), False), (("--start", "tcp"), True)):
+
+    def test_proposes_a_tolerance_only_if_a_clock_is_given(self) -> None:
+        for words, has_clock in (((), False), (("--start", "tcp"), True)):
             lines = [*make_profile_lines([make_example_request("a.stl", "a.ts", *words)],
-                                         [first._replace(delays=[late])])]
+                                         [MEASURED._replace(delays=[LATE])])]
             self.check(f"{words}", ["--within 2" in lines, any(
-                "no clock was given for a.ts" in line for line in lines)], [is_known, not is_known])
+                "no clock was given for a.ts" in line for line in lines)],
+                [has_clock, not has_clock])
 
     def test_refuses_wrong_arguments(self) -> None:
         stl = self.write_stl("one.stl")
@@ -393,13 +415,17 @@ class Profiles(Case):
             status = 2 if "is empty" in printed else 64
             self.must(printed, process.status == status and not process.out
                       and len(process.told) == 1 and printed in process.told[0], process)
-        known = read_options(make_parser(""), ["--measure", stl, pes], {}, {})
+
+    def test_prints_the_profile_of_a_pair(self) -> None:
+        stl = self.write_stl("one.stl")
+        pes = self.write("one.pes", join_pes_packets(schedule_pages(self, stl)))
+        args = read_options(make_parser(""), ["--measure", stl, pes], {}, {})
         with contextlib.redirect_stdout(io.StringIO()) as out:
-            status = measure(known, "tools/qc")
+            status = measure(args, "tools/qc")
         self.check("a right call", (status, out.getvalue()[:5]), (0, "# qc "))
 
-    def test_says_why_it_does_not_propose_a_layout(self) -> None:
-        for text, words in (
+    def test_explains_why_a_layout_is_not_proposed(self) -> None:
+        for text, reason in (
                 ("strip=03", "it removes something that viewers see"),
                 ("after=0A", "10 subtitles have to show it, 9 in 10 of them as they were sent")):
-            self.assertEqual(explain_omission(text), words, text)
+            self.check(text, explain_omission(text), reason)
