@@ -30,8 +30,7 @@ from subtitles.stream.packets import Packets
 from subtitles.stream.receiver import BLANK_PAGE, PACKETS_PER_PAUSE, Rows, Timeline
 from subtitles.stream.survey import Announced
 from .bench import Case
-from .parts import (
-    make_example_request, make_default_options, survey_packets, decode_packets)
+from .parts import make_example_request, make_default_options, survey_packets, decode_packets
 from .transmissions import CLOSING, HEADER, PAGE, make_numbered_row
 
 

@@ -25,8 +25,7 @@ from .stories import read_table
 from .streams import OLD, TELETEXT_PID, make_stream_with_video, make_planned_stream
 from .parts import make_answer, make_example_request, decode_packets
 from .transmissions import (
-    CLOSING, HEADER, PAGE, SentPes, write_pipe, join_pes_packets, make_numbered_row,
-    subtitle_times)
+    CLOSING, HEADER, PAGE, SentPes, write_pipe, join_pes_packets, make_numbered_row, subtitle_times)
 
 
 WORDS = "--every", "100"

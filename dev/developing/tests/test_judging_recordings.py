@@ -17,8 +17,7 @@ from .streams import (
     change_packet_size, make_teletext_descriptor)
 from .transmissions import (
     HEADER, ORIGIN, add_pauses, write_pipe, join_pes_packets, replace_pts, packets, write_programme,
-    make_random_stl, schedule_pages,
-    subtitle_times)
+    make_random_stl, schedule_pages, subtitle_times)
 from .test_judging_pairs import ACCENT, HELLO, STORY, damage_packet
 
 PES, STL = read_example_file("story.pes"), read_example_file("story.stl")

@@ -10,9 +10,8 @@ from typing import Any, Sequence
 from subtitles.common.command_line import Stop
 from subtitles.formats.listing import (
     Accepted, FAULT_NAMES, FaultLine, NamedFault, NEVER_SENT, READING_FAULT_NAMES, STL_FAULTS,
-    Trusted,
-    parse_accepted_line,
-    parse_count_line, parse_fault_line, read_meanings, parse_fault_number, parse_trusted_line)
+    Trusted, parse_accepted_line, parse_count_line, parse_fault_line, read_meanings,
+    parse_fault_number, parse_trusted_line)
 from subtitles.formats.stl import Subtitle, parse_subtitles
 from subtitles.judging.causes import Cause, CAUSE_NAMES
 from subtitles.judging.check import CheckOutput
@@ -26,9 +25,9 @@ from subtitles.judging.status import (
 from .bench import Case
 from .parts import make_answer, make_part
 
-ERROR, WARNING, NUMBER = 72, 67, 38  # fault numbers; NAMED makes WARNING a warning
+ERROR, WARNING = 72, 67  # fault numbers; `ONE_WARNING` makes 67 a warning
 ENDS_READING = (*range(10, 16), 17, *range(22, 26), 30, 31, 32, 44)
-LOST_PACKETS, SILENT = 45, 79
+# What a finished `check` may print about a part, by the verdict on it.
 RIGHT = {
     "accepted": CheckSummary(0, is_accepted=True),
     "refused": CheckSummary(1, fault_count=3, printed_total=3,
@@ -39,6 +38,7 @@ RIGHT = {
                                      is_read=False),
     "refused, not read": CheckSummary(1, fault_count=1, printed_total=1, fault_numbers={ERROR},
                                       is_read=False)}
+# What no finished `check` prints: its output is incomplete, or does not match its exit status.
 WRONG = {
     "silent": CheckSummary(0),
     "not ended": CheckSummary(None, is_accepted=True),
@@ -57,6 +57,7 @@ WRONG = {
     "a list that lacks a line": CheckSummary(1, fault_count=1, printed_total=2,
                                              fault_numbers={WARNING}),
     "no fault, counted": CheckSummary(1, fault_count=0, printed_total=0)}
+# Whether judged frames have lost packets, for each loss.
 LOSSES: Sequence[Sequence[bool]] = (
     (), (False,), (True,), (True, False, False), (False, True), (False, False, True), (True, True))
 # The kinds of errors, and the status to which they lead
@@ -72,6 +73,7 @@ CLOCKS: Sequence[dict[str, Any]] = (
 
 
 def make_severity(*lines: str, is_loss_allowed: bool = False) -> Severity:
+    """Return the severities in a file with these lines; `is_loss_allowed` means --allow-lost."""
     with tempfile.NamedTemporaryFile("w", suffix=".severity") as file:
         file.write("".join(f"{line}\n" for line in lines))
         file.flush()
@@ -91,18 +93,24 @@ def get_outcome(decision: Decision) -> tuple[str, int]:
     return decision.word, 2 if decision.word == NOT_JUDGED else decision.status
 
 
-NAMED = make_severity(f"{WARNING} warning")
+ONE_WARNING = make_severity(f"{WARNING} warning")
+NAMES_ARE_WARNINGS = make_severity(f"{WARNING} warning",
+                                   *(f"{name} warning" for name in FAULT_NAMES))
+# Lost packets (45) are also a warning.
 ALLOWING_SEVERITIES = [make_severity(f"{WARNING} warning", is_loss_allowed=True),
-                       make_severity(f"{WARNING} warning", f"{LOST_PACKETS} warning")]
+                       make_severity(f"{WARNING} warning", "45 warning")]
 
 
 class Decisions(unittest.TestCase):
-    def test_one_refused_part_refuses_the_pair(self) -> None:
-        kinds = RIGHT | WRONG
+    """A pair has parts with the outputs of `check` in `RIGHT` and `WRONG`, with or without a given
+    clock and --relative (`CLOCKS`)."""
+
+    def test_the_worst_part_decides_the_verdict(self) -> None:
+        outputs = RIGHT | WRONG
         for count, clock in itertools.product((1, 2, 3), CLOCKS):
-            for names in itertools.product(kinds, repeat=count):
+            for names in itertools.product(outputs, repeat=count):
                 expected = decide_by_clock(self.decide_expected_word(names), clock)
-                result = decide(Grounds([kinds[name] for name in names], NAMED, **clock))
+                result = decide(Grounds([outputs[name] for name in names], ONE_WARNING, **clock))
                 if get_outcome(result) != expected:
                     self.fail(f"{names} {clock}: {result}, and not {expected}")
 
@@ -117,35 +125,38 @@ class Decisions(unittest.TestCase):
             return NOT_JUDGED
         return WAIVED if "waived" in names else ACCEPTED
 
-    def test_considers_losses_and_warnings(self) -> None:
+    def test_losses_and_strict_warnings_prevent_an_accepted(self) -> None:
         for name, losses, is_allowed, warnings, is_strict, clock in itertools.product(
                 ("accepted", "waived", "refused", "silent"), LOSSES, (False, True),
                 ((), ("page",), ("repeat", "page")), (False, True), CLOCKS):
             parts = [RIGHT["accepted"], (RIGHT | WRONG)[name], RIGHT["accepted"]]
-            for severity in ALLOWING_SEVERITIES if is_allowed else [NAMED]:
+            for severity in ALLOWING_SEVERITIES if is_allowed else [ONE_WARNING]:
                 self.check_decision(name,
                                     Grounds(parts, severity, losses, warnings, is_strict, **clock),
                                     is_allowed, clock)
 
-    def test_considers_named_faults(self) -> None:
-        kinds, warned = RIGHT | WRONG, make_severity(
-            f"{WARNING} warning", *(f"{name} warning" for name in FAULT_NAMES))
+    def test_a_named_fault_refuses_a_pair_unless_it_is_a_warning(self) -> None:
+        outputs = RIGHT | WRONG
         for name, is_error, count in itertools.product(FAULT_NAMES, (True, False), (0, 1, 2)):
-            severity = NAMED if is_error else warned
-            for parts in itertools.product(kinds, repeat=count):
+            severity = ONE_WARNING if is_error else NAMES_ARE_WARNINGS
+            for parts in itertools.product(outputs, repeat=count):
                 word = self.decide_expected_word(parts) if parts else NOT_JUDGED
                 if is_error and not set(parts) & WRONG.keys():
                     word = REFUSED
                 elif word == ACCEPTED:
                     word = WAIVED
                 for clock in CLOCKS:
-                    result = decide(Grounds([kinds[part] for part in parts], severity,
+                    result = decide(Grounds([outputs[part] for part in parts], severity,
                                             named_faults=[name], **clock))
                     self.assertEqual(get_outcome(result), decide_by_clock(word, clock),
                                      (name, is_error, parts, clock))
-        self.assertEqual(decide(Grounds([], NAMED, error_kinds=["input"],
+
+    def test_a_named_fault_without_a_part_does_not_hide_an_error(self) -> None:
+        self.assertEqual(decide(Grounds([], ONE_WARNING, error_kinds=["input"],
                                         named_faults=[NEVER_SENT])).word, NOT_JUDGED)
-        self.assertEqual(decide(Grounds([], warned, named_faults=[NEVER_SENT])),
+
+    def test_a_named_warning_without_a_part_is_not_judged(self) -> None:
+        self.assertEqual(decide(Grounds([], NAMES_ARE_WARNINGS, named_faults=[NEVER_SENT])),
                          Decision(NOT_JUDGED, NOTHING_READ, "undecided"))
 
     def check_decision(self, name: str, seen: Grounds, is_allowed: bool,
@@ -170,44 +181,46 @@ class Decisions(unittest.TestCase):
     def test_two_recordings_differ_by_any_fault(self) -> None:
         accepted, waived = [RIGHT["accepted"]], [RIGHT["waived"]]
         rows: dict[str, tuple[Grounds, str, str]] = {  # the verdict with and without a clock
-            "no fault": (Grounds(accepted, NAMED), SAME, RELATIVE),
-            "an error": (Grounds([RIGHT["refused"]], NAMED), DIFFERS, DIFFERS),
-            "a waived fault": (Grounds(waived, NAMED), DIFFERS, DIFFERS),
+            "no fault": (Grounds(accepted, ONE_WARNING), SAME, RELATIVE),
+            "an error": (Grounds([RIGHT["refused"]], ONE_WARNING), DIFFERS, DIFFERS),
+            "a waived fault": (Grounds(waived, ONE_WARNING), DIFFERS, DIFFERS),
             "an allowed loss": (Grounds(accepted, ALLOWING_SEVERITIES[0], [True]), DIFFERS,
                                 DIFFERS),
-            "no answer": (Grounds([WRONG["silent"]], NAMED), NOT_JUDGED, NOT_JUDGED)}
+            "no output": (Grounds([WRONG["silent"]], ONE_WARNING), NOT_JUDGED, NOT_JUDGED)}
         for name, (grounds, with_clock, without) in rows.items():
             with self.subTest(name):
                 self.assertEqual([decide_comparison(
                     grounds._replace(has_clock=has_clock), False, 0).word
                     for has_clock in (True, False)], [with_clock, without])
 
-    def test_is_not_judged_after_a_failure(self) -> None:
-        for name, printed in (RIGHT | WRONG).items():
+    def test_is_not_judged_after_an_error(self) -> None:
+        for name, output in (RIGHT | WRONG).items():
             for kinds, status in ERRORS.items():
-                result = decide(Grounds([printed, printed], NAMED, error_kinds=kinds,
+                result = decide(Grounds([output, output], ONE_WARNING, error_kinds=kinds,
                                         has_clock=True))
                 with self.subTest(name, kinds=kinds):
                     self.assertEqual((result.word, result.status), (NOT_JUDGED, status))
                     self.assertIn(result.not_judged_kind, kinds)
-            result = decide(Grounds([printed, printed], NAMED, has_clock=True))
+            result = decide(Grounds([output, output], ONE_WARNING, has_clock=True))
             self.assertEqual(result.word, self.decide_expected_word([name]))
             self.assertEqual(result.not_judged_kind is None, result.word != NOT_JUDGED)
 
-    def test_gives_a_reason_if_not_judged(self) -> None:
+    def test_gives_a_reason_and_a_kind_of_error_if_not_judged(self) -> None:
         accepted, unread = RIGHT["accepted"], RIGHT["waived, not read"]
         rows: list[tuple[list[CheckSummary], str, str]] = [
             ([], NOT_ANSWERED, "bug"), ([accepted, WRONG["silent"]], NOT_ANSWERED, "bug"),
             ([unread], NOTHING_READ, "undecided"),
             ([accepted, accepted, unread], NOTHING_READ, "undecided")]
         for parts, reason, kind in rows:
-            self.assertEqual(decide(Grounds(parts, NAMED)), Decision(NOT_JUDGED, reason, kind),
-                             parts)
-        self.assertEqual(decide(Grounds([accepted], NAMED, has_clock=True)), Decision(ACCEPTED))
+            self.assertEqual(decide(Grounds(parts, ONE_WARNING)),
+                             Decision(NOT_JUDGED, reason, kind), parts)
+        self.assertEqual(decide(Grounds([accepted], ONE_WARNING, has_clock=True)),
+                         Decision(ACCEPTED))
 
 
 class BatchStatus(unittest.TestCase):
     def test_returns_the_worst_status(self) -> None:
+        # The exit statuses of pairs, whether the batch was stopped, and the status of the batch.
         rows: list[tuple[list[int], bool, int]] = [
             ([0], False, 0), ([0, 3], False, 3), ([3, 0, 1], False, 1), ([1, 3, 2], False, 2),
             ([2, 0, 64], False, 64), ([64, 1, 70], False, 70), ([], False, 2), ([4], False, 2),
@@ -218,22 +231,24 @@ class BatchStatus(unittest.TestCase):
                 with self.subTest(statuses=order, stopped=is_stopped):
                     self.assertEqual(combine_statuses(order, is_stopped), status)
 
-    def test_rejects_a_result_with_another_status(self) -> None:
-        for word, status, ended in itertools.product(
+    def test_rejects_a_result_whose_status_is_not_that_of_its_verdict_and_process(self) -> None:
+        for verdict, status, exit_status in itertools.product(
                 [*STATUSES, "fine"], (*range(5), 64, 70), (0, 1, 2, 3, 64, 70, -9, -15)):
-            is_possible = status == STATUSES.get(word) or (word, status) in (
+            is_possible = status == STATUSES.get(verdict) or (verdict, status) in (
                 (RELATIVE, 0), (NOT_JUDGED, 64), (NOT_JUDGED, 70))
-            with self.subTest(word, status=status, ended=ended):
-                self.assertEqual(matches_exit_status(word, status, ended),
-                                 is_possible and status == ended)
+            with self.subTest(verdict, status=status, exit_status=exit_status):
+                self.assertEqual(matches_exit_status(verdict, status, exit_status),
+                                 is_possible and status == exit_status)
 
 
 class Severities(unittest.TestCase):
-    def test_reads_severities_line_by_line(self) -> None:
+    def test_the_last_line_about_a_fault_decides_its_severity(self) -> None:
+        """Faults that end the reading are always errors. --allow-lost makes 45 and 79 warnings."""
         each: dict[int | str, str] = {number: "warning" for number in FAULT_NUMBERS}
         ends: dict[int | str, str] = {number: "error" for number in ENDS_READING}
         names: dict[int | str, str] = {name: "error" for name in FAULT_NAMES}
         mild: dict[int | str, str] = {name: "warning" for name in FAULT_NAMES}
+        # The lines of a severity file, whether --allow-lost is given, and the severities.
         rows: list[tuple[str, bool, dict[int | str, str]]] = [
             ("", False, {72: "error", 67: "error", 45: "error", 79: "error", **names}),
             ("", True, {72: "error", 67: "error", 45: "warning", 79: "warning"}),
@@ -254,82 +269,104 @@ class Severities(unittest.TestCase):
                 with self.subTest(lines=lines, allowed=is_allowed, of=item):
                     self.assertEqual((severity.classify(item), severity.is_error(item)),
                                      (word, word == "error"))
-        self.assertEqual([Severity(None, is_allowed, True).classify(number)
-                          for is_allowed in (False, True) for number in (45, 79)],
-                         ["error", "error", "warning", "error"])  # a given --pace wins
+    def test_with_a_given_pace_missing_pes_packets_are_errors(self) -> None:
+        self.assertEqual([Severity(None, is_loss_allowed, is_pace_given=True).classify(number)
+                          for is_loss_allowed in (False, True) for number in (45, 79)],
+                         ["error", "error", "warning", "error"])
 
     def test_refuses_wrong_lines(self) -> None:
-        none = (0, 5, 9, 26, 29, 41, 43, 46, 49, 58, 59, 75, 81, 83, 90, 100)
+        no_faults = (0, 5, 9, 26, 29, 41, 43, 46, 49, 58, 59, 75, 81, 83, 90, 100)
         for line in ("72", "72 fatal", "x error", "others", "72 warning now", "warning 72",
                      "٧٢ error", "sent error", "never error", "never sent", "never  sent wrong",
-                     "not error", *(f"{number} warning" for number in none)):
+                     "not error", *(f"{number} warning" for number in no_faults)):
             with self.subTest(line), self.assertRaisesRegex(Stop, "line 2: (a line is|no refusal)"):
                 make_severity("", line)
 
 
-BEGIN, CONTENT, END = "refused 63 Begin frame 10:00:00:00", \
-    "refused 72 Content frame 10:00:01:00 row 22 column 3", "refused 74 Late frame 10:00:09:00"
-OPEN, CONTROL = "refused 77 Incomplete frame 10:00:02:00", \
-    "refused 67 Control frame 10:00:00:00 packet 0"
-GAP, LOSS_LINE = "refused 73 Gap frame 10:00:03:00", "refused 45 Lost pes 7"
+BEGIN = "refused 63 Begin frame 10:00:00:00"
+CONTENT = "refused 72 Content frame 10:00:01:00 row 22 column 3"
+END = "refused 74 Late frame 10:00:09:00"
+INCOMPLETE = "refused 77 Incomplete frame 10:00:02:00"
+CONTROL = "refused 67 Control frame 10:00:00:00 packet 0"
+GAP, LOST_LINE = "refused 73 Gap frame 10:00:03:00", "refused 45 Lost pes 7"
 PARITY = "refused 68 Parity frame 10:00:02:00 packet 1"
-SILENT_LINE = "refused 79 Silent frame 10:00:01:00"
+SILENT = "refused 79 Silent frame 10:00:01:00"
 ORDER, START = "refused 62 Order pes 3", "refused 31 Start pes 4"
-CHARACTER_LINE, UNDECIDED = "refused 50 Character block 1 at 4", "refused 78 Undecided frame " \
-    "10:00:00:00"
-LATER = "refused 72 Content frame 10:00:05:00 row 1 column 3"
+CHARACTER = "refused 50 Character block 1 at 4"
+UNDECIDED = "refused 78 Undecided frame 10:00:00:00"
+LATER_CONTENT = "refused 72 Content frame 10:00:05:00 row 1 column 3"
 PACKET_FAULTS_ONLY = {3, 4, 76, 82}  # fault numbers that `check` does not report
 SECOND = 25
+
+
+# A wrong control bit, and the fault 72 of four subtitles, one second after another.
+WRONG_PAGES = [CONTROL, *(f"refused 72 Content frame 10:00:0{second}:00 row 22 column 3"
+                          for second in (1, 2, 3, 4))]
 
 
 def make_check_output(*lines: str, path: str) -> CheckOutput:
     return make_answer([*lines, f"{len(lines)} faults"], path=path)
 
 
+def make_causes_named(names: Sequence[str]) -> Any:
+    """Return the causes with these names, one for each of the subtitles in `WRONG_PAGES`."""
+    causes = {at: Cause(at, name, 1, None, None, "", 0) for at, name in enumerate(names)}
+    return SimpleNamespace(
+        frames_by_end_fault={}, cause_by_index=causes, list_causes=lambda: [*causes.values()],
+        first_wrong_frames={at: 900_000 + SECOND * (at + 1) for at in range(4)})
+
+
 class LeadingFaults(Case):
+    """Of all faults, qc names that of the worst rank first, and of these the one reported first."""
+
     def test_each_cause_and_fault_number_has_a_rank(self) -> None:
         self.check("causes", set(CAUSE_RANKS), set(CAUSE_NAMES))
-        self.must("numbers", set(NUMBER_RANKS) == FAULT_NUMBERS - PACKET_FAULTS_ONLY,
-                  set(NUMBER_RANKS) ^ (FAULT_NUMBERS - PACKET_FAULTS_ONLY))
+        self.check("numbers", set(NUMBER_RANKS), FAULT_NUMBERS - PACKET_FAULTS_ONLY)
+        self.check("names", set(NAME_RANKS), {*FAULT_NAMES, *READING_FAULT_NAMES})
+
+    def test_ranks_fault_numbers_by_what_viewers_notice_according_to_the_manual(self) -> None:
         for number, item in read_meanings().items():
-            rank = rank_number(number)
+            rank, notice = rank_number(number), item.name.partition("</a>")[2]
             if number in STL_FAULTS:
                 self.check(f"{number}", rank, Rank.FILE)
             elif number in (63, 74):  # the recording is too short, unless a cause is known
                 self.check(f"{number}", rank, Rank.UNSEEN)
-            elif item.name.partition("</a>")[2].startswith("now"):
+            elif notice.startswith("now"):
                 self.must(f"{number}", rank <= Rank.SOME, rank)
-            elif item.name.partition("</a>")[2].startswith("next") and number != 61:
+            elif notice.startswith("next") and number != 61:
                 self.check(f"{number}", rank, Rank.LATER)
+
+    def test_orders_causes_from_never_sent_to_not_received(self) -> None:
         names = sorted(CAUSE_NAMES, key=lambda name: CAUSE_RANKS[name])
-        self.must("order of causes", names[0] == "never sent" and names[-4:] == [
-            "late", "early", "wrong colour or attribute", "not received"], names)
+        self.check("order", (names[0], names[-4:]), ("never sent", [
+            "late", "early", "wrong colour or attribute", "not received"]))
 
     def test_chooses_the_first_fault_of_the_worst_rank(self) -> None:
         for lines, expected in (
                 ([CONTROL], CONTROL), ([CONTENT], CONTENT), ([CONTROL, CONTENT], CONTENT),
-                ([CONTROL, CONTENT, LATER], CONTENT), ([CONTROL, GAP, LATER, CONTENT], LATER),
-                ([CONTROL, OPEN], OPEN), ([CONTROL, OPEN, CONTENT], OPEN),
+                ([CONTROL, CONTENT, LATER_CONTENT], CONTENT),
+                ([CONTROL, GAP, LATER_CONTENT, CONTENT], LATER_CONTENT),
+                ([CONTROL, INCOMPLETE], INCOMPLETE), ([CONTROL, INCOMPLETE, CONTENT], INCOMPLETE),
                 ([CONTROL, BEGIN], CONTROL), ([GAP, BEGIN], BEGIN),
-                ([LOSS_LINE, GAP, END], LOSS_LINE), ([LOSS_LINE, GAP], LOSS_LINE),
-                ([GAP, LOSS_LINE], LOSS_LINE), ([GAP, SILENT_LINE, PARITY], PARITY),
-                ([GAP, CONTROL, LOSS_LINE], CONTROL), ([SILENT_LINE, CONTROL], CONTROL),
+                ([LOST_LINE, GAP, END], LOST_LINE), ([LOST_LINE, GAP], LOST_LINE),
+                ([GAP, LOST_LINE], LOST_LINE), ([GAP, SILENT, PARITY], PARITY),
+                ([GAP, CONTROL, LOST_LINE], CONTROL), ([SILENT, CONTROL], CONTROL),
                 ([GAP, ORDER], ORDER), ([GAP, START], START), ([PARITY, CONTROL], PARITY),
                 ([UNDECIDED, CONTENT], CONTENT), ([CONTROL, UNDECIDED], CONTROL),
-                ([GAP, UNDECIDED], UNDECIDED),
-                ([CHARACTER_LINE, UNDECIDED, CONTENT], CHARACTER_LINE),
-                ([CONTENT, CHARACTER_LINE], CHARACTER_LINE)):
+                ([GAP, UNDECIDED], UNDECIDED), ([CHARACTER, UNDECIDED, CONTENT], CHARACTER),
+                ([CONTENT, CHARACTER], CHARACTER)):
             part = make_part(0, 9, 0, make_check_output(*lines, path=self.path("list")))
-            self.must(f"{lines}", part.first_text == expected and part.check_output.line == lines[0]
-                      and part.worst_fault_line and part.worst_fault_line.line == expected,
-                      part.first_text)
-        part = make_part(0, 9, 0, make_answer(["accepted 10 frames 2 transmissions"]))
-        self.must("none",
-                  part.worst_fault_line is None and part.first_text == part.check_output.line)
+            worst = part.worst_fault_line
+            self.check(f"{lines}", (part.first_text, worst and worst.line, part.check_output.line),
+                       (expected, expected, lines[0]))
 
-    def test_ranks_named_faults(self) -> None:
-        self.check("each", set(NAME_RANKS), {*FAULT_NAMES, *READING_FAULT_NAMES})
+    def test_an_accepted_part_has_no_worst_fault(self) -> None:
+        part = make_part(0, 9, 0, make_answer([line := "accepted 10 frames 2 transmissions"]))
+        self.check("none", (part.worst_fault_line, part.first_text), (None, line))
+
+    def test_chooses_the_worst_named_fault_unless_a_numbered_fault_is_worse(self) -> None:
         never, left, hidden = (NamedFault(name, "") for name in FAULT_NAMES)
+        # The named faults, the rank of the worst fault with a number, and the chosen named fault.
         rows: tuple[tuple[list[NamedFault], Rank | None, NamedFault | None], ...] = (
             ([], None, None), ([], Rank.LATER, None), ([left], None, left),
             ([left, hidden, never], None, never), ([left, hidden], Rank.MOVED, hidden),
@@ -339,56 +376,56 @@ class LeadingFaults(Case):
             self.must(f"{[fault.name for fault in faults]} {rank}",
                       find_worst_named_fault(faults, rank) is expected)
 
-    def test_ignores_faults_of_refused_subtitles(self) -> None:
+    def test_the_worst_fault_of_a_transmission_is_none_of_the_subtitle_file(self) -> None:
         rows: tuple[tuple[list[str], str | None], ...] = (
-            ([CHARACTER_LINE, UNDECIDED, GAP, CONTROL], CONTROL),
-            ([CHARACTER_LINE, UNDECIDED], None))
+            ([CHARACTER, UNDECIDED, GAP, CONTROL], CONTROL), ([CHARACTER, UNDECIDED], None))
         for lines, expected in rows:
             part = make_part(0, 9, 0, make_check_output(*lines, path=self.path("list")))
             sent = part.worst_transmission_fault
             self.must(f"{lines}", (sent and sent.fault.line) == expected, sent)
 
-    def find_lead(self, lines: Sequence[str], causes: Any) -> WorstFault | None:
+    def check_worst_fault(self, name: str, lines: Sequence[str], causes: Any, expected: str
+                          ) -> None:
         output = make_check_output(*lines, path=self.path("list"))
-        return find_worst_fault(output, output.first_faults, causes)
+        worst = find_worst_fault(output, output.first_faults, causes)
+        self.check(name, worst and worst.fault.line, expected)
 
-    def test_chooses_the_subtitle_with_the_worst_cause(self) -> None:
-        def at(second: int) -> str:
-            return f"refused 72 Content frame 10:00:0{second}:00 row 22 column 3"
-
-        lines = [CONTROL, at(1), at(2), at(3), at(4)]
+    def test_chooses_the_fault_of_the_subtitle_with_the_worst_cause(self) -> None:
         rows: tuple[tuple[list[str], list[str], str], ...] = (
-            (["late", "late", "never sent", "never sent"], lines, at(3)),
-            (["late", "wrong text", "wrong place", "early"], lines, at(2)),
-            (["wrong colour or attribute", "early", "early", "early"], lines, at(2)),
-            (["wrong colour or attribute"] * 4, lines, at(1)),
-            (["not received"] * 4, lines, CONTROL), (["not received"] * 4, lines[1:], at(1)),
-            (["not received"] * 4, [LOSS_LINE, *lines[1:]], at(1)),
-            (["late"] * 4, [*lines, OPEN], OPEN), (["wrong text"] * 4, [*lines, OPEN], at(1)))
-        for names, some, expected in rows:
-            causes: Any = SimpleNamespace(
-                frames_by_end_fault={}, first_wrong_frames={place: 900_000 + SECOND * (place + 1)
-                                                            for place in range(4)},
-                cause_by_index={place: Cause(place, name, 1, None, None, "", 0)
-                                for place, name in enumerate(names)})
-            causes.list_causes = lambda causes=causes: [*causes.cause_by_index.values()]
-            lead = self.find_lead(some, causes)
-            self.must(f"{names}", lead and lead.fault.line == expected, lead)
-        for edges, expected in (({63: 0}, BEGIN), ({74: 0, 63: 0}, BEGIN), ({63: 1}, at(1)),
-                                ({74: 0, 63: 1}, END)):
-            causes.frames_by_end_fault = edges
-            lead = self.find_lead([BEGIN, *lines, END], causes)
-            self.must(f"{edges}", lead and lead.fault.line == expected, lead)
-        causes.frames_by_end_fault, causes.first_wrong_frames = {}, {0: 900_000 + SECOND + 9}
-        lead = self.find_lead(lines, causes)
-        self.must("the fault that stands then", lead and lead.fault.line == at(1), lead)
-        self.must("no cause", find_worst_cause([]) is None)
+            (["late", "late", "never sent", "never sent"], WRONG_PAGES, WRONG_PAGES[3]),
+            (["late", "wrong text", "wrong place", "early"], WRONG_PAGES, WRONG_PAGES[2]),
+            (["wrong colour or attribute", "early", "early", "early"], WRONG_PAGES, WRONG_PAGES[2]),
+            (["wrong colour or attribute"] * 4, WRONG_PAGES, WRONG_PAGES[1]),
+            (["not received"] * 4, WRONG_PAGES, CONTROL),
+            (["not received"] * 4, WRONG_PAGES[1:], WRONG_PAGES[1]),
+            (["not received"] * 4, [LOST_LINE, *WRONG_PAGES[1:]], WRONG_PAGES[1]),
+            (["late"] * 4, [*WRONG_PAGES, INCOMPLETE], INCOMPLETE),
+            (["wrong text"] * 4, [*WRONG_PAGES, INCOMPLETE], WRONG_PAGES[1]))
+        for names, lines, expected in rows:
+            self.check_worst_fault(f"{names}", lines, make_causes_named(names), expected)
+
+    def test_chooses_an_early_or_late_end_if_it_belongs_to_the_worst_cause(self) -> None:
+        causes = make_causes_named(["wrong text"] * 4)  # the worst is that of the subtitle 0
+        # The indexes of the subtitles with the faults 63 and 74.
+        for places, expected in (({63: 0}, BEGIN), ({74: 0, 63: 0}, BEGIN),
+                                 ({63: 1}, WRONG_PAGES[1]), ({74: 0, 63: 1}, END)):
+            causes.frames_by_end_fault = places
+            self.check_worst_fault(f"{places}", [BEGIN, *WRONG_PAGES, END], causes, expected)
+
+    def test_chooses_the_last_fault_72_before_the_first_wrong_frame(self) -> None:
+        causes = make_causes_named(["wrong text"] * 4)
+        causes.first_wrong_frames = {0: 900_000 + SECOND + 9}
+        self.check_worst_fault("9 frames later", WRONG_PAGES, causes, WRONG_PAGES[1])
+
+    def test_there_is_no_worst_cause_without_a_cause(self) -> None:
+        self.check("no cause", find_worst_cause([]), None)
 
 
+# Two subtitles as `show` prints them, and their values.
 FIRST = "00001 00:00:01:00 00:00:02:00 vp 20 jc 2 text 41"
 SECOND_LINE = "00002 00:00:02:00 00:00:04:00 vp 22 jc 1 text -"
-FIRST_SUBTITLE, SECOND_SUBTITLE = Subtitle(1, 1, 25, 50, 20, 2, b"A"), Subtitle(2, 2, 50, 100,
-                                                                                22, 1, b"")
+FIRST_SUBTITLE = Subtitle(1, 1, begin=25, end=50, row=20, justify=2, text=b"A")
+SECOND_SUBTITLE = Subtitle(2, 2, begin=50, end=100, row=22, justify=1, text=b"")
 
 
 class ParsedLines(Case):
@@ -430,6 +467,8 @@ class ParsedLines(Case):
                                 ([FIRST, "refused 16 Cumulative block 2"], [FIRST_SUBTITLE]),
                                 (["refused 10 Format block 0"], [])):
             self.check(str(lines), parse_subtitles(lines), expected)
+
+    def test_reports_incomplete_or_wrong_lists_of_subtitles_as_bugs(self) -> None:
         unread: list[list[str]] = [
             [], [FIRST], [FIRST, SECOND_LINE], [FIRST, "2 subtitles"], [FIRST, "fault 91 Memory"],
             [FIRST + " ", "1 subtitles"], [FIRST.replace("vp", "row"), "1 subtitles"],
