@@ -32,20 +32,18 @@ WORDS = "--every", "100"
 OTHER_PAGE = make_packet(0, 0, [0, 0, 0, 8, 0, 0, 0, 0], b" " * 32)  # header of page 800
 
 
-def change_header(data: bytes, at: int, off: int, on: int) -> bytes:
-    """Clear the bits `off` and set the bits `on` in the header value at index `at`.
-
-    Return packets other than headers of page 888 unchanged.
-    """
+def set_last_subcode_digit(data: bytes, digit: int) -> bytes:
+    """Return a packet with this digit in its sub-code if it is a header of page 888."""
     address = decode_address(data)
     numbers = decode_header(data) if address and address[1] == 0 else None
     if numbers is None or numbers[:2] != b"\x08\x08":
         return data
-    return data[:2 + at] + bytes([CODE_WORDS[numbers[at] & ~off | on]]) + data[3 + at:]
+    return data[:4] + bytes([CODE_WORDS[digit]]) + data[5:]
 
 
-def change_all_packets(sent: SentPes, at: int, off: int, on: int) -> SentPes:
-    return [(pts, [change_header(item, at, off, on) for item in packets]) for pts, packets in sent]
+def set_last_subcode_digits(sent: SentPes, digit: int) -> SentPes:
+    return [(pts, [set_last_subcode_digit(item, digit) for item in packets])
+            for pts, packets in sent]
 
 
 # PES_header_data_length and the verdict. A header that is longer than a TS packet is read.
@@ -54,8 +52,9 @@ PES_HEADERS = {0: "not judged", 5: "not judged", 14: "not judged", 0x23: "not ju
 
 
 class Reasons(ProgrammeCase):
+    """Ten subtitles appear every 100 frames for 60 frames; each page is sent every 25 frames."""
 
-    def test_reports_why_a_decoded_page_is_refused(self) -> None:
+    def test_reports_why_the_page_of_a_frame_is_hidden(self) -> None:
         text = make_numbered_row(20, b"Text")
         even = text[:10] + bytes([text[10] ^ 0x80]) + text[11:]
         page = [HEADER, text, CLOSING]
@@ -69,7 +68,7 @@ class Reasons(ProgrammeCase):
             finder = CauseFinder(ExpectedPages([], []), decoded)
             self.check(name, finder.describe_hidden_fault(frame), reason)
 
-    def test_reports_a_scrambled_pid(self) -> None:
+    def test_reports_that_all_packets_of_a_pid_are_scrambled(self) -> None:
         data = bytearray(make_stream_with_video(b"".join(self.pes)))
         for at in range(0, len(data), 188):
             if (data[at + 1] & 31, data[at + 2]) == (TELETEXT_PID >> 8, TELETEXT_PID & 255):
@@ -80,18 +79,18 @@ class Reasons(ProgrammeCase):
             self.check(f"{recording}: verdict", judged.timed_verdict, "not judged")
             self.check(f"{recording}: sentence", judged.verdict.sentence,
                        f"Not judged: {recording} has no header of page 888; {words}.")
-            self.check(f"{recording}: advice", [line for line in judged.stderr if "try: " in line],
-                       [])
+            self.must(f"{recording}: no advice", "try: " not in "".join(judged.stderr),
+                      judged.stderr)
 
-    def change_header_length(self, length: int) -> list[bytes]:
+    def set_header_length(self, length: int) -> list[bytes]:
         """Return the PES packets with this PES_header_data_length."""
         return [item[:4] + (len(item) - 6 + length - 36).to_bytes(2, "big") + item[6:8]
                 + bytes([length]) + item[9:14].ljust(length, b"\xff")[:length] + item[45:]
                 for item in self.pes]
 
-    def test_reports_the_length_of_pes_headers(self) -> None:
+    def test_reports_the_length_of_pes_headers_in_a_stream(self) -> None:
         for length, word in PES_HEADERS.items():
-            changed = self.change_header_length(length)
+            changed = self.set_header_length(length)
             data = make_planned_stream(self.pes, [(0, OLD)], lambda at: [(OLD, changed[at])])
             words = f"has {9 + length} bytes (PES_header_data_length {length:02X}), but " \
                 "EN 300 472 requires 45 (24)"
@@ -107,7 +106,7 @@ class Reasons(ProgrammeCase):
 
     def test_reports_the_length_of_pes_headers_in_a_file(self) -> None:
         for length in (5, 14, 0x23, 0x25, 36 + 184):
-            path = self.write("one.pes", b"".join(self.change_header_length(length)))
+            path = self.write("one.pes", b"".join(self.set_header_length(length)))
             judged = judge_files(self, self.stl, path, "--origin", "0")
             self.check(f"{length}: verdict", judged.timed_verdict, "refused")
             self.must(f"{length}: sentence", f"the PES header has {9 + length} bytes "
@@ -118,12 +117,15 @@ class Reasons(ProgrammeCase):
         for name, data in (("nothing", b""), ("a line", b"refused 60"), ("right", self.pes[0]),
                            ("cut", self.pes[0][:8])):
             self.check(name, check_pes_header(data, 0), "")
+
+    def test_finds_no_pes_header_in_broken_ts_packets(self) -> None:
         path = self.write("none", b"\x47\x41\x01\x30\xff".ljust(188, b"\0") * 9)
         self.check("no PES header", read_pes_header(self.bench.program, path, TELETEXT_PID, 188),
                    b"")
 
     def test_reports_rows_of_a_closed_page(self) -> None:
-        for name, between in (("FF", CLOSING), ("800", OTHER_PAGE)):
+        """A header of page 8FF or 800 closes each page before its rows."""
+        for name, between in (("8FF", CLOSING), ("800", OTHER_PAGE)):
             sent = [(pts, [packets[0], between, *packets[1:]]) for pts, packets in self.sent]
             path = self.write("one.pes", join_pes_packets(sent))
             reason = "rows came while page 888 was not open"
@@ -137,29 +139,30 @@ class Reasons(ProgrammeCase):
                 self.must(f"{name} {words}: reason", reason in sentence, sentence)
 
     def test_reports_alternating_sub_pages(self) -> None:
-        alternate = [item for pts, packets in change_all_packets(self.sent, 2, 15, 1) for item in (
-            (pts, packets),
-            (pts + 4 * TICKS, [change_header(HEADER, 2, 15, 2), make_numbered_row(20, b"Other"),
-                               CLOSING]))]
-        once = change_all_packets(self.sent[:20], 2, 15, 1) + change_all_packets(self.sent[20:],
-                                                                                 2, 15, 2)
+        other_page = [set_last_subcode_digit(HEADER, 2), make_numbered_row(20, b"Other"), CLOSING]
+        alternate = [item for pts, packets in set_last_subcode_digits(self.sent, 1)
+                     for item in ((pts, packets), (pts + 4 * TICKS, other_page))]
+        once = [*set_last_subcode_digits(self.sent[:20], 1),
+                *set_last_subcode_digits(self.sent[20:], 2)]
         words = "sub-pages of 888 alternate, with the sub-codes 0001 and 0002"
         blank = [(pts, [HEADER, CLOSING]) for pts, _ in self.sent]
-        for name, sent, is_told in (("alternate", alternate, True), ("once", once, False),
-                                    ("one", blank, False)):
+        for name, sent, is_reported in (("alternate", alternate, True),
+                                        ("change once", once, False), ("one", blank, False)):
             judged = self.judge(sent, *WORDS)
-            self.check(f"{name}: sentence", words in judged.verdict.sentence, is_told)
+            self.check(f"{name}: sentence", words in judged.verdict.sentence, is_reported)
             self.check(f"{name}: causes", any(words in cause["line"]
-                                              for cause in judged.result["causes"]), is_told)
+                                              for cause in judged.result["causes"]), is_reported)
+
+    def test_reads_a_subcode_without_the_control_bits(self) -> None:
         self.check("digits", read_subcode(bytes([8, 8, 1, 8 + 2, 3, 8 + 2, 1, 0])), "2321")
 
     def test_finds_sub_pages_that_alternate(self) -> None:
-        def sent(*codes: str) -> Packets:
-            return Packets(0, [PacketRun(at, int(word[0]), 0, 0, "h", "+".join(
-                f"88{item}80810" for item in word[1:])) for at, word in enumerate(codes)])
+        def make_runs(*runs: str) -> Packets:
+            return Packets(0, [PacketRun(at, int(run[0]), 0, 0, "h", "+".join(
+                f"88{digit}80810" for digit in run[1:])) for at, run in enumerate(runs)])
 
-        # Each text has the number of PES packets in a run, and the sub-codes of their headers.
-        self.check_rows(lambda *codes: find_alternating_subcodes(sent(*codes)), {
+        # A run is the number of PES packets, and the last digit of each header's sub-code.
+        self.check_rows(lambda *runs: find_alternating_subcodes(make_runs(*runs)), {
             "one run": (("91",), []), "one sub-code": (("11",) * 9, []),
             "one, two, one, two": (("11", "12", "11", "12"), []),
             "one, then two": (("11", "92", "92"), []),
@@ -169,13 +172,14 @@ class Reasons(ProgrammeCase):
             "both in three PES packets": (("312",), ["0001", "0002"]),
             "three sub-codes": (("11", "12", "13") * 3, ["0001", "0002", "0003"]),
             "six sub-codes, each once": (("11", "12", "13", "14", "15", "16"), [])})
-        once = sent(*("11", "12") * 3, *("11",) * 6)
-        self.check_rows(lambda first, last: len(find_alternating_subcodes(once, (first, last))), {
+        first_six = make_runs(*("11", "12") * 3, *("11",) * 6)
+        self.check_rows(lambda *pes: len(find_alternating_subcodes(first_six, pes)), {
             "while they alternate": ((0, 5), 2), "all": ((0, 11), 2),
             "after the first two": ((2, 11), 0), "after they alternate": ((6, 11), 0)})
-        self.check("no mismatch", [*explain_mismatch(sent("11", "12"), PAGE)], [])
+        self.check("two PES packets", [*explain_mismatch(make_runs("11", "12"), PAGE)], [])
 
     def test_merges_a_gap_marker_with_the_pcr_step_of_the_same_loss(self) -> None:
+        """PES packets with the PTS 0 to 30, a gap marker for 3 lost packets, and the PTS `far`."""
         far = 200_000
         item = Packets(1, [PacketRun(0, 4, 0, 10, "h", ""), PacketRun(4, 1, None, 0, "m", ""),
                            PacketRun(5, 4, far, 10, "h", "")], gap_markers=[GapMarker(4, 30, 3, 0)])
@@ -191,6 +195,8 @@ class Reasons(ProgrammeCase):
         for name, (steps, expected) in rows.items():
             item.pcr_steps = steps
             self.check(name, find_loss_places(item), [expected])
+
+    def test_describes_a_loss_by_pcr_counter_and_scrambled_packets(self) -> None:
         self.check("text", describe_loss(LossPlace(1, 2, 3, 4, 9000)),
                    "0.10 s of TS packets are missing according to the PCR (3 TS packets "
                    "according to the counter), 4 TS packets were scrambled")
@@ -203,24 +209,22 @@ FIRST_ROW, SECOND_ROW = make_numbered_row(20, b"One"), make_numbered_row(22, b"T
 CLEAR = "C4 (erase page) is clear"
 
 
-def change_subcode(header: bytes, digit: int) -> bytes:
-    return header[:2] + bytes([digit]) + header[3:]
+def change_numbers(changes: dict[int, int], numbers: bytes = KEEPING_NUMBERS) -> bytes:
+    """Return the values of a header with other values at these indexes."""
+    return bytes(changes.get(at, number) for at, number in enumerate(numbers))
 
 
-def numbers(**places: int) -> bytes:
-    """Return the values of a header without erase_page. `p5=1` sets the value at index 5."""
-    result = bytearray(KEEPING_NUMBERS)
-    for name, value in places.items():
-        result[int(name[1:])] = value
-    return bytes(result)
+OTHER_SUBCODE = change_numbers({2: 1})  # a header that does not erase, of sub-code 0001
+NO_SUBTITLE = change_numbers({5: 0})  # a header that does not erase, with C6 clear
 
 
 class Headers(Case):
     def test_finds_the_previous_header_of_each_header(self) -> None:
         item, other = "88000810", "88100810"
         received = INITIAL_STATE._replace(is_received=True, is_open=True, header=NUMBERS)
-        first, second = KEEPING_NUMBERS, change_subcode(KEEPING_NUMBERS, 1)
-        # The flags of a PES packet and the values of its headers, and the state before it.
+        first, second = KEEPING_NUMBERS, OTHER_SUBCODE
+        # The flags of a PES packet (h: header, c: closing), the values of its headers, and the
+        # state before it; each header with the previous one, and whether the page was open.
         self.check_rows(lambda flags, values, state: [
             tuple(header) for header in find_page_headers(PacketRun(0, 1, 0, 0, flags, values),
                                                           state)], {
@@ -234,7 +238,7 @@ class Headers(Case):
                                             [(second, NUMBERS, True), (first, second, False)])})
 
     def test_explains_why_a_header_must_erase(self) -> None:
-        other = change_subcode(KEEPING_NUMBERS, 1)
+        other = OTHER_SUBCODE
         subcode = f"{CLEAR}, though the sub-code changes from 0001 to 0000"
         is_open = f"{CLEAR}, and the page was still open: no header had terminated it"
         keep = KEEPING_NUMBERS
@@ -255,17 +259,18 @@ class Headers(Case):
                                               is_open)})
 
     def test_describes_the_first_wrong_header_of_several(self) -> None:
-        good, keeps, german, plain = map(PageHeader, (
-            NUMBERS, KEEPING_NUMBERS, bytes([*NUMBERS[:7], 8]), bytes([*NUMBERS[:5], 0, 1, 0])))
+        good, keeps, german, no_subtitle = map(PageHeader, (
+            NUMBERS, KEEPING_NUMBERS, change_numbers({7: 8}, NUMBERS),
+            change_numbers({5: 0}, NUMBERS)))
         other, clear = "the header is German, but --option is english", "C6 (subtitle) is clear"
         rows: dict[str, tuple[list[PageHeader], str, str | None, str]] = {
-            "one keeps": ([good, keeps, plain], "", "may appear over old text",
+            "one keeps": ([good, keeps, no_subtitle], "", "may appear over old text",
                           REPEAT_WITHOUT_ERASE),
-            "one may keep, one is no subtitle": ([good, keeps, plain], "--keeping",
+            "one may keep, one is no subtitle": ([good, keeps, no_subtitle], "--keeping",
                                                  "hides the picture", clear),
             "one is German": ([german, keeps], "", "is shown with wrong characters", other),
             "one is no subtitle, and English": (
-                [german, plain], "--option german", "hides the picture",
+                [german, no_subtitle], "--option german", "hides the picture",
                 f"{clear}; the header is English, but --option is german"),
             "two are English": ([german, keeps, good], "--option german --keeping",
                                 "is shown with wrong characters",
@@ -280,12 +285,12 @@ class Headers(Case):
     def test_reports_a_wrong_c4_bit_first(self) -> None:
         self.check_rows(describe_control_bits, {
             "allowed": ((KEEPING_NUMBERS, "english"), []),
-            "C4 and C6": ((numbers(p5=0), "english", REPEAT_WITHOUT_ERASE),
+            "C4 and C6": ((NO_SUBTITLE, "english", REPEAT_WITHOUT_ERASE),
                           [REPEAT_WITHOUT_ERASE, "C6 (subtitle) is clear"])})
 
 
 class HeaderCounts(Case):
-    def test_counts_headers_that_keep_the_page(self) -> None:
+    def test_counts_all_headers_and_those_that_keep_if_no_other_bit_is_wrong(self) -> None:
         def count(headers: dict[bytes, int], option: str) -> tuple[int, ...] | None:
             counted = count_keeping_headers(headers, option)
             return counted and counted[:2]
@@ -295,14 +300,14 @@ class HeaderCounts(Case):
             "no header": (({}, english), None), "all erase": (({NUMBERS: 7}, english), None),
             "the only one keeps": (({keep: 1}, english), (1, 1)),
             "three of ten keep": (({NUMBERS: 7, keep: 3}, english), (10, 3)),
-            "two sub-codes": (({NUMBERS: 7, keep: 3, change_subcode(keep, 1): 2}, english),
-                              (12, 5)),
+            "two sub-codes": (({NUMBERS: 7, keep: 3, OTHER_SUBCODE: 2}, english), (12, 5)),
             "another option": (({NUMBERS: 7, keep: 3}, "german"), None),
-            "one is no subtitle": (({keep: 3, numbers(p5=0): 1}, english), None),
-            "one inhibits the display": (({keep: 3, numbers(p3=8, p6=0): 1}, english), None)})
+            "one is no subtitle": (({keep: 3, NO_SUBTITLE: 1}, english), None),
+            "one has C4, but not C7": (({keep: 3, change_numbers({3: 8, 6: 0}): 1}, english),
+                                       None)})
 
     def test_names_missing_rows(self) -> None:
-        # The arguments are the missing rows, the row of the fault, and how many rows came.
+        # The missing rows, the row of the fault, and how many of the missing rows were received.
         self.check_rows(describe_omitted_rows, {
             "none": (([], 22, 0), ""), "one": (([22], 22, 0), "row 22"),
             "one, of no known fault": (([22], None, 0), "row 22"),
@@ -321,8 +326,8 @@ ONE_ROW_LESS, WITHOUT_ROWS = [KEEPING_HEADER, FIRST_ROW, CLOSING], [KEEPING_HEAD
 PACKETS = {"complete": COMPLETE_PAGE, "repeat": [KEEPING_HEADER, FIRST_ROW, SECOND_ROW, CLOSING],
            "one row": ONE_ROW_LESS, "no rows": WITHOUT_ROWS, "header": [KEEPING_HEADER],
            "row": [FIRST_ROW]}
-# What is sent, with its first frame; the frame in which row 22 is wrong; the frame of a fault 69
-# (a row was changed); and the missing rows.
+# The frames in which packets are sent; --within; the frame in which row 22 is wrong (fault 72);
+# the frame of a fault 69 (a row was changed); and the rows that are named as missing.
 OMITTED_ROWS = """
 sent                                            | within | wrong | changed | missing
 0 complete, 25 repeat                           | 0      | 24    |         |
@@ -343,6 +348,9 @@ sent                                            | within | wrong | changed | mis
 
 
 class MissingRows(Case):
+    """A page with the rows 20 and 22 is sent. Later headers of the page do not erase it, and the
+    rows that do not follow them are missing: receivers may show what they received before."""
+
     def decode(self, *frames: tuple[int, list[bytes]], within: int = 0) -> tuple[Timeline, Rows]:
         """Return the decoded pages, and the page of the first frame."""
         timeline = decode_packets(self, b"".join(make_pes_packet(TICKS * frame, packets)
@@ -360,16 +368,16 @@ class MissingRows(Case):
         for row in read_table(OMITTED_ROWS):
             sent = [(int(frame), PACKETS[name]) for frame, _, name in (
                 item.partition(" ") for item in row["sent"].split(", "))]
-            timeline, due = self.decode(*sent, within=int(row["within"]))
+            timeline, expected = self.decode(*sent, within=int(row["within"]))
             output = self.make_row_fault(int(row["wrong"]), row["changed"])
-            self.check(f"{row}", name_omitted_rows(timeline, due, int(row["wrong"]), output),
+            self.check(f"{row}", name_omitted_rows(timeline, expected, int(row["wrong"]), output),
                        row["missing"])
 
     def test_names_no_row_if_the_page_is_not_expected_or_has_no_header(self) -> None:
-        timeline, due = self.decode((0, COMPLETE_PAGE), (50, ONE_ROW_LESS))
+        timeline, expected = self.decode((0, COMPLETE_PAGE), (50, ONE_ROW_LESS))
         closed, _ = self.decode((5, [CLOSING]))
         self.check_rows(lambda pages, page, frame: name_omitted_rows(pages, page, frame, None), {
-            "the expected page, no fault line": ((timeline, due, 50), "a row"),
+            "the expected page, no fault line": ((timeline, expected, 50), "a row"),
             "another page": ((timeline, BLANK_PAGE, 50), ""),
             "no header": ((closed, BLANK_PAGE, 5), "")})
 
@@ -377,32 +385,42 @@ class MissingRows(Case):
         self.check("rows", [self.make_row_fault(frame).find_fault_row(9) for frame in (0, 9, 10)],
                    [22, 22, None])
 
-    def test_finds_rows_missing_after_a_keeping_header(self) -> None:
-        decoded, due = self.decode((0, COMPLETE_PAGE), (25, WITHOUT_ROWS), (50, ONE_ROW_LESS))
-        subtitle = Subtitle(1, 1, 0, 100, 20, 2, b"1")
-        namer = CauseFinder(ExpectedPages([subtitle], [due]), decoded, self.make_row_fault(50))
-        for frame, expected in ((0, ""), (25, "rows 20 and 22"), (50, "row 22")):
-            self.check(f"{frame}", namer.explain_omitted_rows(frame), expected)
-        namer.timeline.lost = SpanIndex([Span(50, 50)])
-        self.must("not received",
-                  namer.explain_omitted_rows(50) == "" and namer.explain_omitted_rows(25) != "")
-        several = (25, [KEEPING_HEADER]), (25, [FIRST_ROW, CLOSING])
-        for within, expected in ((0, ""), (1, "row 22")):
-            decoded, due = self.decode((0, COMPLETE_PAGE), *several, within=within)
-            namer = CauseFinder(ExpectedPages([subtitle], [due]), decoded, self.make_row_fault(25))
-            self.check(f"in two, {within}", namer.explain_omitted_rows(25), expected)
+    def make_cause_finder(self, *frames: tuple[int, list[bytes]], wrong: int, within: int = 0
+                          ) -> CauseFinder:
+        """Return the causes of a subtitle in the frames 0 to 99 that has the first frame's page.
+        Row 22 has a fault in frame `wrong`."""
+        decoded, page = self.decode(*frames, within=within)
+        return CauseFinder(ExpectedPages([Subtitle(1, 1, 0, 100, 20, 2, b"1")], [page]), decoded,
+                           self.make_row_fault(wrong))
 
-    def test_an_early_header_without_rows_erases_nothing(self) -> None:
-        subtitle, faulty = Subtitle(1, 1, 25, 100, 20, 2, b"1"), FaultyFrames()
-        for frame, name, words in ((0, "unknown", f"it is missing at {format_frame(25)}"),
-                                   (30, "erased", "by a header without rows, at 00:00:01:05")):
-            bare, whole = (frame, [HEADER, CLOSING]), (26 if not frame else 25, COMPLETE_PAGE)
-            decoded, _ = self.decode(*sorted([bare, whole, (50, COMPLETE_PAGE)]), within=1)
-            due = decoded.get_page_at(50)
-            faulty.during = Span(25 if not frame else 30, 35)
-            cause = CauseFinder(ExpectedPages([subtitle], [due]), decoded,
-                                self.make_row_fault(25)).find_cause(0, faulty)
-            self.must(name, (cause.name, cause.details) == (name, words), cause)
+    def test_finds_rows_missing_after_a_keeping_header_unless_packets_are_lost(self) -> None:
+        finder = self.make_cause_finder((0, COMPLETE_PAGE), (25, WITHOUT_ROWS), (50, ONE_ROW_LESS),
+                                        wrong=50)
+        for frame, expected in ((0, ""), (25, "rows 20 and 22"), (50, "row 22")):
+            self.check(f"{frame}", finder.explain_omitted_rows(frame), expected)
+        finder.timeline.lost = SpanIndex([Span(50, 50)])
+        self.check("lost", [finder.explain_omitted_rows(frame) for frame in (25, 50)],
+                   ["rows 20 and 22", ""])
+
+    def test_finds_a_missing_row_of_a_page_in_two_pes_packets_of_a_frame(self) -> None:
+        for within, expected in ((0, ""), (1, "row 22")):
+            finder = self.make_cause_finder((0, COMPLETE_PAGE), (25, [KEEPING_HEADER]),
+                                            (25, [FIRST_ROW, CLOSING]), wrong=25, within=within)
+            self.check(f"--within {within}", finder.explain_omitted_rows(25), expected)
+
+    def test_a_header_without_rows_erases_a_page_only_after_it_was_sent(self) -> None:
+        """The subtitle has the frames 25 to 99. A header without rows is sent in frame 0 or 30."""
+        for bare, page, name, words in (
+                (0, 26, "unknown", "it is missing at 00:00:01:00"),
+                (30, 25, "erased", "by a header without rows, at 00:00:01:05")):
+            decoded, _ = self.decode(*sorted([(bare, [HEADER, CLOSING]), (page, COMPLETE_PAGE),
+                                              (50, COMPLETE_PAGE)]), within=1)
+            expected = ExpectedPages([Subtitle(1, 1, 25, 100, 20, 2, b"1")],
+                                     [decoded.get_page_at(50)])
+            faulty = FaultyFrames()
+            faulty.during = Span(max(25, bare), 35)
+            cause = CauseFinder(expected, decoded, self.make_row_fault(25)).find_cause(0, faulty)
+            self.check(name, (cause.name, cause.details), (name, words))
 
 
 def add_keeping_repeats(sent: SentPes, is_first_empty: bool = False) -> SentPes:
@@ -418,30 +436,32 @@ def add_keeping_repeats(sent: SentPes, is_first_empty: bool = False) -> SentPes:
 
 
 class RepeatsWithKeeping(ProgrammeCase):
+    """The headers of all repeats of three subtitles' pages do not erase the page (C4 is clear)."""
+
     cues = subtitle_times(3)
 
-    def test_accepts_keeping_headers_only_if_they_are_allowed(self) -> None:
+    def test_accepts_keeping_headers_if_they_are_allowed(self) -> None:
+        judged = self.judge(add_keeping_repeats(self.sent), "--keeping")
+        self.check("verdict", (judged.timed_verdict, judged.result["request"]["keeping"]),
+                   ("accepted", True))
+        self.must("command", " --keeping " in judged.lines("+ ")[-1], judged.printed)
+
+    def test_refuses_keeping_headers_and_counts_them(self) -> None:
         sent = add_keeping_repeats(self.sent)
-        judged_pair = self.judge(sent, "--keeping")
-        self.must("accepted", judged_pair.timed_verdict == "accepted" and
-                  judged_pair.result["request"]["keeping"] is True
-                  and any(" --keeping " in line for line in judged_pair.lines("+ ")),
-                  judged_pair.printed)
-        judged_pair = self.judge(sent)
+        judged = self.judge(sent)
         keeping = sum(item != other for item, other in zip(sent, self.sent))
         words = f"{CLEAR} in {keeping} of {len(self.sent)} headers"
-        self.must("refused", judged_pair.timed_verdict == "refused"
-                  and judged_pair.result["hints"] == [f"67: {words}"]
-                  and words in judged_pair.verdict.sentence
-                  and judged_pair.result["request"]["keeping"] is False
-                  and all(item["meaning"] == REPEAT_WITHOUT_ERASE
-                          for item in judged_pair.result["faults"]),
-                  judged_pair.printed)
+        self.check("verdict", (judged.timed_verdict, judged.result["request"]["keeping"],
+                               judged.result["hints"]), ("refused", False, [f"67: {words}"]))
+        self.must("sentence", words in judged.verdict.sentence, judged.verdict.sentence)
+        self.check("meanings", {item["meaning"] for item in judged.result["faults"]},
+                   {REPEAT_WITHOUT_ERASE})
 
     def test_names_missing_rows_as_the_cause(self) -> None:
-        judged_pair = self.judge(add_keeping_repeats(self.sent, is_first_empty=True), "--keeping")
-        self.must("a cause", judged_pair.timed_verdict == "refused"
-                  and {item["number"] for item in judged_pair.result[
-            "faults"]} == {CONTENT} and [item["line"] for item in judged_pair.result["causes"]] ==
-            [f"not repeated whole: row 22 {OMITTED_BY_REPEAT}"] and
-            "(row 22 missing after a header" in judged_pair.verdict.sentence, judged_pair.printed)
+        judged = self.judge(add_keeping_repeats(self.sent, is_first_empty=True), "--keeping")
+        self.check("faults", (judged.timed_verdict, {
+            item["number"] for item in judged.result["faults"]}), ("refused", {CONTENT}))
+        self.check("causes", [item["line"] for item in judged.result["causes"]],
+                   [f"not repeated whole: row 22 {OMITTED_BY_REPEAT}"])
+        self.must("sentence", "(row 22 missing after a header" in judged.verdict.sentence,
+                  judged.verdict.sentence)
