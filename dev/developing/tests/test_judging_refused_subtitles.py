@@ -15,6 +15,7 @@ from developing.multiplex import PACKET, PAYLOAD, PAYLOAD_START, make_packet_hea
 from developing.stl import make_gsi_block, make_tti_block
 from subtitles.cli.collection import make_pair_row, format_summary
 from subtitles.common.command_line import counted
+from subtitles.common.times import TICKS
 from subtitles.formats.stl import NamedSubtitle, Subtitle, SubtitleFile
 from subtitles.formats.teletext import OPTIONS, OPTION_BY_WORD, has_characters
 from subtitles.judging import subtitles
@@ -32,7 +33,7 @@ from .transmissions import (
 from .test_judging_pairs import UNREAD, damage_packet
 from .test_judging_reasons import KEEPING_HEADER
 
-BAD = b"\xe6: no letter"
+BAD = b"\xe6: no letter"  # begins with U+0132, which no national option has
 REPLACE_ADVICE = "replace it (it needs other character sets, or packets X/26, which are " \
     "refused with fault 70)"
 WORDS = "--origin", "0", "--every", "100"
@@ -52,142 +53,153 @@ def make_stl_of_blocks(blocks: Sequence[ShownSubtitle],
 
 
 class RefusedSubtitles(Case):
+    """The subtitles "Number 1" to "Number 10" appear at the frames 100, 200 .. 1000 for 60 frames.
+    Their transmission is correct; in the subtitle file, some have the refused text `BAD`."""
+
     def setUp(self) -> None:
         super().setUp()
-        self.blocks: list[ShownSubtitle] = [(begin, end, b"Number %d" % number)
-                                            for number,
-                                            (begin, end) in enumerate(subtitle_times(10), 1)]
+        self.blocks: list[ShownSubtitle] = [
+            (begin, end, b"Number %d" % number)
+            for number, (begin, end) in enumerate(subtitle_times(10), 1)]
         self.stl = self.write("good.stl", make_stl_of_blocks(self.blocks))
         self.sent = schedule_pages(self, self.stl)
         self.pes = self.write("one.pes", join_pes_packets(self.sent))
 
     def write_stl(self, *bad: int) -> str:
+        """Write the subtitle file with the refused text in the subtitles with these numbers."""
         return self.write("bad.stl", make_stl_of_blocks([
             (begin, end, BAD if number in bad else text)
             for number, (begin, end, text) in enumerate(self.blocks, 1)]))
 
+    def write_late_recording(self) -> str:
+        """Write a recording in which subtitle 6 appears 5 frames late."""
+        late = make_delay(by=5, first=TICKS * 600, last=TICKS * 650)
+        return self.write("late.pes", join_pes_packets(late(self.sent)))
+
     def judge(self, stl: str, *args: str) -> JudgedPair:
         return judge_files(self, stl, *args, *WORDS)
 
-    def test_counts_judged_and_lists_refused_subtitles(self) -> None:
+    def test_judges_the_other_subtitles_if_one_is_refused(self) -> None:
         first = "subtitle 3 at 00:00:12:00 has fault 50 Character (\u0132): no national option " \
             f"has \u0132: {REPLACE_ADVICE}"
-        slow = self.write("slow.pes",
-                          join_pes_packets(make_delay(5, 3600 * 600, 3600 * 650)(self.sent)))
+        line = "refused 50 Character block 3 at 0"
         for pes, end in ((self.pes, "all have the right text from the first frame to the last"),
-                         (slow, 'subtitle 6 at 00:00:24:00, "Number 6", appeared 5 frames late')):
-            result = self.judge(self.write_stl(3), pes)
-            self.must(pes, result.timed_verdict == "refused" and result.verdict.sentence.startswith(
-                f"Refused: {first}; 9 other subtitles were judged: {end}. Not checked: "),
-                      result.verdict.sentence)
-            self.must(f"{pes}: line", result.printed[-1] == "refused 50 Character block 3 at 0" and
-                      result.verdict.status == 1 and result.lines("undecided: ") == [
-                          first.replace(" has fault", ", until 00:00:14:10, has fault", 1)],
-                      result.printed)
-            self.must(f"{pes}: list", result.check_lines[0] == result.printed[-1] and
-                      "refused 78 Undecided frame 00:00:10:10" in result.check_lines,
-                      result.check_lines)
+                         (self.write_late_recording(),
+                          'subtitle 6 at 00:00:24:00, "Number 6", appeared 5 frames late')):
+            judged = self.judge(self.write_stl(3), pes)
+            begin = f"Refused: {first}; 9 other subtitles were judged: {end}. Not checked: "
+            self.check(f"{pes}: sentence", judged.verdict.sentence[:len(begin)], begin)
+            self.check(f"{pes}: lines", (judged.verdict.status, judged.printed[-1],
+                                         judged.check_lines[0], judged.lines("undecided: ")),
+                       (1, line, line, [first.replace(" has fault",
+                                                      ", until 00:00:14:10, has fault", 1)]))
+            self.must(f"{pes}: fault 78", "refused 78 Undecided frame 00:00:10:10"
+                      in judged.check_lines, judged.check_lines)
+
+    def test_the_sentence_names_three_refused_subtitles_and_counts_the_others(self) -> None:
         for bad, words, more in (((3, 5), "2 of 10 subtitles have faults: subtitle 3 at ", ""),
                                  (range(2, 6), "4 of 10 subtitles have faults: ", " and 1 more; 6"),
                                  (range(2, 9), "7 of 10 subtitles have ", " and 4 more; 3 other")):
-            printed = self.judge(self.write_stl(*bad), self.pes).verdict.sentence
-            self.must(f"{bad}", words in printed and more in printed and (" more; " in printed) ==
-                      bool(more), printed)
+            sentence = self.judge(self.write_stl(*bad), self.pes).verdict.sentence
+            self.must(f"{bad}", words in sentence and more in sentence and
+                      (" more; " in sentence) == bool(more), sentence)
 
     def test_writes_both_counts_into_all_results(self) -> None:
-        files = {"--json": self.path("x.json"), "--csv": self.path("x.csv"),
-                 "--junit": self.path("x.xml")}
-        judged_pair = self.judge(self.write_stl(3, 7), self.pes, *(
-            word for option in files.items() for word in option))
+        judged = self.judge(self.write_stl(3, 7), self.pes, "--json", self.path("x.json"),
+                            "--csv", self.path("x.csv"), "--junit", self.path("x.xml"))
         known = json.loads(self.read("x.json"))
-        self.must("result", known["subtitle_counts"] == {"judged": 8, "refused": 2} ==
-                  judged_pair.result["subtitle_counts"] and known["fault_count"] == 4, known)
-        self.must("faults", [(item["number"], item["subtitle"] and item["subtitle"]["position"],
-                              item["character"]) for item in known["faults"]] == [
-            (50, 3, "\u0132"), (50, 7, "\u0132"), (78, None, None), (78, None, None)],
-                  known["faults"])
+        for result in (known, judged.result):
+            self.check("result", (result["subtitle_counts"], result["fault_count"]),
+                       ({"judged": 8, "refused": 2}, 4))
+        self.check("faults", [(item["number"], item["subtitle"] and item["subtitle"]["position"],
+                               item["character"]) for item in known["faults"]], [
+            (50, 3, "\u0132"), (50, 7, "\u0132"), (78, None, None), (78, None, None)])
         verdicts = ["wrong" if position in (3, 7) else "right" for position in range(1, 11)]
-        found_verdicts = [item["verdict"] for item in known["subtitles"]]
-        self.check("subtitles", found_verdicts, verdicts)
+        self.check("subtitles", [item["verdict"] for item in known["subtitles"]], verdicts)
         rows = list(csv.DictReader(self.read("x.csv").decode().splitlines()))
-        self.must("table", [item["verdict"] for item in rows] == ["refused", *verdicts], rows)
-        words, case = "8 subtitles judged, 2 refused", tree.fromstring(self.read("x.xml"))
-        self.must("case", words in "".join(case.itertext()))
+        self.check("CSV", [item["verdict"] for item in rows], ["refused", *verdicts])
         row = make_row(known, "one")
-        self.must("collected", words in "".join(format_summary([row])) and
-                  words in make_pair_row(self.folder, row).source)
-        for more, counts in (((self.stl, self.pes, *WORDS), {"judged": 10, "refused": 0}),
-                             ((self.stl,), {"judged": 10, "refused": 0}),
-                             ((self.write_stl(3),), None)):
-            result = judge_files(self, *more).result
-            self.must(f"{more}", result["subtitle_counts"] == counts, result)
-        judged_pair = self.judge(self.write("near.stl", make_stl_of_blocks(self.blocks,
-                                                                           {4: {7: 14}})), self.pes)
-        self.must("overlapped",
-                  [item["verdict"] for item in judged_pair.result["subtitles"]][1:5] ==
-                  ["right", "not known", "wrong", "right"], judged_pair.printed)
+        for name, text in (("JUnit", "".join(tree.fromstring(self.read("x.xml")).itertext())),
+                           ("last lines of a batch", "".join(format_summary([row]))),
+                           ("page of a batch", make_pair_row(self.folder, row).source)):
+            self.must(name, "8 subtitles judged, 2 refused" in text, text)
+
+    def test_counts_no_judged_subtitles_without_a_recording_if_one_is_refused(self) -> None:
+        for words, counts in (((self.stl, self.pes, *WORDS), {"judged": 10, "refused": 0}),
+                              ((self.stl,), {"judged": 10, "refused": 0}),
+                              ((self.write_stl(3),), None)):
+            self.check(f"{words}", judge_files(self, *words).result["subtitle_counts"], counts)
+
+    def test_does_not_know_a_subtitle_before_one_that_overlaps_it(self) -> None:
+        tci_seconds = 7  # offset in a TTI block
+        early = make_stl_of_blocks(self.blocks, {4: {tci_seconds: 14}})  # instead of 16
+        judged = self.judge(self.write("near.stl", early), self.pes)
+        self.check("subtitles 2 to 5", [
+            item["verdict"] for item in judged.result["subtitles"]][1:5],
+            ["right", "not known", "wrong", "right"])
 
     def test_waives_file_faults_and_fault_78_by_number(self) -> None:
-        slow = self.write("slow.pes",
-                          join_pes_packets(make_delay(5, 3600 * 600, 3600 * 650)(self.sent)))
+        late = self.write_late_recording()
         others = "9 other subtitles were judged: all have the right text"
-        for text, pes, word, begin, end in (
+        # Severity file, recording, verdict, and the begin and another part of the sentence.
+        for text, pes, word, begin, more in (
                 (b"50 warning\n78 warning\n", self.pes, "waived", "Waived, since ", others),
                 (b"50 warning\n", self.pes, "refused", "Refused: the expected page is unknown next "
                  "to 1 subtitle with waived faults (fault 78); 9 other ", "; waived: 50 Character"),
                 (b"78 warning\n", self.pes, "refused", "Refused: subtitle 3 at 00:00:12:00 has "
                  "fault 50 ", "; waived: 78 Undecided"),
-                (b"50 warning\n78 warning\n", slow, "refused", "Refused: subtitle ",
+                (b"50 warning\n78 warning\n", late, "refused", "Refused: subtitle ",
                  "; waived: 50 Character and 78 Undecided"),
-                (b"50 warning\n78 warning\n72 warning\n", slow, "waived", "Waived, since ", "late"),
+                (b"50 warning\n78 warning\n72 warning\n", late, "waived", "Waived, since ", "late"),
                 (b"others warning\n", self.pes, "waived", "Waived, since ", others)):
-            judged_pair = self.judge(self.write_stl(3), pes, "--severity",
-                                     self.write("severity", text))
-            self.must(f"{text!r} {pes}", judged_pair.timed_verdict == word, judged_pair.printed)
-            self.must(f"{text!r} {pes}: each", {
-                (item["number"], item["severity"]) for item in judged_pair.result["faults"]} >= {
-                    (50, "error" if text[:2] == b"78" else "warning")},
-                      judged_pair.result["faults"])
-            sentence = judged_pair.verdict.sentence
-            self.must(f"{text!r} {pes}: said", sentence.startswith(begin) and end in sentence and
-                      (text[:2] != b"50" or word == "waived" or "has fault 50" not in sentence),
+            judged = self.judge(self.write_stl(3), pes, "--severity", self.write("severity", text))
+            self.check(f"{text!r} {pes}", judged.timed_verdict, word)
+            severity = "error" if text.startswith(b"78") else "warning"
+            self.check(f"{text!r} {pes}: fault 50", {
+                item["severity"] for item in judged.result["faults"] if item["number"] == 50},
+                {severity})
+            sentence = judged.verdict.sentence
+            self.must(f"{text!r} {pes}: sentence", sentence.startswith(begin) and more in sentence
+                      and (text[:2] != b"50" or word == "waived" or "has fault 50" not in sentence),
                       sentence)
+
+    def test_does_not_judge_waived_subtitles_if_no_pes_packet_can_be_read(self) -> None:
         unread = self.write("unread.pes", b"".join(
             damage_packet(item, 33) for item in packets(self.read("one.pes"))))
-        judged_pair = self.judge(self.write_stl(3), unread, "--severity",
-                                 self.write("severity", b"others warning\n"))
-        self.must("nothing was read", judged_pair.timed_verdict == "not judged" and
-                  judged_pair.verdict.unjudged_reason == UNREAD, judged_pair.printed)
+        judged = self.judge(self.write_stl(3), unread, "--severity",
+                            self.write("severity", b"others warning\n"))
+        self.check("verdict", (judged.timed_verdict, judged.verdict.unjudged_reason),
+                   ("not judged", UNREAD))
 
     def test_ignores_refused_subtitles_outside_the_range(self) -> None:
-        for words, word, counts in (
+        """Subtitle 3, at 00:00:12:00, is refused."""
+        for words, verdict, counts in (
                 (("--from", "00:00:20:00"), "accepted", (6, 0)),
                 (("--to", "00:00:12:00"), "accepted", (2, 0)),
                 (("--to", "00:00:24:00"), "refused", (4, 1)),
                 (("--from", "00:00:20:00", "--to", "00:00:10:00"), "not judged", None)):
-            result = self.judge(self.write_stl(3), self.pes, *words)
-            self.check(f"{words}", (result.timed_verdict, result.verdict.subtitle_counts),
-                       (word, counts and SubtitleCounts(*counts)))
-        self.must("none is left", " has no subtitle with a TCI at " in
-                  result.stderr[0], result.stderr)
+            judged = self.judge(self.write_stl(3), self.pes, *words)
+            self.check(f"{words}", (judged.timed_verdict, judged.verdict.subtitle_counts),
+                       (verdict, counts and SubtitleCounts(*counts)))
+        self.must("the reason", " has no subtitle with a TCI at " in judged.stderr[0],
+                  judged.stderr)
 
     def test_judges_each_part_with_refused_subtitles(self) -> None:
-        two = [(pts + 3600 * 500 * (pts >= 3600 * 480), packets) for pts, packets in self.sent]
-        kept = [(pts, [KEEPING_HEADER, *packets[1:]] if at in (2, 40) else packets)
-                for at, (pts, packets) in enumerate(two)]
-        for bad, sent, printed in (((7,), two, "all have the right text"),
-                                   ((2, 7), two, "all have the right text"),
-                                   ((2, 7), kept, " headers; 2 faults in all.")):
-            judged_pair = judge_files(self, self.write_stl(*bad),
-                                      self.write("two.pes", join_pes_packets(sent)),
-                                      "--breaks",
-                                      "1", "--every", "100")
-            self.must(f"{bad} {printed}", judged_pair.timed_verdict == "refused"
-                      and printed in judged_pair.verdict.sentence
-                      and len(judged_pair.result["parts"]) == 2 and
-                      judged_pair.verdict.subtitle_counts == SubtitleCounts(10 - len(bad),
-                                                                            len(bad)),
-                      judged_pair.printed)
+        """A break of 500 frames before subtitle 5 divides the recording into two parts."""
+        two = [(pts + TICKS * 500 * (pts >= TICKS * 480), packets) for pts, packets in self.sent]
+        keeping = [(pts, [KEEPING_HEADER, *packets[1:]] if at in (2, 40) else packets)
+                   for at, (pts, packets) in enumerate(two)]  # a header in each part
+        for bad, sent, words in (((7,), two, "all have the right text"),
+                                 ((2, 7), two, "all have the right text"),
+                                 ((2, 7), keeping, " headers; 2 faults in all.")):
+            recording = self.write("two.pes", join_pes_packets(sent))
+            judged = judge_files(self, self.write_stl(*bad), recording, "--breaks", "1",
+                                 "--every", "100")
+            self.check(f"{bad} {words}", (judged.timed_verdict, len(judged.result["parts"]),
+                                          judged.verdict.subtitle_counts),
+                       ("refused", 2, SubtitleCounts(10 - len(bad), len(bad))))
+            self.must(f"{bad} {words}: sentence", words in judged.verdict.sentence,
+                      judged.verdict.sentence)
 
     def test_draws_the_judged_subtitles_by_a_layout(self) -> None:
         self.blocks = [(begin, end, b"N\xc8umber %d" % number)
@@ -195,47 +207,55 @@ class RefusedSubtitles(Case):
         words = "--layout", "row=-2", "--option", "german"
         self.schedule(self.write_stl(), "house.pes", "--every", "25", *words)
         others = "13 other subtitles were judged: "
-        for bad, by, printed in (
+        # The refused subtitle, the frames by which subtitle 6 is late, and a part of the sentence.
+        for bad, by, sentence in (
                 ((), 0, ""), ((3,), 0, f"{others}all have the right text from the first"),
-                ((3,), 5, f'{others}subtitle 6 at 00:00:24:00, "Nümber 6", appeared 5 frames '
+                ((3,), 5, f'{others}subtitle 6 at 00:00:24:00, "N\u00fcmber 6", appeared 5 frames '
                           'late')):
-            def shift_late_pts(_: int, pts: int, by: int = by) -> int:
-                return pts + 3600 * by * (pts == 3600 * 600)
+            def delay_subtitle_6(_: int, pts: int, by: int = by) -> int:
+                return pts + TICKS * by * (pts == TICKS * 600)
 
-            path = self.write("one.pes", replace_pts(self.read("house.pes"), shift_late_pts))
-            result = self.judge(self.write_stl(*bad), path, *words)
-            self.must(f"{bad} {by}", result.timed_verdict == ("refused" if bad else "accepted") and
-                      printed in result.verdict.sentence and
-                      " --layout " in result.lines("+ ")[-1], result.printed)
+            path = self.write("one.pes", replace_pts(self.read("house.pes"), delay_subtitle_6))
+            judged = self.judge(self.write_stl(*bad), path, *words)
+            self.must(f"{bad} {by}", judged.timed_verdict == ("refused" if bad else "accepted") and
+                      sentence in judged.verdict.sentence and
+                      " --layout " in judged.lines("+ ")[-1], judged.printed)
 
-    def test_notes_why_other_subtitles_are_not_judged(self) -> None:
+    def test_notes_that_other_subtitles_are_not_judged_with_an_empty_recording(self) -> None:
         empty = self.write("empty.pes", b"")
-        judged_pair = judge_files(self, self.write_stl(3), empty, *WORDS)
-        self.must("refused", judged_pair.timed_verdict == "refused" and judged_pair.check_lines == [
-            "refused 50 Character block 3 at 0", "1 faults"] and
-            judged_pair.result["subtitle_counts"] is None and
-            f"the other subtitles were not judged: {empty} is empty" in judged_pair.verdict.notes
-                  and
-            " (block 3), the national option " in judged_pair.verdict.sentence, judged_pair.printed)
-        odd, mild = bytearray(self.read("good.stl")), self.write("severity", b"others warning\n")
+        judged = self.judge(self.write_stl(3), empty)
+        self.check("verdict", (judged.timed_verdict, judged.check_lines,
+                               judged.result["subtitle_counts"]), (
+            "refused", ["refused 50 Character block 3 at 0", "1 faults"], None))
+        self.must("note", f"the other subtitles were not judged: {empty} is empty"
+                  in judged.verdict.notes, judged.verdict.notes)
+        self.must("sentence", " (block 3), the national option " in judged.verdict.sentence,
+                  judged.verdict.sentence)
+
+    def test_does_not_waive_a_pair_of_which_nothing_was_read(self) -> None:
+        empty, mild = self.write("empty.pes", b""), self.write("mild", b"others warning\n")
+        odd = bytearray(self.read("good.stl"))
         odd[11:12] = b"7"  # with an invalid DSC, all subtitles are refused
-        rows: list[tuple[str, list[str], str]] = [
-            (self.write_stl(3), [empty], "not judged"), (self.write_stl(3), [], "waived"),
-            (self.write("odd.stl", bytes(odd)), [self.pes], "refused"),
-            (self.path("odd.stl"), [], "refused")]
-        for stl, more, word in rows:
-            judged_pair = judge_files(self, stl, *more, *WORDS, "--severity", mild)
-            self.must(f"named warnings {stl} {more}", judged_pair.timed_verdict == word and
-                      judged_pair.verdict.unjudged_reason == (UNREAD if word == "not judged"
-                                                              else None),
-                      judged_pair.printed)
-        for stl, when in ((self.write_stl(3), "check*--pes*--all*"), (self.stl, "show*")):
-            judged_pair = judge_files(self, stl, self.pes, *WORDS,
-                                      program=self.make_program_with_exception(when, "exit 9"))
-            self.check(f"{when}: not answered", judged_pair.timed_verdict, "not judged")
+        rows: list[tuple[str, list[str], str, str | None]] = [
+            (self.write_stl(3), [empty], "not judged", UNREAD),
+            (self.write_stl(3), [], "waived", None),
+            (self.write("odd.stl", bytes(odd)), [self.pes], "refused", None),
+            (self.path("odd.stl"), [], "refused", None)]
+        for stl, recording, verdict, reason in rows:
+            judged = self.judge(stl, *recording, "--severity", mild)
+            self.check(f"{stl} {recording}", (
+                judged.timed_verdict, judged.verdict.unjudged_reason), (verdict, reason))
+
+    def test_is_not_judged_if_the_program_fails(self) -> None:
+        for stl, call in ((self.write_stl(3), "check*--pes*--all*"), (self.stl, "show*")):
+            judged = judge_files(self, stl, self.pes, *WORDS,
+                                 program=self.make_program_with_exception(call, "exit 9"))
+            self.check(call, judged.timed_verdict, "not judged")
+
+    def test_is_not_judged_after_a_bug_of_qc(self) -> None:
         with mock.patch("subtitles.judging.pair.find_parts", side_effect=ValueError):
-            judged_pair = judge_files(self, self.write_stl(3), self.pes, *WORDS)
-        self.must("a mistake", judged_pair.timed_verdict == "not judged", judged_pair.printed)
+            judged = self.judge(self.write_stl(3), self.pes)
+        self.check("verdict", judged.timed_verdict, "not judged")
 
     def test_looks_for_each_character_once(self) -> None:
         bad = range(19, 800, 19)
@@ -243,10 +263,11 @@ class RefusedSubtitles(Case):
             (200 * at, 200 * at + 100, BAD if at in bad else b"Number %d" % at)
             for at in range(1, 801)])))
         faults = [parse_single_fault(f"refused 50 Character block {at} at 0") for at in bad]
-        with mock.patch.object(subtitles, "has_characters", side_effect=has_characters) as request:
+        with mock.patch.object(subtitles, "has_characters", side_effect=has_characters) as search:
             result = find_valid_subtitles(file, faults, "english")
-        self.must("once", len(result.judged) == 758 and request.call_count <= 759 * len(OPTIONS),
-                  request.call_count)
+        self.check("judged", len(result.judged), 758)
+        self.must("once for each option", search.call_count <= 759 * len(OPTIONS),
+                  search.call_count)
 
 
 class ExpectedPages(unittest.TestCase):
