@@ -48,64 +48,78 @@ from .parts import make_example_request
 from .transmissions import PAGE
 
 
-def said(warned: Iterable[Notice]) -> list[tuple[str, str, str | None]]:
-    return [(item.kind, item.line, item.time) for item in warned]
+def list_notices(notices: Iterable[Notice]) -> list[tuple[str, str, str | None]]:
+    return [(item.kind, item.line, item.time) for item in notices]
 
 
 class PartClocks(unittest.TestCase):
     def test_uses_parts_only_with_a_clear_origin(self) -> None:
-        whole = TimedPart(3, 9, Clock(7, GIVEN))
-        self.assertEqual(list_timed_parts(OriginEstimate(1, [PartOrigin(5)]), whole), [])
-        reported = Selection("origin", "5", "clock: 3 of 4", 3, 4)
-        self.assertEqual(list_timed_parts(OriginEstimate(0, [PartOrigin(5, (1, 2), None, 3, 4,
-                                                                        "3 of 4")]),
-                                          whole),
-                         [TimedPart(3, 9, Clock(5, RECORDING, evidence=reported), (1, 2))])
+        whole = TimedPart(begin=3, end=9, clock=Clock(7, GIVEN))
+        origin = PartOrigin(5, packets=(1, 2), matches=3, total=4, line="3 of 4")
+        self.assertEqual(list_timed_parts(OriginEstimate(1, [origin]), whole), [])
+        evidence = Selection("origin", "5", "clock: 3 of 4", 3, 4)
+        self.assertEqual(list_timed_parts(OriginEstimate(0, [origin]), whole),
+                         [TimedPart(3, 9, Clock(5, RECORDING, evidence=evidence), (1, 2))])
 
-    def test_searches_with_all_requested_options(self) -> None:
-        request = make_example_request("a.stl", "a.pes",
-                                       *"--page 150 --option german --within 3 --breaks 2 "
-                          "--every 30 --from 00:00:01:00 --late 0:9,3:1/0:12".split())
-        programme = PartSearch(request, TimedPart(3, 9, Clock(7, GIVEN)), (2, 8), frozenset({4}))
-        recording: Any = SimpleNamespace(packets="packets", display_name="name",
-                                         has_picture=lambda: True)
-        with mock.patch.object(timing, "estimate_origin", return_value=OriginEstimate(0)) as sought:
-            report_estimated_origin(programme, recording, Clock(5, GIVEN), mock.Mock())
-        self.assertEqual(sought.call_args.args, (OriginSearch(
-            request.stl_path, "name", (1, 0x50), "german", 5, 3, 2, (2, 8), request.between,
-            frozenset({4}), request.late, True), "packets"))
-        with mock.patch.object(timing, "find_range") as cut:
+    def make_search(self) -> tuple[PartSearch, Any]:
+        """Return a search in the PES packets 2 to 8 for subtitles in the frames 3 to 9, with an
+        origin of 7 and without the subtitle at position 4; and a recording."""
+        request = make_example_request(
+            "a.stl", "a.pes", *"--page 150 --option german --within 3 --breaks 2 --every 30 "
+            "--from 00:00:01:00 --late 0:9,3:1/0:12".split())
+        return (PartSearch(request, TimedPart(3, 9, Clock(7, GIVEN)), (2, 8), frozenset({4})),
+                SimpleNamespace(packets="packets", display_name="name", has_picture=lambda: True))
+
+    def test_estimates_the_origin_with_all_requested_options(self) -> None:
+        search, recording = self.make_search()
+        request = search.request
+        with mock.patch.object(timing, "estimate_origin", return_value=OriginEstimate(0)) as called:
+            report_estimated_origin(search, recording, Clock(5, GIVEN), mock.Mock())
+        self.assertEqual(called.call_args.args, (OriginSearch(
+            request.stl_path, "name", page=(1, 0x50), option="german", origin=5, within=3, breaks=2,
+            inside=(2, 8), between=request.between, left_out=frozenset({4}), lateness=request.late,
+            has_picture=True), "packets"))
+
+    def test_finds_pes_packets_with_the_repeat_limit_and_the_range_of_the_part(self) -> None:
+        search, recording = self.make_search()
+        with mock.patch.object(timing, "find_range") as called:
+            # PES packets of the part, those to search, its first TCI, and whether the first
+            # judged subtitle continues another one with the same text.
             for packets, inside, begin, is_continued in (
                     (None, (2, 8), 3, False), ((4, 5), (4, 5), 3, False), (None, (2, 8), 3, True),
-                    (None, (2, 8), 5, True)):  # the part begins after the recording's first frame
-                part = programme.full_range._replace(packets=packets, begin=begin)
-                find_subtitle_packets(programme._replace(is_continued=is_continued), recording,
-                                      part, 6)
-                self.assertEqual(cut.call_args.args, (
+                    (None, (2, 8), 5, True)):  # the part begins after the first judged subtitle
+                part = search.full_range._replace(packets=packets, begin=begin)
+                find_subtitle_packets(search._replace(is_continued=is_continued), recording,
+                                      part, within=6)
+                self.assertEqual(called.call_args.args, (
                     "packets", begin, 9, 7, 30, 6, inside, is_continued and begin == 3))
 
-    def test_reports_where_a_video_departs_from_the_subtitles(self) -> None:
-        away, unclear = (Departure(TICKS * 50, TICKS * 49, 5 * TICKS),
-                         Departure(TICKS * 60, TICKS * 59, None))
-        before, behind = (Departure(TICKS * 5, TICKS * 4, 2 * TICKS),
-                          Departure(TICKS * 101, TICKS * 100, None))
-        known: dict[int, Any] = {1: [before], 2: [away, unclear, behind], 3: [away], 4: [away]}
-        leads = {(9, video): several for video, several in known.items()}
+    def test_reports_where_a_video_drifts_from_the_subtitles(self) -> None:
+        """The Teletext PID 9 is in two programmes, with the video PIDs 1 and 2, and 3, but not 4.
+        Frames 10 to 100 are judged. An earlier drift is a fault if the clock is the first picture's
+        time code; an unclear drift is not checked, and a later one does not matter."""
+        drift, unclear, earlier, later = (
+            Departure(TICKS * frame, TICKS * (frame - 1), ticks) for frame, ticks in (
+                (50, 5 * TICKS), (60, None), (5, 2 * TICKS), (101, None)))
+        departures = {1: [earlier], 2: [drift, unclear, later], 3: [drift], 4: [drift]}
         survey: Any = SimpleNamespace(
-            leads=leads, get_packets=Survey().get_packets, find_programmes=lambda pid: [
+            leads={(9, video): several for video, several in departures.items()},
+            get_packets=Survey().get_packets, find_programmes=lambda pid: [
                 SimpleNamespace(kinds={pid: 6, 1: 2, 2: 2}),
                 SimpleNamespace(kinds={pid: 6, 3: 27})])
         with mock.patch.object(desync, "locate_video_departures",
                                lambda survey, video, several, *args: several):
             for source, count in ((GIVEN, 2), (RECORDING, 2), (START, 3), (TCP, 3)):
-                found = desync.find_desync(survey, 9, TimedPart(10, 100, Clock(0, source)), 0, 7)
+                found = desync.find_desync(survey, 9, TimedPart(10, 100, Clock(0, source)),
+                                           within=0, number=7)
                 self.assertEqual([fault.part for fault in found.faults], [7] * count, source)
-                self.assertEqual([" decoding times jump" in text
-                                  for text in summarize_pictures(found.unchecked)], [True],
-                                 (source, count))
+                self.assertEqual([" decoding times jump" in text for text in summarize_pictures(
+                    found.unchecked)], [True], source)
 
     def test_subtitles_on_time_show_that_the_teletext_clock_did_not_jump(self) -> None:
         subtitle: Any = SimpleNamespace(begin=10, end=20)
+        # qc or tools/read, whether the part is refused, --within, --late, and the PTS of the cues
+        # that were sent in time.
         rows: list[tuple[Any, bool, int, str | None, list[int]]] = [
             (PairJudge, False, 0, None, [5 + 10 * TICKS, 5 + 20 * TICKS]),
             (PairJudge, True, 0, None, []), (PairJudge, False, 2, None, []),
@@ -118,9 +132,12 @@ class PartClocks(unittest.TestCase):
             self.assertEqual(changes, expected, (judge, is_refused, within, late))
 
 
+FIRST_BLOCK = make_subtitle_blocks(1, 25, 45, 20, 2, b"a")
+
+
 class Notices(Case):
     def test_warns_of_clock_jumps_in_the_judged_range(self) -> None:
-        for origin in (0, CLOCK - 15 * TICKS):
+        for origin in (0, CLOCK - 15 * TICKS):  # with the second, the PTS wrap in the range
             jumps = [ClockJump(None, 90_000), *(ClockJump((origin + TICKS * frame) % CLOCK, ticks)
                                                 for frame, ticks in (
                      (-1, 1), (0, 90_000), (15, -90_000), (20, 8_640_000), (21, 5)))]
@@ -132,6 +149,8 @@ class Notices(Case):
                 ("clock_jump", "00:00:00:00", "the clock jumps by 1.00 s"),
                 ("clock_jump", "00:00:00:15", "the clock jumps back by 1.00 s"),
                 ("clock_jump", "00:00:00:20", "the clock jumps by 0:01:36")], origin)
+
+    def test_formats_durations_of_a_minute_or_more_with_hours_and_minutes(self) -> None:
         for ticks, words in ((0, "0.00 s"), (45_000, "0.50 s"), (59 * 90_000, "59.00 s"),
                              (60 * 90_000, "0:01:00"), (3599 * 90_000, "0:59:59"),
                              (8641 * 90_000, "2:24:01")):
@@ -155,31 +174,40 @@ class Notices(Case):
         for pages, words in of_pages:
             listing: Any = SimpleNamespace(find_programmes=lambda pid: [
                 SimpleNamespace(pages={0x101: some, 0x102: [other]}) for some in pages])
-            result = said(find_pmt_notices(listing, 0x101, request))
+            result = list_notices(find_pmt_notices(listing, 0x101, request))
             self.assertEqual([kind for kind, *_ in result], ["page"] * bool(words), pages)
             self.assertTrue(not result or result[0][1].endswith(words), result)
 
-    def test_warns_of_wrong_counts_in_the_gsi_block(self) -> None:
-        blocks = [make_subtitle_blocks(at, 25 * at, 25 * at + 20, 20, 2, b"a") for at in (1, 2)]
-        for told_blocks, told_subtitles in itertools.product(range(4), repeat=2):
-            data = make_gsi_block(b"", told_blocks, told_subtitles) + b"".join(blocks)
-            result = said(find_count_notices(SubtitleFile(self.write("one.stl", data))))
-            kinds = ["blocks"] * (told_blocks != 2) + ["subtitles"] * (told_subtitles != 2)
-            self.assertEqual([item[0] for item in result], kinds, (told_blocks, told_subtitles))
-            for _, line, _ in result:
-                self.assertTrue("there are 2" in line, line)
-        data = make_gsi_block(b"", 1, 1)[:238] + b"  x  00000" + make_gsi_block(b"", 1, 1)[248:]
-        self.assertEqual([item[:2] for item in said(find_count_notices(SubtitleFile(self.write(
-            "one.stl", data + blocks[0]))))], [
-                ("subtitles", "the GSI block counts 0 subtitles (TNS), but there is 1: is the "
-                 "subtitle file complete?")])
-        self.assertEqual([format_presence(item) for item in (0, 1, 2, 1234)],
-                         ["there are 0", "there is 1", "there are 2", "there are 1,234"])
+    def list_count_notices(self, data: bytes) -> list[tuple[str, str]]:
+        """Return the kind and text of the warnings about the counts in a subtitle file."""
+        file = SubtitleFile(self.write("one.stl", data))
+        return [(kind, line) for kind, line, _ in list_notices(find_count_notices(file))]
+
+    def test_warns_of_wrong_counts_of_blocks_and_subtitles_in_the_gsi_block(self) -> None:
+        data = b"".join(make_subtitle_blocks(at, 25 * at, 25 * at + 20, 20, 2, b"a")
+                        for at in (1, 2))
+        for counts in itertools.product(range(4), repeat=2):
+            result = self.list_count_notices(make_gsi_block(b"", *counts) + data)
+            self.assertEqual([(kind, "there are 2" in line) for kind, line in result],
+                             [(kind, True) for kind, count in zip(("blocks", "subtitles"), counts)
+                              if count != 2], counts)
+
+    def test_warns_of_a_readable_wrong_count_beside_an_unreadable_one(self) -> None:
+        gsi = make_gsi_block(b"", 1, 1)
+        gsi = gsi[:238] + b"  x  00000" + gsi[248:]  # the number of blocks, and of subtitles
+        self.assertEqual(self.list_count_notices(gsi + FIRST_BLOCK), [
+            ("subtitles", "the GSI block counts 0 subtitles (TNS), but there is 1: is the subtitle "
+             "file complete?")])
+
+    def test_a_comment_may_be_counted_as_a_subtitle(self) -> None:
         comment = make_tti_block(2, 30, 40, 20, 2, b"", comment=1)
         for count in (1, 2):
-            data = make_gsi_block(b"", 2, count) + blocks[0] + comment
-            self.assertEqual(said(find_count_notices(SubtitleFile(self.write("one.stl", data)))),
-                             [], count)
+            self.assertEqual(self.list_count_notices(
+                make_gsi_block(b"", 2, count) + FIRST_BLOCK + comment), [], count)
+
+    def test_formats_a_count_with_the_right_verb(self) -> None:
+        self.assertEqual([format_presence(item) for item in (0, 1, 2, 1234)],
+                         ["there are 0", "there is 1", "there are 2", "there are 1,234"])
 
     def test_warns_of_pauses_in_a_regular_stream(self) -> None:
         def pauses(frames: Sequence[int], origin: int = 0) -> list[tuple[str, str | None]]:
@@ -206,6 +234,7 @@ class Notices(Case):
             return [repeat_notice.line
                     for repeat_notice in find_repeat_notices(headers, request, 0, [(0, 599)])]
 
+        # The frames between headers, --every, and a part of the warning.
         for step, every, words in ((25, 51, "25 frames: give --every 25 "), (25, 50, ""),
                                    (25, 25, ""), (1, 3, "frame: give --every 1 "), (1, 2, ""),
                                    (2, 5, "2 frames")):
@@ -216,17 +245,19 @@ class Notices(Case):
 
 class FrameGrids(Case):
     def test_measures_how_far_pts_are_off_their_frames(self) -> None:
+        # The ticks by which each PTS is after the start of its frame, and the largest distance to
+        # the nearest frame. A frame lasts 3600 ticks.
+        rows: list[tuple[list[int], int]] = [
+            ([0, 0], 0), ([1, 0], 1), ([0, -1], 1), ([1799, 0], 1799), ([1800, 5], 1800),
+            ([1801], 1799), ([-1799, 3], 1799), ([], 0), ([7, -9, 8], 9)]
         for origin in (0, CLOCK - 3 * TICKS):
-            of_offs: list[tuple[list[int], int]] = [
-                ([0, 0], 0), ([1, 0], 1), ([0, -1], 1), ([1799, 0], 1799), ([1800, 5], 1800),
-                ([1801], 1799), ([-1799, 3], 1799), ([], 0), ([7, -9, 8], 9)]
-            for offs, most in of_offs:
+            for offsets, largest in rows:
                 for hours in (0, 1, 13, 14, 23):  # 2^32 ticks last 13 h 15 min
-                    several = [(origin + TICKS * (90_000 * hours + 5 + at) + off) % CLOCK
-                               for at, off in enumerate(offs)]
-                    self.assertEqual(find_largest_offset(several, origin), most, (offs, hours))
+                    pts = [(origin + TICKS * (90_000 * hours + 5 + at) + offset) % CLOCK
+                           for at, offset in enumerate(offsets)]
+                    self.assertEqual(find_largest_offset(pts, origin), largest, (offsets, hours))
 
-    def test_reads_start_times(self) -> None:
+    def test_reads_the_start_time_from_tcp_in_the_gsi_block(self) -> None:
         for code, frame in ((b"00000000", 0), (b"10000001", 900_001), (b"23595924", 2_159_999),
                             (b"24000000", None), (b"        ", None), (b"1000000 ", None),
                             (b"100000\xb90", None), (b"00000025", None)):
@@ -238,11 +269,15 @@ class FrameGrids(Case):
             except Unclear:
                 result = None
             self.assertEqual(result, frame, code)
-        request = make_example_request(stl, "one.ts", "--start", "10:00:00:01")
-        self.assertEqual(read_start_frame(request), 900_001)
-        short = make_example_request(self.write("two.stl", data[:260]), "one.ts", "--start", "tcp")
+
+    def test_reads_no_start_time_from_a_file_that_ends_within_tcp(self) -> None:
+        short = self.write("two.stl", make_gsi_block(b"", 0, 0)[:260])
         with self.assertRaises(Unclear):
-            read_start_frame(short)
+            read_start_frame(make_example_request(short, "one.ts", "--start", "tcp"))
+
+    def test_reads_a_given_start_time(self) -> None:
+        request = make_example_request("one.stl", "one.ts", "--start", "10:00:00:01")
+        self.assertEqual(read_start_frame(request), 900_001)
 
 
 def make_page_with_rows(*rows: tuple[int, bytes]) -> tuple[bytes, ...]:
@@ -258,24 +293,24 @@ class NamesOfFiles(Case):
             names = OutputNames("one", self.folder, out)
             for item, name in ((names, "one"), (names.make_part_paths(2), "one.2")):
                 typed = os.path.join(out or "", name)
-                self.check(f"{out} {name}: typed", item.report_path, f"{typed}.html")
-                self.check(f"{out} {name}: here", (item.recording_path, item.list_path),
-                           (os.path.join(self.folder, f"{name}.recording"),
-                            os.path.join(self.folder, f"{name}.txt")))
-                self.must(f"{out} {name}: object", item.json_path == (f"{typed}.json" if out else
-                                                                   None))
+                temporary = os.path.join(self.folder, name)
+                self.check(f"{out} {name}", (
+                    item.report_path, item.json_path, item.recording_path, item.list_path), (
+                    f"{typed}.html", f"{typed}.json" if out else None, f"{temporary}.recording",
+                    f"{temporary}.txt"))
 
-    def test_gives_no_two_results_the_same_name(self) -> None:
-        of_names = {"film": "film", "film.1": "film%2E1", "film.12": "film%2E12",
+    def test_names_results_by_subtitle_files_with_reserved_characters_encoded(self) -> None:
+        names = {"film": "film", "film.1": "film%2E1", "film.12": "film%2E12",
                     "film~12": "film%7E12", "line 12": "line%2012", "film.v2": "film.v2",
                     "index": "%69ndex", "state": "%73tate", "index.1": "index%2E1",
                     ".film": "%2Efilm", "film~2": "film%7E2", "50%": "50%25",
                     "caf\udce9": "caf%E9", "caf%E9": "caf%25E9", "caf\\xe9": "caf\\xe9",
                     "a\x1b\n": "a%1B%0A", "line 5": "line%205", "line 5 ": "line 5 ", "-a": "-a",
                     "a\u202eb": "a%E2%80%AEb", "": "%", "%": "%25", "Index": "Index"}
-        for stem, name in of_names.items():
-            self.must(f"{stem!r}", make_pair_name(f"a/{stem}.stl" if stem else "") == name,
-                      make_pair_name(f"a/{stem}.stl"))
+        for stem, name in names.items():
+            self.check(f"{stem!r}", make_pair_name(f"a/{stem}.stl" if stem else ""), name)
+
+    def test_gives_no_two_results_the_same_name(self) -> None:
         chance, seen = random.Random(94), dict[str, object]()
         for _ in range(20_000):
             stem = "".join(chance.choice(["a", "1", ".", "~", "%", "2", "index", "line ", "\udce9",
@@ -288,13 +323,15 @@ class NamesOfFiles(Case):
                              or re.fullmatch("line [0-9]+(~[0-9]+)?", name)
                              or name[0] == "." or len(os.fsencode(f".{name}.recording.pes")) > 255,
                              name)
+    def test_numbers_results_of_a_list_with_the_same_name(self) -> None:
         names = ListNames()
-        self.must("of a list", [names.name_pair(item) for item in (
-            "a.stl", "b/a.stl", "a~2.stl", "b.stl", "a.STL")] == ["a", "a~2", "a%7E2", "b", "a~3"])
-        self.check("of lines", [names.make_line_name(item) for item in (2, 3, 2)],
+        self.check("pairs", [names.name_pair(item) for item in (
+            "a.stl", "b/a.stl", "a~2.stl", "b.stl", "a.STL")], ["a", "a~2", "a%7E2", "b", "a~3"])
+        self.check("lines", [names.make_line_name(item) for item in (2, 3, 2)],
                    ["line 2", "line 3", "line 2~2"])
 
     def test_finds_the_files_of_an_earlier_call(self) -> None:
+        """The folder has files of the pair `one`, also of its parts 1 to 12, and other files."""
         out = self.path("out")
         os.mkdir(out)
         own = ["one.1.txt", "one.12.cut.pes", "one.3.txt", "one.9.html", "one.5.html"]
@@ -304,23 +341,24 @@ class NamesOfFiles(Case):
         for name in [*own, *others]:
             with open(os.path.join(out, name), "wb"):
                 pass
-        result = [os.path.basename(path) for path in list_pair_files(out, "one")]
-        self.must("own", sorted(result) == sorted([*own, "one.cut.pes", "one.recording.pes",
-                                                   "one.recording.ts", "one.midnight.copy",
-                                                   "one.txt", "one.html", "one.json"]), result)
+        possible = ["one.cut.pes", "one.recording.pes", "one.recording.ts", "one.midnight.copy",
+                    "one.txt", "one.html", "one.json"]  # listed even if they do not exist
+        self.check("own", sorted(map(os.path.basename, list_pair_files(out, "one"))),
+                   sorted([*own, *possible]))
         for name in ("a[1]", "a*", "a?"):
             path = self.write(f"out/{name}.1.txt", b"")
             kept = list_pair_files(out, name)
             self.must(name, path in kept and os.path.join(out, "one.1.txt") not in kept, kept)
-        self.check("no folder", len(list_pair_files(self.path("none"), "one")), 7)
+        self.check("no folder", len(list_pair_files(self.path("none"), "one")), len(possible))
 
     def test_replaces_options_in_the_printed_call(self) -> None:
         typed = CommandPaths("tools/qc", self.bench.program)
-        call = "tools/qc one.stl one.ts --page 150 --every 50 --option german --origin 7 " \
-            "--no-complete --pid 0x101 --breaks 1 --pes 2-9 --within 2"
-        request = make_example_request("one.stl", "one.ts", *(
-            "--within 2 --pes 2-9 --page 150 --every 50 --no-complete --pid 0x101 --origin 7 "
-            "--breaks 1 --option german").split())
+        options = "--page 150 --every 50 --option german --origin 7 --no-complete --pid 0x101 " \
+            "--breaks 1 --pes 2-9 --within 2"
+        call = f"tools/qc one.stl one.ts {options}"
+        given = "--within 2 --pes 2-9 --page 150 --every 50 --no-complete --pid 0x101 --origin 7 " \
+            "--breaks 1 --option german"  # the same in another order
+        request = make_example_request("one.stl", "one.ts", *given.split())
         self.check("all options", make_command(request, typed), call)
         for old, new in (("--page 150", "--page P"), ("--origin 7", "--origin T"),
                          ("--breaks 1", "--breaks 0"), ("--within 2", "--within 5"),
@@ -337,72 +375,94 @@ class NamesOfFiles(Case):
 
 class RecordingKinds(Case):
     def test_recognises_a_recording_by_its_first_bytes(self) -> None:
-        for data, is_one in (
-                (make_pes_packet(0, []), True), (make_pes_packet(0, [])[:4], True),
-            (b"G" * 400, True),
-                (make_gsi_block(b"", 0, 0), False), (b"\0\0\1\xbdG" + b"\0" * 300, True),
-                (b"\0\0\1\xe0" + b"\0" * 99, False), (b"\0\0\1", False), (b"abcd" * 99, False),
-                (b"", False), (b"G" + b"\0" * 187 + b"G" + b"\0" * 99, True),
-                (b"G" + b"\0" * 203 + b"G" + b"\0" * 99, True),
-                (b"timeG" + b"\0" * 191 + b"G" + b"\0" * 99, True),
-                (b"G" + b"\0" * 188 + b"G" + b"\0" * 99, False)):
-            self.check(f"{data[:6]!r}", is_recording(self.write("one", data)), is_one)
+        rows: dict[str, tuple[bytes, bool]] = {  # "G" is the sync byte of TS packets
+            "a PES packet": (make_pes_packet(0, []), True),
+            "its start code": (make_pes_packet(0, [])[:4], True),
+            "sync bytes alone": (b"G" * 400, True),
+            "a subtitle file": (make_gsi_block(b"", 0, 0), False),
+            "a start code, then a sync byte": (b"\0\0\1\xbdG" + b"\0" * 300, True),
+            "the start code of video": (b"\0\0\1\xe0" + b"\0" * 99, False),
+            "a part of a start code": (b"\0\0\1", False), "text": (b"abcd" * 99, False),
+            "no byte": (b"", False),
+            "188 bytes": (b"G" + b"\0" * 187 + b"G" + b"\0" * 99, True),
+            "204 bytes": (b"G" + b"\0" * 203 + b"G" + b"\0" * 99, True),
+            "192 bytes": (b"timeG" + b"\0" * 191 + b"G" + b"\0" * 99, True),
+            "189 bytes": (b"G" + b"\0" * 188 + b"G" + b"\0" * 99, False)}
+        for name, (data, expected) in rows.items():
+            self.check(name, is_recording(self.write("one", data)), expected)
+
+
+ONE, OTHER_ONE = b"\x0b\x0bHello", b"\x03\x0b\x0bHello"  # in white and in yellow
+OWN = make_page_with_rows((20, ONE), (22, b"  two"))
 
 
 class PageDifferences(Case):
-    ONE, TWO = b"\x0b\x0bHello", b"\x03\x0b\x0bHello"
+    """The expected page `OWN` has the rows 20 and 22; another page was sent instead."""
 
-    def test_names_the_first_difference_of_two_pages(self) -> None:
-        own = make_page_with_rows((20, self.ONE), (22, b"  two"))
-        for other, place in (
-                (make_page_with_rows((18, self.ONE), (22, b"  two")), "row 18 instead of 20"),
-                (make_page_with_rows((20, self.ONE), (23, b"  two")), "row 23 instead of 22"),
-                (make_page_with_rows((20, b" " + self.ONE), (22, b"  two")),
-                 "row 20 from column 3 instead of 2"),
-                (make_page_with_rows((20, self.ONE), (22, b" two")),
-                 "row 22 from column 1 instead of 2"),
-                (make_page_with_rows((20, self.ONE)), "1 rows instead of 2")):
-            self.assertEqual(describe_move(own, other), place, (other, place))
-        for other, words in (
-                (own, ""), (make_page_with_rows((20, b"\x0b\x0bHallo"), (22, b"  two")),
-                            "row 20 column 3: 61 instead of 65"),
-                (make_page_with_rows((20, b"\x0b Hello"), (22, b"  two")),
-                 "row 20 column 1: a space instead of start box"),
-                (make_page_with_rows((20, self.ONE), (22, b"  twos")),
-                 "row 22 column 5: 73 instead of a space, ends a column late"),
-                (make_page_with_rows((20, self.ONE), (22, b"\x02 tw")),
-                 "row 22 column 0: alpha green instead of a space, begins 2 columns early, ends a "
-                 "column early")):
-            self.assertEqual(describe_attribute_difference(own, other), words, other)
-        for other, words in (
-                (own, ""), (make_page_with_rows((20, self.ONE), (22, b"  two"), (2, b"x")),
-                            "an additional row: 2"),
-                (make_page_with_rows((20, self.ONE), (22, b"  two"), (2, b"x"), (24, b"y")),
-                 "additional rows: 2 and 24"),
-                (make_page_with_rows((20, self.TWO), (22, b"  two"), (2, b"x")), "")):
-            self.assertEqual(describe_extra_rows(own, other), words, other)
-        for sent, due, moved in (
-                (own, own, False),
-                (make_page_with_rows((20, b" " + self.ONE), (22, b"  two")), own, True),
-                (make_page_with_rows((21, self.ONE), (22, b"  two")), own, True),
-                (make_page_with_rows((20, self.TWO), (22, b"  two")), own, False),
-                (make_page_with_rows((20, self.ONE), (22, b" two")), own, True)):
-            self.assertEqual(is_text_moved(due, sent), moved, (sent, due, moved))
-        for sent, part in ((own, True), (make_page_with_rows((20, self.ONE)), True), (BLANK_PAGE,
-                                                                                      True),
-                           (make_page_with_rows((20, self.TWO)), False),
-                           (make_page_with_rows((22, b"  two")), True),
-                           (make_page_with_rows((21, b"x")), False)):
-            self.assertEqual(is_partial_page(sent, own), part, (sent, part))
-        self.assertEqual((join_page_text(own), format_page_text(own, 0),
-                          format_page_text(make_page_with_rows((1, b"\x5b[#")), 4)),
-                         ("Hello two", "Hello / two", "ÄÄ#"))
-        self.assertEqual(join_page_text(make_page_with_rows((3, b"a \x03 b"))), "a b")
-        self.assertEqual([describe_code(code) for code in (0, 7, 0x1F, 0x20, 0x21, 0x7F)],
-                         ["alpha black", "alpha white", "release mosaics", "a space", "21", "7F"])
-        self.assertEqual((len(ATTRIBUTES), ATTRIBUTES[0x0D]), (32, "double height"))
+    def test_describes_how_the_rows_or_columns_of_a_page_moved(self) -> None:
+        self.check_rows(lambda *rows: describe_move(OWN, make_page_with_rows(*rows)), {
+            "first row": (((18, ONE), (22, b"  two")), "row 18 instead of 20"),
+            "last row": (((20, ONE), (23, b"  two")), "row 23 instead of 22"),
+            "to the right": (((20, b" " + ONE), (22, b"  two")),
+                             "row 20 from column 3 instead of 2"),
+            "to the left": (((20, ONE), (22, b" two")), "row 22 from column 1 instead of 2"),
+            "a row is missing": (((20, ONE),), "1 rows instead of 2")})
 
-    def test_finds_characters_of_a_subtitle_with_several_blocks(self) -> None:
+    def test_describes_the_first_wrong_cell(self) -> None:
+        self.check_rows(lambda *rows: describe_attribute_difference(
+            OWN, make_page_with_rows(*rows)), {
+            "the same": (((20, ONE), (22, b"  two")), ""),
+            "a letter": (((20, b"\x0b\x0bHallo"), (22, b"  two")),
+                         "row 20 column 3: 61 instead of 65"),
+            "no start box": (((20, b"\x0b Hello"), (22, b"  two")),
+                             "row 20 column 1: a space instead of start box"),
+            "a longer row": (((20, ONE), (22, b"  twos")),
+                             "row 22 column 5: 73 instead of a space, ends a column late"),
+            "a shorter row in green": (
+                ((20, ONE), (22, b"\x02 tw")), "row 22 column 0: alpha green instead of a space, "
+                "begins 2 columns early, ends a column early")})
+
+    def test_lists_additional_rows_if_the_others_are_right(self) -> None:
+        self.check_rows(lambda *rows: describe_extra_rows(OWN, make_page_with_rows(*rows)), {
+            "none": (((20, ONE), (22, b"  two")), ""),
+            "one": (((20, ONE), (22, b"  two"), (2, b"x")), "an additional row: 2"),
+            "two": (((20, ONE), (22, b"  two"), (2, b"x"), (24, b"y")),
+                    "additional rows: 2 and 24"),
+            "another colour": (((20, OTHER_ONE), (22, b"  two"), (2, b"x")), "")})
+
+    def test_recognises_the_text_of_a_page_in_other_rows_or_columns(self) -> None:
+        self.check_rows(lambda *rows: is_text_moved(OWN, make_page_with_rows(*rows)), {
+            "the same": (((20, ONE), (22, b"  two")), False),
+            "column": (((20, b" " + ONE), (22, b"  two")), True),
+            "row": (((21, ONE), (22, b"  two")), True),
+            "colour": (((20, OTHER_ONE), (22, b"  two")), False),
+            "column of the last row": (((20, ONE), (22, b" two")), True)})
+
+    def test_recognises_a_page_with_some_of_the_rows(self) -> None:
+        self.check_rows(lambda *rows: is_partial_page(make_page_with_rows(*rows), OWN), {
+            "all": (((20, ONE), (22, b"  two")), True), "the first": (((20, ONE),), True),
+            "none": ((), True), "the first in another colour": (((20, OTHER_ONE),), False),
+            "the last": (((22, b"  two"),), True), "another": (((21, b"x"),), False)})
+
+    def test_joins_the_texts_of_the_rows_of_a_page(self) -> None:
+        self.check("words", join_page_text(OWN), "Hello two")
+        self.check("lines", format_page_text(OWN, 0), "Hello / two")
+        german = 4  # C12 to C14
+        self.check("German", format_page_text(make_page_with_rows((1, b"\x5b[#")), german), "ÄÄ#")
+        self.check("a colour", join_page_text(make_page_with_rows((3, b"a \x03 b"))), "a b")
+
+    def test_names_the_codes_of_attributes(self) -> None:
+        self.check_rows(describe_code, {
+            "first": ((0,), "alpha black"), "white": ((7,), "alpha white"),
+            "last": ((0x1F,), "release mosaics"), "space": ((0x20,), "a space"),
+            "a character": ((0x21,), "21"), "last character": ((0x7F,), "7F")})
+        self.check("attributes", (len(ATTRIBUTES), ATTRIBUTES[0x0D]), (32, "double height"))
+
+
+class SubtitleBlocks(Case):
+    def test_reads_a_subtitle_from_all_its_blocks(self) -> None:
+        """Subtitle 1 (SN 7) has the blocks 2 and 5, between user data and a comment; subtitle 2 (SN
+        300) has block 6. Then the file ends within a block."""
         first = make_tti_block(7, 25, 50, 20, 2, b"a\xc2e\x80", 0)
         last = make_tti_block(7, 25, 50, 20, 2, b"\xf9\xff")
         comment = make_tti_block(7, 25, 50, 20, 2, b"no", comment=1)
@@ -411,25 +471,31 @@ class PageDifferences(Case):
         data = make_gsi_block(b"", 6, 2) + b"".join([comment, first, user, comment, last, other])
         path = self.write("one.stl", data + b"x" * 127)
         file = SubtitleFile(path)
-        self.assertEqual((file.count(), file.count_ended(), list(file.list_last_blocks())),
-                         (6, (2, 4), [5, 6]))
-        self.assertEqual((file.text(5), file.text(6)), (b"a\xc2e\x80\xf9\xff", b"$"))
-        self.assertEqual([file.describe_byte(5, at) for at in range(7)], [
+        self.check("counts", (file.count(), file.count_ended(), list(file.list_last_blocks())),
+                   (6, (2, 4), [5, 6]))
+        self.check("texts", (file.text(5), file.text(6)), (b"a\xc2e\x80\xf9\xff", b"$"))
+        self.check("characters", [file.describe_byte(5, at) for at in range(7)], [
             ("61", "a"), ("C2", "é"), ("65", "e"), ("80", None), ("F9", "ø"), ("FF", "\ufffd"),
             (None, None)])
-        self.assertEqual([file.describe_byte(at, 0) for at in (0, 7)], [(None, None)] * 2)
-        result = [file.find_by_block(at) for at in range(8)]
-        self.assertEqual([item and (item.position, item.number, item.begin) for item in result], [
-            None, (0, 7, "00:00:01:00"), (1, 7, "00:00:01:00"), (1, 7, "00:00:01:00"),
-            (1, 7, "00:00:01:00"), (1, 7, "00:00:01:00"), (2, 300, "00:00:03:00"), None])
-        self.assertEqual([file.find_by_frame(frame) for frame in (24, 25, 49, 50, 75, 98, 99)], [
-            None, result[2], result[2], None, result[6], result[6], None])
-        self.assertEqual([[*SubtitleFile(path, left_out=left_out).list_subtitles()]
-                          for left_out in ((), {1}, {2})],
-                         [[result[2], result[6]], [result[6]], [result[2]]])
+        self.check("no block", [file.describe_byte(at, 0) for at in (0, 7)], [(None, None)] * 2)
+        found = [file.find_by_block(at) for at in range(8)]
+        one, two = (0, 7, "00:00:01:00"), (2, 300, "00:00:03:00")
+        continued = (1, *one[1:])
+        self.check("by block", [item and (item.position, item.number, item.begin)
+                                for item in found],
+                   [None, one, *[continued] * 4, two, None])
+        self.check("by frame", [file.find_by_frame(frame) for frame in (24, 25, 49, 50, 75, 98,
+                                                                        99)],
+                   [None, found[2], found[2], None, found[6], found[6], None])
+        for left_out, subtitles in (((), [found[2], found[6]]), ({1}, [found[6]]),
+                                    ({2}, [found[2]])):
+            self.check(f"subtitles without {left_out}", [
+                *SubtitleFile(path, left_out=left_out).list_subtitles()], subtitles)
         advice = OptionAdvice(file, "english")
-        self.assertTrue(advice.advise(5, 4).startswith("no national option has ø: "))
-        self.assertEqual((advice.advise(5, 6), advice.complete_options), ("", []))
+        self.must("no option", advice.advise(5, 4).startswith("no national option has ø: "))
+        self.check("no advice", (advice.advise(5, 6), advice.complete_options), ("", []))
+
+    def test_advises_options_that_have_all_characters_of_a_file(self) -> None:
         rows: dict[bytes, str] = {
             b"\xc8a": "german or swedish, which have all the characters in the file",
             b"\xcea": "polish or lithuanian, which have all the characters in the file, if "
@@ -439,22 +505,28 @@ class PageDifferences(Case):
         for text, words in rows.items():
             file = SubtitleFile(self.write("two.stl", make_gsi_block(b"", 1, 1) + make_tti_block(
                 1, 25, 50, 20, 2, text)))
-            self.assertEqual(OptionAdvice(file, "english").advise(1, 0), f"use --option {words}")
+            self.check(f"{text!r}", OptionAdvice(file, "english").advise(1, 0),
+                       f"use --option {words}")
 
 
 class RepeatIntervals(unittest.TestCase):
-    def test_measures_repeats_between_cues(self) -> None:
+    def test_measures_the_usual_interval_of_headers_between_cues(self) -> None:
         steady = list(range(0, 200, 10))
-        of_frames: list[tuple[list[int], list[int], int | None]] = [
+        # The frames of headers and of cues, and the usual interval in frames.
+        rows: list[tuple[list[int], list[int], int | None]] = [
             ([], [], None), (steady[:4], [], None), (steady[:5], [], 10), (steady[:5], [45], None),
             (steady[:5], [46], 10), (steady[:8], [35, 45], None), (steady[:8], [36, 45], 10),
             (sorted(steady[:4] * 2), [], None), (steady[:5] * 2, [46], 10),
             ([0, 1, 2, 3, 4, 8], [], 4), ([0, 10, 20, 30, 50, 90], [], 20)]
-        for frames, edges, every in of_frames:
-            self.assertEqual(repeat_distance(frames, edges), every, (frames, edges))
+        for frames, cues, every in rows:
+            self.assertEqual(repeat_distance(frames, cues), every, (frames, cues))
+
+    def test_measures_many_headers_with_few_sums(self) -> None:
         with mock.patch.object(gaps, "sum", side_effect=sum, create=True) as summed:
             self.assertEqual(repeat_distance(range(1000), []), 1)
         self.assertLess(summed.call_count, 3)  # fewer calls than page transmissions
-        of_gaps: list[tuple[list[int], int]] = [([], 0), ([5], 0), ([5, 5], 0), ([9, 5, 30], 21)]
-        for frames, gap in of_gaps:
-            self.assertEqual(find_longest_gap(frames), gap, (frames, gap))
+
+    def test_finds_the_longest_gap_between_sorted_frames(self) -> None:
+        rows: list[tuple[list[int], int]] = [([], 0), ([5], 0), ([5, 5], 0), ([9, 5, 30], 21)]
+        for frames, longest in rows:
+            self.assertEqual(find_longest_gap(frames), longest, frames)
