@@ -36,13 +36,13 @@ from .transmissions import CLOSING, HEADER, PAGE, make_numbered_row
 
 class Results(Case):
     def test_counts_faults_only_if_each_part_is_counted(self) -> None:
-        of_numbers: list[tuple[list[int | None], int | None]] = [
+        rows: list[tuple[list[int | None], int | None]] = [
             ([], None), ([3], 3), ([None], None), ([3, 4, 5], 12), ([None, 4, 5], None),
             ([3, None, 5], None), ([3, 4, None], None), ([0], 0)]
-        for numbers, expected in of_numbers:
-            self.check(f"{numbers}", add_numbers_if_known(numbers), expected)
+        for fault_counts, expected in rows:
+            self.check(f"{fault_counts}", add_numbers_if_known(fault_counts), expected)
 
-    def test_shows_the_hint_of_the_named_fault(self) -> None:
+    def test_shows_the_first_hint_of_the_worst_fault(self) -> None:
         hints = ["5: of none", "7: of none", "72: of the content", "72: once more", "6: of none"]
         for line, expected in (
                 ("refused 72 Content frame 1", "of the content"), ("refused 70 Repeat", ""),
@@ -55,8 +55,8 @@ class Results(Case):
 
 
 class Folders(Case):
-
     def test_pairs_only_regular_files(self) -> None:
+        # What a.stl and a.ts are: a file, or a link to the named target.
         for number, (first, second, is_pair) in enumerate([
                 ("file", "file", True), ("folder", "file", False), ("file", "folder", False),
                 ("pipe", "file", False), ("file", "pipe", False), ("file", "link", False),
@@ -76,46 +76,51 @@ class Folders(Case):
                     os.symlink({"to file": self.path("a file"), "to folder": folder}.get(
                         kind, "nowhere"), path)
             [item] = find_folder_pairs(folder, make_default_options())
-            self.must(f"{first} {second}", (item.request is not None) == is_pair, item)
+            self.check(f"{first} {second}", item.request is not None, is_pair)
+
+    def test_lists_the_files_of_a_pair_also_if_its_options_are_wrong(self) -> None:
+        os.mkdir(self.path("in"))
+        files = {self.write("in/a.stl", b""), self.write("in/a.ts", b"")}
         wrong = make_default_options("--origin", "5")
         wrong.start = "tcp"
         for options in (make_default_options(), wrong):
-            [item] = find_folder_pairs(self.path("0"), options)
-            self.must("files", ((item.request is None) == (options is wrong), {*item.files} -
-                                {None})
-                      == (True, {self.path("0/a.stl"), self.path("0/a.ts")}), item)
+            [item] = find_folder_pairs(self.path("in"), options)
+            self.check(f"{options}", (item.request is None, {*item.files} - {None}),
+                       (options is wrong, files))
 
-    def test_judges_a_pair_once_it_has_settled(self) -> None:
+    def test_judges_a_pair_once_it_has_not_changed_for_ten_seconds(self) -> None:
         os.mkdir(self.path("in"))
         watch = FolderWatch(self.path("in"), 10)
         for name in ("in/one.stl", "in/one.ts"):
             self.write(name, b"1")
 
-        def due(clock: Callable[[], float]) -> list[str]:
+        def list_ready_pairs(clock: Callable[[], float]) -> list[str]:
             with mock.patch("time.monotonic", clock):
                 return [item.name for item in watch.find_ready_items(
                     find_folder_pairs(self.path("in"), make_default_options()))]
 
+        # The time of a search in seconds, and the pairs that are to be judged then.
         for now, expected in ((100, []), (109, []), (110, ["one"]), (111, []), (150, [])):
-            self.check(f"at {now}", due(lambda: now), expected)
+            self.check(f"at {now}", list_ready_pairs(lambda: now), expected)
         self.write("in/one.ts", b"12")
         for now, expected in ((200, []), (205, []), (210, ["one"]), (230, [])):
-            self.check(f"changed, at {now}", due(lambda: now), expected)
+            self.check(f"recording changed, at {now}", list_ready_pairs(lambda: now), expected)
         self.write("in/one.stl", b"12")
-        self.must("changed once more", due(lambda: 300) == [] and due(lambda: 310) == ["one"])
+        for now, expected in ((300, []), (310, ["one"])):
+            self.check(f"subtitles changed, at {now}", list_ready_pairs(lambda: now), expected)
         self.write("in/two.ts", b"2")
         self.write("in/two.stl", b"2")
         self.write("in/two.done", b"")
-        self.check("somebody says so", due(lambda: 311), ["two"])
+        self.check("two.done exists", list_ready_pairs(lambda: 311), ["two"])
         os.unlink(self.path("in/two.done"))
         self.write("in/two.ts", b"22")
         times = iter([400.0, 409.0, 418.0, 419.0])  # one search takes nine seconds
-        self.check("from when it was seen", [due(lambda: next(times)) for _ in range(3)],
-                   [[], [], ["two"]])
-        self.must("what was seen", isinstance(watch.seen["one"], FolderState))
+        self.check("ten seconds after the end of the search that saw the change", [
+            list_ready_pairs(lambda: next(times)) for _ in range(3)], [[], [], ["two"]])
+        self.must("kept states", isinstance(watch.seen["one"], FolderState))
 
 
-def subtitle(index: int, begin: int) -> Subtitle:
+def make_subtitle(index: int, begin: int) -> Subtitle:
     return Subtitle(index, index, begin, begin + 1, 20, 2, b"text")
 
 
@@ -123,6 +128,8 @@ class SubtitleFiles(Case):
     def test_warns_unless_subtitles_in_the_language_are_announced(self) -> None:
         stl = self.write("one.stl", make_gsi_block(b"", 0, 0, language=b"09"))
         request = make_example_request(stl, "one.ts")
+        # The types and languages of the page in the PMT, and the kinds of warnings. The type is 2
+        # or 5 for subtitles. The language of the file is English.
         for kinds, languages, expected in (
                 ((2,), ("eng",), []), ((1,), ("eng",), ["type"]), ((1, 5), ("eng", "eng"), []),
                 ((5, 1), ("ger", "eng"), []), ((2, 2), ("ger", "fre"), ["language", "option"]),
@@ -146,23 +153,29 @@ class SubtitleFiles(Case):
 class EstimatedOrigins(Case):
     def test_rounds_a_delay_to_the_nearest_frame(self) -> None:
         clock = Clock(5, START)
+        # The delay in ticks, the status of the estimate (0: clear), the delay in frames, and how
+        # it is printed. A frame lasts 3600 ticks, and up to 5 ticks are ignored.
         for away, status, expected, printed in (
                 (0, 0, 0, None), (3 * TICKS, 0, 3, "3 frames late"),
                 (-TICKS, 0, -1, "1 frame early"), (TICKS - 1, 0, 1, "3599 ticks late"),
                 (TICKS // 2 - 1, 0, 0, "1799 ticks late"),
                 (5 - 2 * TICKS, 0, -2, "1 frame and 3595 ticks early"), (TICKS, 1, None, None),
                 (None, 0, None, None)):
-            result, lines = add_delay(clock, OriginEstimate(status, ticks_late=away,
-                                                            printed=["--origin 5"]))
-            self.must(f"{away} {status}", result == clock._replace(delay_frames=expected)
-                      and lines ==
-                      ([f"all subtitles are {printed}"] if printed else []), (result, lines))
-        for away, is_whole in ((0, True), (2 * TICKS, True), (2 * TICKS + 1, False)):
-            result, _ = add_delay(clock, OriginEstimate(0, ticks_late=away, matches_every_cue=True,
-                                                        printed=["--origin 5"]))
-            self.check(f"{away}: whole frames", result.is_delay_of_all, is_whole)
+            delayed_clock, lines = add_delay(clock, OriginEstimate(status, ticks_late=away,
+                                                                   printed=["--origin 5"]))
+            self.check(f"{away} {status}", (delayed_clock, lines), (
+                clock._replace(delay_frames=expected),
+                [f"all subtitles are {printed}"] if printed else []))
+
+    def test_all_subtitles_share_a_delay_if_it_is_of_complete_frames(self) -> None:
+        for away, is_shared in ((0, True), (2 * TICKS, True), (2 * TICKS + 1, False)):
+            delayed_clock, _ = add_delay(Clock(5, START), OriginEstimate(
+                0, ticks_late=away, matches_every_cue=True, printed=["--origin 5"]))
+            self.check(f"{away}", delayed_clock.is_delay_of_all, is_shared)
 
     def test_reports_which_subtitles_are_delayed(self) -> None:
+        # Whether all cues share the delay, the first frame with another one, the number of parts
+        # whose origin is printed, and the words.
         for has_all_cues, shifted, printed, words in (
                 (True, None, 1, "all"), (False, None, 1, "most"),
                 (True, None, 2, "up to the first break, all"),
@@ -191,54 +204,58 @@ class EstimatedOrigins(Case):
 
 
 class DecodedPages(Case):
-    def decode(self, data: bytes) -> Timeline:
-        return decode_packets(self, data)
-
     def test_a_page_must_be_closed_before_its_tco(self) -> None:
+        """The page of a subtitle in the frames 100 to 149 is sent in frame 100."""
         subtitle = Subtitle(1, 1, 100, 150, 20, 2, b"a")
+        # The frame of the header that closes the page, and the delay in frames.
         for closed, expected in ((100, 0), (101, 1), (149, 49), (150, None), (170, None)):
-            data = make_pes_packet(TICKS * 100,
-                                   [HEADER, make_numbered_row(20, b"a"),
-                                    *[CLOSING] * (closed == 100)])
-            more = [make_pes_packet(TICKS * closed, [CLOSING])] * (closed > 100)
-            decoded = self.decode(make_pes_packet(0, [CLOSING]) + data + b"".join(more))
+            page = [HEADER, make_numbered_row(20, b"a")]
+            data = make_pes_packet(TICKS * 100, page + [CLOSING]) if closed == 100 else \
+                make_pes_packet(TICKS * 100, page) + make_pes_packet(TICKS * closed, [CLOSING])
+            decoded = decode_packets(self, make_pes_packet(0, [CLOSING]) + data)
             for is_complete, frames in ((True, expected), (False, 0)):
                 delay = measure_delay(subtitle, decoded.get_page_at(100), decoded, is_complete)
                 self.check(f"{closed} {is_complete}", delay, frames)
 
     def test_shows_a_page_once_a_header_ends_it(self) -> None:
         old, new = make_numbered_row(20, b"old"), make_numbered_row(20, b"new")
+        # What follows a header and the row `old`, and the text of the decoded page.
         rows: list[tuple[list[bytes], bytes | None]] = [
             ([], None), ([new], None), ([HEADER], None), ([HEADER, new], None),
             ([CLOSING], b"old"), ([CLOSING, HEADER, new], b"old"), ([new, CLOSING], b"new"),
             ([HEADER, new, CLOSING], b"new"), ([HEADER, CLOSING], b""),
             ([HEADER, CLOSING, HEADER, new], b""), ([CLOSING, HEADER, CLOSING], b"")]
         for units, expected in rows:
-            screen = self.decode(make_pes_packet(0, [HEADER, old]) +
-                                 make_pes_packet(TICKS * 10, units)).states[-1].screen
-            text = screen and screen[0][19].strip(b"\x0b ")
-            self.check(f"{units}", text, expected)
-        packets = survey_packets(self, make_pes_packet(0, [HEADER, old]) + make_pes_packet(
-            TICKS, [CLOSING, HEADER, new]))
-        self.must("tuned in later", Timeline(packets, PAGE, 0, 0, (1, 1)).states[-1].screen is None)
+            data = make_pes_packet(0, [HEADER, old]) + make_pes_packet(TICKS * 10, units)
+            screen = decode_packets(self, data).states[-1].screen
+            self.check(f"{units}", screen and screen[0][19].strip(b"\x0b "), expected)
 
-    def test_frames_around_unreadable_packets_are_doubtful(self) -> None:
+    def test_shows_no_page_if_the_judged_packets_begin_with_the_header_that_ends_it(self) -> None:
+        old, new = make_numbered_row(20, b"old"), make_numbered_row(20, b"new")
+        packets = survey_packets(self, make_pes_packet(0, [HEADER, old])
+                                 + make_pes_packet(TICKS, [CLOSING, HEADER, new]))
+        self.check("screen", Timeline(packets, PAGE, 0, 0, (1, 1)).states[-1].screen, None)
+
+    def test_frames_around_unreadable_packets_are_uncertain(self) -> None:
+        """Every 10 frames, from 0 to 90, there is a PES packet. Some cannot be read."""
         good = [make_pes_packet(TICKS * frame, [HEADER, CLOSING]) for frame in range(0, 100, 10)]
         broken = [item[:45] + b"\x20" + item[46:] for item in good]
-        of_doubts: list[tuple[tuple[int, ...], list[Span]]] = [
+        rows: list[tuple[tuple[int, ...], list[Span]]] = [
             ((), []), ((3,), [Span(20, 40)]), ((3, 4), [Span(20, 50)]),
             ((3, 7), [Span(20, 40), Span(60, 80)]), ((0,), [Span(0, 10)]), ((9,), [])]
-        for numbers, expected in of_doubts:
-            decoded = self.decode(b"".join(broken[at] if at in numbers else item
-                                           for at, item in enumerate(good)))
-            self.check(f"{numbers}", decoded.uncertain_spans, expected)
+        for numbers, uncertain in rows:
+            decoded = decode_packets(self, b"".join(
+                broken[at] if at in numbers else item for at, item in enumerate(good)))
+            self.check(f"{numbers}", decoded.uncertain_spans, uncertain)
             for first, last in ((0, 15), (15, 25), (30, 30), (65, 66), (85, 90)):
-                is_seen = not any(item.first <= last and first <= item.last for item in expected)
+                is_certain = not any(span.first <= last and first <= span.last
+                                     for span in uncertain)
                 self.check(f"{numbers}: {first} to {last}", decoded.was_received(first, last),
-                           is_seen)
+                           is_certain)
 
     def test_uses_the_last_page_of_a_frame(self) -> None:
         a, b = (((text.ljust(40),) * 24) for text in (b"a", b"b"))
+        # Pages with the frames in which they are complete, and the kept frames and pages.
         rows: list[tuple[list[tuple[int, Rows]], list[int], list[Rows]]] = [
             ([(5, a), (10, b)], [5, 10], [a, b]), ([(5, a), (10, a)], [5], [a]),
             ([(5, a), (10, b), (10, a)], [5], [a]), ([(5, a), (5, b)], [5], [b]),
@@ -248,55 +265,56 @@ class DecodedPages(Case):
             decoded = Timeline(Packets(0), PAGE, 0)
             for frame, page in changes:
                 decoded.record_page(frame, page)
-            self.must(f"{frames}", (list(decoded.frames), decoded.pages) == (frames, pages),
-                      decoded.frames)
-            self.check(f"{frames}: when", {page: list(some) for page,
-                                           some in decoded.page_frames.items()},
-                       {
+            self.check(f"{frames}", (list(decoded.frames), decoded.pages), (frames, pages))
+            self.check(f"{frames}: of each page", {
+                page: list(some) for page, some in decoded.page_frames.items()}, {
                 page: [frame for frame, item in zip(frames, pages) if item == page]
                 for page in pages})
             for begin, end in itertools.combinations(range(4, 14), 2):
-                numbers = [at for at, frame in enumerate(frames) if frame < end and
-                           begin < [*frames, 99][at + 1]]
-                self.must(f"{begin} {end}", [*decoded.list_page_numbers(begin, end)] == numbers and
-                          decoded.get_page_at(begin) == (BLANK_PAGE if begin < 5
-                                                         else pages[numbers[0]]))
+                shown = [at for at, frame in enumerate(frames) if frame < end and
+                         begin < [*frames, 99][at + 1]]
+                self.check(f"from {begin} to {end}", (
+                    [*decoded.list_page_numbers(begin, end)], decoded.get_page_at(begin)),
+                    (shown, BLANK_PAGE if begin < 5 else pages[shown[0]]))
 
     def test_finds_pauses_of_a_regular_stream(self) -> None:
-        steady = [*range(5, 90), *range(93, 120), *range(124, 200)]
-        for frames, expected in (([*range(50), *range(52, 99)], []), (steady, [Span(90, 92),
-                                                                               Span(120, 123)])):
-            decoded = self.decode(b"".join(make_pes_packet(TICKS * frame, [HEADER, CLOSING])
-                                           for frame in frames))
-            self.check(f"{expected}", [*decoded.pauses], expected)
-        for frame, pause in ((89, None), (90, 0), (92, 0), (93, None), (119, None), (120, 1),
-                             (123, 1), (124, None)):
-            self.check(f"{frame}", decoded.find_pause(frame),
-                       None if pause is None else [*decoded.pauses][pause])
-        for decoded.count, is_steady in ((2 * PACKETS_PER_PAUSE, True),
-                                         (2 * PACKETS_PER_PAUSE - 1, False)):
-            self.check(f"{is_steady}", decoded.find_pause(91) is not None, is_steady)
+        first, second = Span(90, 92), Span(120, 123)
+        steady = [*range(5, first.first), *range(first.last + 1, second.first),
+                  *range(second.last + 1, 200)]
+        for frames, pauses in (([*range(50), *range(52, 99)], []), (steady, [first, second])):
+            decoded = decode_packets(self, b"".join(
+                make_pes_packet(TICKS * frame, [HEADER, CLOSING]) for frame in frames))
+            self.check(f"{pauses}", [*decoded.pauses], pauses)
+        for frame, pause in ((89, None), (90, first), (92, first), (93, None), (119, None),
+                             (120, second), (123, second), (124, None)):
+            self.check(f"{frame}", decoded.find_pause(frame), pause)
+        enough = 2 * PACKETS_PER_PAUSE  # number of PES packets in a regular stream with two pauses
+        for decoded.count, is_regular in ((enough, True), (enough - 1, False)):
+            self.check(f"{decoded.count}", decoded.find_pause(91) is not None, is_regular)
 
     def test_drops_pages_before_a_step_back(self) -> None:
-        for frames, pages, is_lost in (
+        """The judged frames begin at 300. A step back after it ends the decoding."""
+        # The frames of pages, the number of decoded pages, and whether a step ends the decoding.
+        for frames, count, is_ended in (
                 ([100, 200, 310, 350], 4, False), ([200, 250, 150, 310, 350], 3, False),
                 ([200, 310, 305, 350], 2, True), ([310, 350, 320], 2, True)):
             packets = survey_packets(self, b"".join(make_pes_packet(TICKS * frame, [
                 HEADER, make_numbered_row(20, b"%d" % frame), CLOSING]) for frame in frames))
             decoded = Timeline(packets, PAGE, 0, begin=300)
-            self.must(f"{frames}",
-                      (len(decoded.pages), decoded.halt is not None) == (pages, is_lost),
-                      (decoded.frames, decoded.halt))
-            self.check(f"{frames}: seen",
+            self.check(f"{frames}", (len(decoded.pages), decoded.halt is not None),
+                       (count, is_ended))
+            self.check(f"{frames}: received up to the last page, and later",
                        [decoded.was_received(300, decoded.last + more) for more in (0, 1)],
-                       [True, not is_lost])
+                       [True, not is_ended])
 
 
 class SubtitlesInParts(Case):
-    FOUND = TimedPart(0, 9, Clock(7, START), (3, 5))
+    FOUND = TimedPart(0, 9, Clock(7, START), packets=(3, 5))
 
     def test_each_subtitle_is_in_one_part(self) -> None:
-        nine = [subtitle(3 * part + at, 9 * part + at) for part in range(3) for at in range(3)]
+        """Nine subtitles of one frame each are at the frames 0, 1, 2, 9, 10, 11, 18, 19 and 20."""
+        nine = [make_subtitle(3 * part + at, 9 * part + at)
+                for part in range(3) for at in range(3)]
         three = [(0, 3), (9, 12), (18, 21)]
         left, both = (f"{count} of one.stl would be in no part, " for count in (
             "1 subtitle", "2 subtitles"))
@@ -305,9 +323,9 @@ class SubtitlesInParts(Case):
                 ("as they are", nine, three, ""),
                 ("parts that adjoin", nine, [(0, 9), (9, 18), (18, 27)], ""),
                 ("the last goes later", [*nine[:-1], replace(nine[-1], end=99)], three, ""),
-                ("one more at an end", [*nine[:3], subtitle(9, 3), *nine[3:]], three, left),
+                ("one more at an end", [*nine[:3], make_subtitle(9, 3), *nine[3:]], three, left),
                 ("one before all", nine, [(1, 3), (9, 12), (18, 21)], left),
-                ("one behind all", [*nine, subtitle(9, 21)], three, left),
+                ("one behind all", [*nine, make_subtitle(9, 21)], three, left),
                 ("two", nine, [(1, 3), (9, 12), (18, 20)], both),
                 ("one in two", nine, [(0, 10), (9, 12), (18, 21)], other),
                 ("one in two, one missing", nine, [(0, 10), (9, 12), (18, 20)], other),
@@ -322,9 +340,11 @@ class SubtitlesInParts(Case):
             except Unclear as unclear:
                 reason = unclear.reason
             self.must(name, reason.startswith(expected) and bool(reason) == bool(expected), reason)
+
+    def test_a_single_part_has_all_subtitles(self) -> None:
         whole = TimedPart(2, 90, Clock(5, RECORDING))
         for item in (self.FOUND, self.FOUND._replace(begin=5, end=7)):
-            self.check("a single one", choose_parts([item], whole),
+            self.check(f"{item}", choose_parts([item], whole),
                        [whole._replace(clock=item.clock, packets=(3, 5))])
 
     def test_parts_that_lack_a_subtitle_are_refused_before_they_are_judged(self) -> None:
