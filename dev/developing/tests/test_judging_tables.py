@@ -83,8 +83,7 @@ class PartClocks(unittest.TestCase):
     def test_finds_pes_packets_with_the_repeat_limit_and_the_range_of_the_part(self) -> None:
         search, recording = self.make_search()
         with mock.patch.object(timing, "find_range") as called:
-            # PES packets of the part, those to search, its first TCI, and whether the first
-            # judged subtitle continues another one with the same text.
+            # PES packets of the part, those to search, its first TCI, and whether it continues.
             for packets, inside, begin, is_continued in (
                     (None, (2, 8), 3, False), ((4, 5), (4, 5), 3, False), (None, (2, 8), 3, True),
                     (None, (2, 8), 5, True)):  # the part begins after the first judged subtitle
@@ -179,7 +178,6 @@ class Notices(Case):
             self.assertTrue(not result or result[0][1].endswith(words), result)
 
     def list_count_notices(self, data: bytes) -> list[tuple[str, str]]:
-        """Return the kind and text of the warnings about the counts in a subtitle file."""
         file = SubtitleFile(self.write("one.stl", data))
         return [(kind, line) for kind, line, _ in list_notices(find_count_notices(file))]
 
@@ -375,87 +373,76 @@ class NamesOfFiles(Case):
 
 class RecordingKinds(Case):
     def test_recognises_a_recording_by_its_first_bytes(self) -> None:
-        rows: dict[str, tuple[bytes, bool]] = {  # "G" is the sync byte of TS packets
-            "a PES packet": (make_pes_packet(0, []), True),
-            "its start code": (make_pes_packet(0, [])[:4], True),
-            "sync bytes alone": (b"G" * 400, True),
-            "a subtitle file": (make_gsi_block(b"", 0, 0), False),
-            "a start code, then a sync byte": (b"\0\0\1\xbdG" + b"\0" * 300, True),
-            "the start code of video": (b"\0\0\1\xe0" + b"\0" * 99, False),
-            "a part of a start code": (b"\0\0\1", False), "text": (b"abcd" * 99, False),
-            "no byte": (b"", False),
-            "188 bytes": (b"G" + b"\0" * 187 + b"G" + b"\0" * 99, True),
-            "204 bytes": (b"G" + b"\0" * 203 + b"G" + b"\0" * 99, True),
-            "192 bytes": (b"timeG" + b"\0" * 191 + b"G" + b"\0" * 99, True),
-            "189 bytes": (b"G" + b"\0" * 188 + b"G" + b"\0" * 99, False)}
-        for name, (data, expected) in rows.items():
-            self.check(name, is_recording(self.write("one", data)), expected)
+        # PES packets begin with 00 00 01 BD. TS packets of 188, 192 or 204 bytes have the byte "G"
+        # at the same place.
+        for data, expected in (
+                (make_pes_packet(0, []), True), (make_pes_packet(0, [])[:4], True),
+                (b"G" * 400, True), (make_gsi_block(b"", 0, 0), False),
+                (b"\0\0\1\xbdG" + b"\0" * 300, True), (b"\0\0\1\xe0" + b"\0" * 99, False),
+                (b"\0\0\1", False), (b"abcd" * 99, False), (b"", False),
+                (b"G" + b"\0" * 187 + b"G" + b"\0" * 99, True),
+                (b"G" + b"\0" * 203 + b"G" + b"\0" * 99, True),
+                (b"timeG" + b"\0" * 191 + b"G" + b"\0" * 99, True),
+                (b"G" + b"\0" * 188 + b"G" + b"\0" * 99, False)):
+            self.check(f"{data[:6]!r}", is_recording(self.write("one", data)), expected)
 
 
-ONE, OTHER_ONE = b"\x0b\x0bHello", b"\x03\x0b\x0bHello"  # in white and in yellow
-OWN = make_page_with_rows((20, ONE), (22, b"  two"))
+HELLO = b"\x0b\x0bHello"
+ONE, YELLOW, TWO = (20, HELLO), (20, b"\x03" + HELLO), (22, b"  two")  # rows with their numbers
+OWN = make_page_with_rows(ONE, TWO)
 
 
 class PageDifferences(Case):
-    """The expected page `OWN` has the rows 20 and 22; another page was sent instead."""
+    """The page `OWN` is expected, and a page with other rows was sent."""
 
     def test_describes_how_the_rows_or_columns_of_a_page_moved(self) -> None:
         self.check_rows(lambda *rows: describe_move(OWN, make_page_with_rows(*rows)), {
-            "first row": (((18, ONE), (22, b"  two")), "row 18 instead of 20"),
-            "last row": (((20, ONE), (23, b"  two")), "row 23 instead of 22"),
-            "to the right": (((20, b" " + ONE), (22, b"  two")),
-                             "row 20 from column 3 instead of 2"),
-            "to the left": (((20, ONE), (22, b" two")), "row 22 from column 1 instead of 2"),
-            "a row is missing": (((20, ONE),), "1 rows instead of 2")})
+            "first row": (((18, HELLO), TWO), "row 18 instead of 20"),
+            "last row": ((ONE, (23, b"  two")), "row 23 instead of 22"),
+            "to the right": (((20, b" " + HELLO), TWO), "row 20 from column 3 instead of 2"),
+            "to the left": ((ONE, (22, b" two")), "row 22 from column 1 instead of 2"),
+            "a row is missing": ((ONE,), "1 rows instead of 2")})
 
     def test_describes_the_first_wrong_cell(self) -> None:
         self.check_rows(lambda *rows: describe_attribute_difference(
             OWN, make_page_with_rows(*rows)), {
-            "the same": (((20, ONE), (22, b"  two")), ""),
-            "a letter": (((20, b"\x0b\x0bHallo"), (22, b"  two")),
-                         "row 20 column 3: 61 instead of 65"),
-            "no start box": (((20, b"\x0b Hello"), (22, b"  two")),
+            "none": ((ONE, TWO), ""),
+            "a letter": (((20, b"\x0b\x0bHallo"), TWO), "row 20 column 3: 61 instead of 65"),
+            "no start box": (((20, b"\x0b Hello"), TWO),
                              "row 20 column 1: a space instead of start box"),
-            "a longer row": (((20, ONE), (22, b"  twos")),
+            "a longer row": ((ONE, (22, b"  twos")),
                              "row 22 column 5: 73 instead of a space, ends a column late"),
             "a shorter row in green": (
-                ((20, ONE), (22, b"\x02 tw")), "row 22 column 0: alpha green instead of a space, "
+                (ONE, (22, b"\x02 tw")), "row 22 column 0: alpha green instead of a space, "
                 "begins 2 columns early, ends a column early")})
 
     def test_lists_additional_rows_if_the_others_are_right(self) -> None:
         self.check_rows(lambda *rows: describe_extra_rows(OWN, make_page_with_rows(*rows)), {
-            "none": (((20, ONE), (22, b"  two")), ""),
-            "one": (((20, ONE), (22, b"  two"), (2, b"x")), "an additional row: 2"),
-            "two": (((20, ONE), (22, b"  two"), (2, b"x"), (24, b"y")),
-                    "additional rows: 2 and 24"),
-            "another colour": (((20, OTHER_ONE), (22, b"  two"), (2, b"x")), "")})
+            "none": ((ONE, TWO), ""), "one": ((ONE, TWO, (2, b"x")), "an additional row: 2"),
+            "two": ((ONE, TWO, (2, b"x"), (24, b"y")), "additional rows: 2 and 24"),
+            "another colour": ((YELLOW, TWO, (2, b"x")), "")})
 
     def test_recognises_the_text_of_a_page_in_other_rows_or_columns(self) -> None:
         self.check_rows(lambda *rows: is_text_moved(OWN, make_page_with_rows(*rows)), {
-            "the same": (((20, ONE), (22, b"  two")), False),
-            "column": (((20, b" " + ONE), (22, b"  two")), True),
-            "row": (((21, ONE), (22, b"  two")), True),
-            "colour": (((20, OTHER_ONE), (22, b"  two")), False),
-            "column of the last row": (((20, ONE), (22, b" two")), True)})
+            "the same": ((ONE, TWO), False), "column": (((20, b" " + HELLO), TWO), True),
+            "row": (((21, HELLO), TWO), True), "colour": ((YELLOW, TWO), False),
+            "column of the last row": ((ONE, (22, b" two")), True)})
 
     def test_recognises_a_page_with_some_of_the_rows(self) -> None:
         self.check_rows(lambda *rows: is_partial_page(make_page_with_rows(*rows), OWN), {
-            "all": (((20, ONE), (22, b"  two")), True), "the first": (((20, ONE),), True),
-            "none": ((), True), "the first in another colour": (((20, OTHER_ONE),), False),
-            "the last": (((22, b"  two"),), True), "another": (((21, b"x"),), False)})
+            "all": ((ONE, TWO), True), "the first": ((ONE,), True), "the last": ((TWO,), True),
+            "none": ((), True), "another colour": ((YELLOW,), False),
+            "another": (((21, b"x"),), False)})
 
     def test_joins_the_texts_of_the_rows_of_a_page(self) -> None:
         self.check("words", join_page_text(OWN), "Hello two")
         self.check("lines", format_page_text(OWN, 0), "Hello / two")
-        german = 4  # C12 to C14
-        self.check("German", format_page_text(make_page_with_rows((1, b"\x5b[#")), german), "ÄÄ#")
+        self.check("German", format_page_text(make_page_with_rows((1, b"\x5b[#")), 4), "ÄÄ#")
         self.check("a colour", join_page_text(make_page_with_rows((3, b"a \x03 b"))), "a b")
 
     def test_names_the_codes_of_attributes(self) -> None:
-        self.check_rows(describe_code, {
-            "first": ((0,), "alpha black"), "white": ((7,), "alpha white"),
-            "last": ((0x1F,), "release mosaics"), "space": ((0x20,), "a space"),
-            "a character": ((0x21,), "21"), "last character": ((0x7F,), "7F")})
+        self.check("codes", [describe_code(code) for code in (0, 7, 0x1F, 0x20, 0x21, 0x7F)],
+                   ["alpha black", "alpha white", "release mosaics", "a space", "21", "7F"])
         self.check("attributes", (len(ATTRIBUTES), ATTRIBUTES[0x0D]), (32, "double height"))
 
 
@@ -479,13 +466,11 @@ class SubtitleBlocks(Case):
             (None, None)])
         self.check("no block", [file.describe_byte(at, 0) for at in (0, 7)], [(None, None)] * 2)
         found = [file.find_by_block(at) for at in range(8)]
-        one, two = (0, 7, "00:00:01:00"), (2, 300, "00:00:03:00")
-        continued = (1, *one[1:])
-        self.check("by block", [item and (item.position, item.number, item.begin)
-                                for item in found],
-                   [None, one, *[continued] * 4, two, None])
-        self.check("by frame", [file.find_by_frame(frame) for frame in (24, 25, 49, 50, 75, 98,
-                                                                        99)],
+        self.check("by block", [item and (item.position, item.number, item.begin) for item in found
+                                ], [None, (0, 7, "00:00:01:00"), *[(1, 7, "00:00:01:00")] * 4,
+                                    (2, 300, "00:00:03:00"), None])
+        frames = (24, 25, 49, 50, 75, 98, 99)
+        self.check("by frame", [file.find_by_frame(frame) for frame in frames],
                    [None, found[2], found[2], None, found[6], found[6], None])
         for left_out, subtitles in (((), [found[2], found[6]]), ({1}, [found[6]]),
                                     ({2}, [found[2]])):
