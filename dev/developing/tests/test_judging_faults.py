@@ -282,6 +282,20 @@ class ProgramCalls(Case):
                 self.check("why", reason.reason, f"schedule gave no result: {''.join(lines[-1:])}")
             self.check(f"{lines} {status}", result, lines if is_right else None)
 
+    def test_updates_the_progress_line_of_a_terminal_five_times_a_second(self) -> None:
+        for is_terminal, times, shown in ((True, (0.0, 0.1, 0.2, 0.5), 3), (False, (0.0, 9.0), 0)):
+            with contextlib.redirect_stderr(io.StringIO()) as errors:
+                vars(errors)["isatty"] = lambda: is_terminal
+                progress = Progress()
+                for now in times:
+                    with mock.patch("time.monotonic", lambda: now + 100):
+                        progress.show(lambda: "x" * 500)
+                progress.clear()
+                progress.clear()
+            lines = errors.getvalue().split(CLEAR_LINE)
+            self.must(f"{is_terminal}", len(lines) == (shown + 2 if shown else 1) and
+                      all(0 < len(line) < 500 for line in lines[1:-1]), lines)
+
 
 class Versions(Case):
     def test_finds_the_proof_of_this_program(self) -> None:
@@ -303,19 +317,3 @@ class Versions(Case):
             path = self.write(file, text.encode())
             self.check(name, find_proof(self.path("top/bin/subttx"), "5"), expected)
             os.unlink(path)
-
-
-class ProgressLines(Case):
-    def test_updates_the_progress_line_of_a_terminal_five_times_a_second(self) -> None:
-        for is_terminal, times, shown in ((True, (0.0, 0.1, 0.2, 0.5), 3), (False, (0.0, 9.0), 0)):
-            with contextlib.redirect_stderr(io.StringIO()) as errors:
-                vars(errors)["isatty"] = lambda: is_terminal
-                progress = Progress()
-                for now in times:
-                    with mock.patch("time.monotonic", lambda: now + 100):
-                        progress.show(lambda: "x" * 500)
-                progress.clear()
-                progress.clear()
-            lines = errors.getvalue().split(CLEAR_LINE)
-            self.must(f"{is_terminal}", len(lines) == (shown + 2 if shown else 1) and
-                      all(0 < len(line) < 500 for line in lines[1:-1]), lines)

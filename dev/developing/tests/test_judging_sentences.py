@@ -391,11 +391,10 @@ class InvisibleRows(Case):
                 f"{why.replace('Hi', 'HiÖ')}; 3 faults in all"
             for has_recording, judged in self.judge_text(text):
                 name = f"{text!r} {has_recording}"
-                self.check(f"{name}: verdict", judged.timed_verdict, "refused")
-                self.check(f"{name}: sentence", judged.result["sentence"][:len(begin)], begin)
-                self.check(f"{name}: worst fault", (judged.result["worst_fault"],
-                                                    judged.printed[-1]),
-                           ("refused not shown block 1",) * 2)
+                line = "refused not shown block 1"
+                self.check(name, (judged.timed_verdict, judged.result["sentence"][:len(begin)],
+                                  judged.result["worst_fault"], judged.printed[-1]),
+                           ("refused", begin, line, line))
                 self.must(f"{name}: manual", judged.printed[-2].endswith(
                     " See docs/manual/refusals.md#not-shown."), judged.printed)
                 self.check(f"{name}: faults", [
@@ -422,6 +421,5 @@ class InvisibleRows(Case):
         mild = self.write("mild", b"not shown warning\n")
         judged = judge_files(self, write_programme(self, TIMES[:3], text=b"\x1dHi"),
                              "--severity", mild)
-        self.check("verdict", judged.timed_verdict, "waived")
-        self.check("severities", {item["severity"] for item in judged.result["faults"]},
-                   {"warning"})
+        self.check("verdict and severities", (judged.timed_verdict, {
+            item["severity"] for item in judged.result["faults"]}), ("waived", {"warning"}))

@@ -151,11 +151,9 @@ class Decisions(unittest.TestCase):
                     self.assertEqual(get_outcome(result), decide_by_clock(word, clock),
                                      (name, is_error, parts, clock))
 
-    def test_a_named_fault_without_a_part_does_not_hide_an_error(self) -> None:
+    def test_without_a_part_an_error_or_a_named_warning_leaves_a_pair_unjudged(self) -> None:
         self.assertEqual(decide(Grounds([], ONE_WARNING, error_kinds=["input"],
                                         named_faults=[NEVER_SENT])).word, NOT_JUDGED)
-
-    def test_a_named_warning_without_a_part_is_not_judged(self) -> None:
         self.assertEqual(decide(Grounds([], NAMES_ARE_WARNINGS, named_faults=[NEVER_SENT])),
                          Decision(NOT_JUDGED, NOTHING_READ, "undecided"))
 
@@ -363,6 +361,7 @@ class LeadingFaults(Case):
     def test_an_accepted_part_has_no_worst_fault(self) -> None:
         part = make_part(0, 9, 0, make_answer([line := "accepted 10 frames 2 transmissions"]))
         self.check("none", (part.worst_fault_line, part.first_text), (None, line))
+        self.check("no cause", find_worst_cause([]), None)
 
     def test_chooses_the_worst_named_fault_unless_a_numbered_fault_is_worse(self) -> None:
         never, left, hidden = (NamedFault(name, "") for name in FAULT_NAMES)
@@ -416,9 +415,6 @@ class LeadingFaults(Case):
         causes = make_causes_named(["wrong text"] * 4)
         causes.first_wrong_frames = {0: 900_000 + SECOND + 9}
         self.check_worst_fault("9 frames later", WRONG_PAGES, causes, WRONG_PAGES[1])
-
-    def test_there_is_no_worst_cause_without_a_cause(self) -> None:
-        self.check("no cause", find_worst_cause([]), None)
 
 
 # Two subtitles as `show` prints them, and their values.

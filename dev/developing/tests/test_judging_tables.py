@@ -268,8 +268,7 @@ class FrameGrids(Case):
                 result = None
             self.assertEqual(result, frame, code)
 
-    def test_reads_no_start_time_from_a_file_that_ends_within_tcp(self) -> None:
-        short = self.write("two.stl", make_gsi_block(b"", 0, 0)[:260])
+        short = self.write("two.stl", make_gsi_block(b"", 0, 0)[:260])  # ends within the time code
         with self.assertRaises(Unclear):
             read_start_frame(make_example_request(short, "one.ts", "--start", "tcp"))
 
@@ -448,8 +447,7 @@ class PageDifferences(Case):
 
 class SubtitleBlocks(Case):
     def test_reads_a_subtitle_from_all_its_blocks(self) -> None:
-        """Subtitle 1 (SN 7) has the blocks 2 and 5, between user data and a comment; subtitle 2 (SN
-        300) has block 6. Then the file ends within a block."""
+        """The blocks 2 and 5 are subtitle 1 (SN 7), and block 6 is subtitle 2 (SN 300)."""
         first = make_tti_block(7, 25, 50, 20, 2, b"a\xc2e\x80", 0)
         last = make_tti_block(7, 25, 50, 20, 2, b"\xf9\xff")
         comment = make_tti_block(7, 25, 50, 20, 2, b"no", comment=1)

@@ -87,11 +87,10 @@ class Verdicts(Case):
         has = "; the profile has --allow-lost and --severity"
         warned, of_loss = "not accepted, since --strict treats warnings as faults (pause, page)", \
             "not accepted, since TS packets are lost"
-        # A letter for each part: `a`, `r` or `o` for an accepted part, one with the fault 72, or
-        # one with the faults 38 and 70, all with a given clock; `f` for an accepted part with an
-        # estimated clock. Then members of the verdict (`is_mild`: the file `mild` makes fault 72
-        # and `never sent` warnings), the verdict, its last line, and the line of the worst fault,
-        # or `None` if that is the last line.
+        # A letter for each part: accepted (`a`), with fault 72 (`r`), with the faults 38 and 70
+        # (`o`), or accepted by an estimated clock (`f`). Members of the verdict (`is_mild`: fault
+        # 72 and `never sent` are warnings), the verdict, its last line, and the line of the worst
+        # fault, or `None` if that is the last line.
         rows: list[tuple[str, dict[str, Any], str, str | None, str | None]] = [
             ("a", {}, "accepted", good, good),
             ("aa", {}, "accepted", "accepted 20 frames 4 transmissions in 2 parts", None),
@@ -156,9 +155,7 @@ class Verdicts(Case):
                 verdict.word, verdict.status, verdict.line, verdict.subtitle_counts,
                 verdict.unjudged_reason, verdict.is_final),
                 ("not judged", status, None, None, why, is_final))
-
-    def test_another_call_gives_the_same_verdict_if_there_is_no_error(self) -> None:
-        self.must("final", make_part_verdict(self.make_three_parts()).is_final)
+        self.must("final without an error", make_part_verdict(self.make_three_parts()).is_final)
 
     def test_keeps_each_warning_once(self) -> None:
         notice, other = Notice("pause", "1", None), Notice("pause", "2", None)
