@@ -172,8 +172,8 @@ class Reasons(ProgrammeCase):
             "both in three PES packets": (("312",), ["0001", "0002"]),
             "three sub-codes": (("11", "12", "13") * 3, ["0001", "0002", "0003"]),
             "six sub-codes, each once": (("11", "12", "13", "14", "15", "16"), [])})
-        first_six = make_runs(*("11", "12") * 3, *("11",) * 6)
-        self.check_rows(lambda *pes: len(find_alternating_subcodes(first_six, pes)), {
+        runs = make_runs(*("11", "12") * 3, *("11",) * 6)  # the first six alternate
+        self.check_rows(lambda first, last: len(find_alternating_subcodes(runs, (first, last))), {
             "while they alternate": ((0, 5), 2), "all": ((0, 11), 2),
             "after the first two": ((2, 11), 0), "after they alternate": ((6, 11), 0)})
         self.check("two PES packets", [*explain_mismatch(make_runs("11", "12"), PAGE)], [])

@@ -331,7 +331,7 @@ class Recordings(Case):
         self.schedule(self.write("sent.stl", sent), "one.pes", "--every", "25")
         stl = self.write("other.stl", other.replace(b"Number", b"Figure"))
         origin = wrap_pts(TICKS * (first - begin))  # the first TCI is that of the first page
-        for words, verdict in ([], "Not judged"), (["--origin", f"{origin}"], "Refused"):
+        for words, verdict in ((), "Not judged"), (("--origin", f"{origin}"), "Refused"):
             judged = judge_files(self, stl, self.path("one.pes"), *words)
             self.must(verdict, judged.result["sentence"].startswith(
                 f"{verdict}: probably another programme's subtitle file: "), judged.printed)
@@ -344,7 +344,7 @@ class Recordings(Case):
                                    ("2 to 11 at the times of 2, 4 .. 20", cues[1::2], 2)):
             sent = write_programme(self, times, name="sent.stl", first=first)
             self.schedule(sent, "one.pes", "--every", "25")
-            for words in ([], ["--origin", "0"]):
+            for words in ((), ("--origin", "0")):
                 judged = judge_files(self, stl, self.path("one.pes"), *words)
                 self.must(f"{name} {words}", "another programme" not in "".join(judged.printed),
                           judged.printed)

@@ -28,21 +28,20 @@ from .parts import make_answer, make_part
 ERROR, WARNING = 72, 67  # fault numbers; `ONE_WARNING` makes 67 a warning
 ENDS_READING = (*range(10, 16), 17, *range(22, 26), 30, 31, 32, 44)
 # What a finished `check` may print about a part, by the verdict on it.
+ONE_ERROR = CheckSummary(1, fault_count=1, printed_total=1, fault_numbers={ERROR})
 RIGHT = {
     "accepted": CheckSummary(0, is_accepted=True),
     "refused": CheckSummary(1, fault_count=3, printed_total=3,
                             fault_numbers=(WARNING, ERROR, WARNING)),
     "waived": CheckSummary(1, fault_count=2, printed_total=2, fault_numbers={WARNING}),
     "accepted, not read": CheckSummary(0, is_accepted=True, is_read=False),
-    "waived, not read": CheckSummary(1, fault_count=1, printed_total=1, fault_numbers={WARNING},
-                                     is_read=False),
-    "refused, not read": CheckSummary(1, fault_count=1, printed_total=1, fault_numbers={ERROR},
-                                      is_read=False)}
+    "waived, not read": ONE_ERROR._replace(fault_numbers={WARNING}, is_read=False),
+    "refused, not read": ONE_ERROR._replace(is_read=False)}
 # What no finished `check` prints: its output is incomplete, or does not match its exit status.
 WRONG = {
     "silent": CheckSummary(0),
     "not ended": CheckSummary(None, is_accepted=True),
-    "not ended, refused": CheckSummary(None, fault_count=1, printed_total=1, fault_numbers={ERROR}),
+    "not ended, refused": ONE_ERROR._replace(exit_status=None),
     "killed": CheckSummary(-9, is_accepted=True),
     "killed in its list": CheckSummary(-15, fault_count=2, printed_total=2,
                                        fault_numbers={WARNING}),
@@ -50,12 +49,10 @@ WRONG = {
     "accepted, status 2": CheckSummary(2, is_accepted=True),
     "accepted with a number alone": CheckSummary(0, is_accepted=True, fault_numbers={WARNING}),
     "accepted with a count alone": CheckSummary(0, is_accepted=True, fault_count=1),
-    "refused, status 0": CheckSummary(0, fault_count=1, printed_total=1, fault_numbers={ERROR}),
-    "refused, status 2": CheckSummary(2, fault_count=1, printed_total=1, fault_numbers={ERROR}),
-    "a list without an end": CheckSummary(1, fault_count=2, printed_total=None,
-                                          fault_numbers={ERROR}),
-    "a list that lacks a line": CheckSummary(1, fault_count=1, printed_total=2,
-                                             fault_numbers={WARNING}),
+    "refused, status 0": ONE_ERROR._replace(exit_status=0),
+    "refused, status 2": ONE_ERROR._replace(exit_status=2),
+    "a list without an end": ONE_ERROR._replace(fault_count=2, printed_total=None),
+    "a list that lacks a line": ONE_ERROR._replace(printed_total=2, fault_numbers={WARNING}),
     "no fault, counted": CheckSummary(1, fault_count=0, printed_total=0)}
 # Whether judged frames have lost packets, for each loss.
 LOSSES: Sequence[Sequence[bool]] = (

@@ -184,11 +184,11 @@ class Notices(Case):
     def test_warns_of_wrong_counts_of_blocks_and_subtitles_in_the_gsi_block(self) -> None:
         data = b"".join(make_subtitle_blocks(at, 25 * at, 25 * at + 20, 20, 2, b"a")
                         for at in (1, 2))
-        for counts in itertools.product(range(4), repeat=2):
-            result = self.list_count_notices(make_gsi_block(b"", *counts) + data)
+        for blocks, subtitles in itertools.product(range(4), repeat=2):
+            result = self.list_count_notices(make_gsi_block(b"", blocks, subtitles) + data)
             self.assertEqual([(kind, "there are 2" in line) for kind, line in result],
-                             [(kind, True) for kind, count in zip(("blocks", "subtitles"), counts)
-                              if count != 2], counts)
+                             [("blocks", True)] * (blocks != 2)
+                             + [("subtitles", True)] * (subtitles != 2), (blocks, subtitles))
 
     def test_warns_of_a_readable_wrong_count_beside_an_unreadable_one(self) -> None:
         gsi = make_gsi_block(b"", 1, 1)
@@ -340,7 +340,7 @@ class NamesOfFiles(Case):
                 pass
         possible = ["one.cut.pes", "one.recording.pes", "one.recording.ts", "one.midnight.copy",
                     "one.txt", "one.html", "one.json"]  # listed even if they do not exist
-        self.check("own", sorted(map(os.path.basename, list_pair_files(out, "one"))),
+        self.check("own", sorted(os.path.basename(path) for path in list_pair_files(out, "one")),
                    sorted([*own, *possible]))
         for name in ("a[1]", "a*", "a?"):
             path = self.write(f"out/{name}.1.txt", b"")
