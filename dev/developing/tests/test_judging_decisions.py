@@ -195,6 +195,7 @@ class EstimatedOrigins(Case):
             self.must(f"{away}", bool(printed[1:]) == is_asked, printed)
 
     def test_prints_no_advice_for_several_runs_or_breaks(self) -> None:
+        # The number of airings, the number of breaks, and whether the reason has no advice.
         for runs, breaks, is_alone in ((0, None, False), (2, None, True), (0, 0, True),
                                        (0, 2, True), (3, 2, True)):
             why = make_unclear_origin(OriginEstimate(airings=[(0, 9)] * runs, breaks=breaks,

@@ -4,7 +4,6 @@ from __future__ import annotations
 import ctypes
 import itertools
 import re
-import unittest
 from types import SimpleNamespace
 from typing import Any, Iterator
 
@@ -40,16 +39,15 @@ VERB = re.compile(r"\b(is|are|has|have|was|were|does|ends|comes|begins?|differs|
                   r"lacks|had|do)\b")
 
 
-class HeaderOptions(unittest.TestCase):
+class HeaderOptions(Case):
     def test_names_the_option_of_a_header_unless_it_is_the_requested_one(self) -> None:
         for bits, requested in itertools.product(range(8), OPTIONS):  # bits C12 to C14
             sent = select_option(bits, requested)
             words = f"the header is {sent.name}, but --option is {requested.word}" if sent else \
                 "C12, C13 and C14 are set, which is reserved"
-            with self.subTest(bits=bits, requested=requested.word):
-                self.assertEqual(
-                    describe_control_bits(bytes([8, 8, 0, 8, 0, 8, 1, bits << 1]), requested.word),
-                    [words] * (sent != requested))
+            header = bytes([8, 8, 0, 8, 0, 8, 1, bits << 1])
+            self.check(f"{bits} {requested.word}", describe_control_bits(header, requested.word),
+                       [words] * (sent != requested))
 
     def test_reads_bits_by_the_region_of_the_option_or_by_the_default_region(self) -> None:
         # The bits C12 to C14, the requested option, and the option that the bits mean.
@@ -121,13 +119,12 @@ SENTENCES: dict[str, tuple[Facts, str]] = {
         "Refused: a, and in 1 more place; also 73 Gap; record that part again.")}
 
 
-class Sentences(unittest.TestCase):
+class Sentences(Case):
     def test_describes_each_verdict(self) -> None:
         self.assertTrue(NOT_CHECKED.endswith("add --origin PTS (the PTS of the subtitle file's "
                                              "00:00:00:00)"), NOT_CHECKED)
         for name, (seen, expected) in SENTENCES.items():
-            with self.subTest(name):
-                self.assertEqual(write_sentence(seen), expected)
+            self.check(name, write_sentence(seen), expected)
 
     def test_has_a_sentence_for_each_fault_number_in_the_manual(self) -> None:
         self.assertEqual(set(FAULT_CLAUSES), FAULT_NUMBERS - PACKET_FAULTS_ONLY)
@@ -145,13 +142,12 @@ class Sentences(unittest.TestCase):
 
     def test_has_a_sentence_for_each_cause(self) -> None:
         for name in [item for item in CAUSE_NAMES if item != TEXT_IN_PAUSE]:
+            # Subtitle 3 has the cause, or the subtitles 3 and 5.
             for several in ([cause(2, name, 3)], [cause(2, name, 3), cause(4, name, 5)]):
                 words = describe_causes(make_causes(*several), "english")
-                printed = CAUSE_PREDICATES[name][len(
-                    several) > 1] if name in CAUSE_PREDICATES else \
-                    "appeared 3 "
+                predicates = CAUSE_PREDICATES.get(name, ("appeared 3 ", "appeared 3 "))
                 with self.subTest(name, count=len(several)):
-                    self.assertIn(f" {printed}", words)
+                    self.assertIn(f" {predicates[len(several) - 1]}", words)
                     self.assertRegex(words, VERB)
                     self.assertRegex(words, r"^(subtitle 3 at \d\d:\d\d:\d\d:\d\d,? |2 of )")
 
@@ -226,7 +222,7 @@ HEADERS = {
 
 
 class NamedPlaces(ProgrammeCase):
-    """German subtitles, "Number 1, \u00d6sl" and so on, appear every 50 frames from 10:00:00:00 on
+    """German subtitles, "Number 1, Ösl" and so on, appear every 50 frames from 10:00:00:00 on
     for 40 frames. The header of one page is wrong: that of subtitle 3 or of the blank page after.
     """
 
@@ -242,7 +238,7 @@ class NamedPlaces(ProgrammeCase):
 
     def test_names_the_subtitle_of_a_wrong_header(self) -> None:
         begin, end = TIMES[2]
-        pages = {begin: '10:00:04:00, subtitle 3, "Number 3, \u00d6sl",',
+        pages = {begin: '10:00:04:00, subtitle 3, "Number 3, Ösl",',
                  end: "10:00:05:15, the page after subtitle 3"}
         for (values, effect), (frame, page) in itertools.product(HEADERS.items(), pages.items()):
             header = make_header(**{name: int(value) for name, _, value in (
@@ -374,7 +370,7 @@ class InvisibleRows(Case):
     alone, and with their correct transmission."""
 
     def judge_text(self, text: bytes) -> Iterator[tuple[bool, JudgedPair]]:
-        """Judge subtitles without and with a recording. "\u00d6" is added to "Hi" in their text."""
+        """Judge subtitles without and with a recording. "Ö" is added to "Hi" in their text."""
         stl = write_programme(self, [(900_000 + 50 * at, 900_040 + 50 * at) for at in range(3)],
                               text=text.replace(b"Hi", b"Hi\xc8O"), first=7)
         sent = schedule_pages(self, stl, "--option", "german")

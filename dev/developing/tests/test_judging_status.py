@@ -3,7 +3,6 @@ from __future__ import annotations
 
 import itertools
 import tempfile
-import unittest
 from types import SimpleNamespace
 from typing import Any, Sequence
 
@@ -98,7 +97,7 @@ ALLOWING_SEVERITIES = [make_severity(f"{WARNING} warning", is_loss_allowed=True)
                        make_severity(f"{WARNING} warning", "45 warning")]
 
 
-class Decisions(unittest.TestCase):
+class Decisions(Case):
     """A pair has parts with the outputs of `check` in `RIGHT` and `WRONG`, with or without a given
     clock and --relative (`CLOCKS`)."""
 
@@ -169,9 +168,8 @@ class Decisions(unittest.TestCase):
             expected = WARNED
         else:
             expected = ACCEPTED if name == "accepted" else WAIVED
-        with self.subTest(name, losses=losses, allowed=is_allowed, warnings=warnings,
-                          strict=seen.is_strict, clock=clock):
-            self.assertEqual(get_outcome(result), decide_by_clock(expected, clock))
+        self.check(f"{name} {losses} {is_allowed} {warnings} {seen.is_strict} {clock}",
+                   get_outcome(result), decide_by_clock(expected, clock))
 
     def test_two_recordings_differ_by_any_fault(self) -> None:
         accepted, waived = [RIGHT["accepted"]], [RIGHT["waived"]]
@@ -183,19 +181,18 @@ class Decisions(unittest.TestCase):
                                 DIFFERS),
             "no output": (Grounds([WRONG["silent"]], ONE_WARNING), NOT_JUDGED, NOT_JUDGED)}
         for name, (grounds, with_clock, without) in rows.items():
-            with self.subTest(name):
-                self.assertEqual([decide_comparison(
-                    grounds._replace(has_clock=has_clock), False, 0).word
-                    for has_clock in (True, False)], [with_clock, without])
+            decisions = [decide_comparison(grounds._replace(has_clock=has_clock), False, 0)
+                         for has_clock in (True, False)]
+            self.check(name, [item.word for item in decisions], [with_clock, without])
 
     def test_is_not_judged_after_an_error(self) -> None:
         for name, output in (RIGHT | WRONG).items():
             for kinds, status in ERRORS.items():
                 result = decide(Grounds([output, output], ONE_WARNING, error_kinds=kinds,
                                         has_clock=True))
-                with self.subTest(name, kinds=kinds):
-                    self.assertEqual((result.word, result.status), (NOT_JUDGED, status))
-                    self.assertIn(result.not_judged_kind, kinds)
+                self.check(f"{name} {kinds}", (
+                    result.word, result.status, result.not_judged_kind in kinds),
+                    (NOT_JUDGED, status, True))
             result = decide(Grounds([output, output], ONE_WARNING, has_clock=True))
             self.assertEqual(result.word, self.decide_expected_word([name]))
             self.assertEqual(result.not_judged_kind is None, result.word != NOT_JUDGED)
@@ -213,7 +210,7 @@ class Decisions(unittest.TestCase):
                          Decision(ACCEPTED))
 
 
-class BatchStatus(unittest.TestCase):
+class BatchStatus(Case):
     def test_returns_the_worst_status(self) -> None:
         # The exit statuses of pairs, whether the batch was stopped, and the status of the batch.
         rows: list[tuple[list[int], bool, int]] = [
@@ -223,20 +220,18 @@ class BatchStatus(unittest.TestCase):
             ([0, 64], True, 64)]
         for statuses, is_stopped, status in rows:
             for order in (statuses, statuses[::-1]):
-                with self.subTest(statuses=order, stopped=is_stopped):
-                    self.assertEqual(combine_statuses(order, is_stopped), status)
+                self.check(f"{order} {is_stopped}", combine_statuses(order, is_stopped), status)
 
     def test_rejects_a_result_whose_status_is_not_that_of_its_verdict_and_process(self) -> None:
         for verdict, status, exit_status in itertools.product(
                 [*STATUSES, "fine"], (*range(5), 64, 70), (0, 1, 2, 3, 64, 70, -9, -15)):
             is_possible = status == STATUSES.get(verdict) or (verdict, status) in (
                 (RELATIVE, 0), (NOT_JUDGED, 64), (NOT_JUDGED, 70))
-            with self.subTest(verdict, status=status, exit_status=exit_status):
-                self.assertEqual(matches_exit_status(verdict, status, exit_status),
-                                 is_possible and status == exit_status)
+            self.check(f"{verdict} {status} {exit_status}", matches_exit_status(
+                verdict, status, exit_status), is_possible and status == exit_status)
 
 
-class Severities(unittest.TestCase):
+class Severities(Case):
     def test_the_last_line_about_a_fault_decides_its_severity(self) -> None:
         """Faults that end the reading are always errors. --allow-lost makes 45 and 79 warnings."""
         each: dict[int | str, str] = {number: "warning" for number in FAULT_NUMBERS}
@@ -261,9 +256,8 @@ class Severities(unittest.TestCase):
         for lines, is_allowed, expected in rows:
             severity = make_severity(lines, is_loss_allowed=is_allowed)
             for item, word in {**expected, **ends}.items():
-                with self.subTest(lines=lines, allowed=is_allowed, of=item):
-                    self.assertEqual((severity.classify(item), severity.is_error(item)),
-                                     (word, word == "error"))
+                self.check(f"{lines} {is_allowed} {item}", (
+                    severity.classify(item), severity.is_error(item)), (word, word == "error"))
     def test_with_a_given_pace_missing_pes_packets_are_errors(self) -> None:
         self.assertEqual([Severity(None, is_loss_allowed, is_pace_given=True).classify(number)
                           for is_loss_allowed in (False, True) for number in (45, 79)],

@@ -159,6 +159,7 @@ class Notices(Case):
         own, other = Announced(PAGE, "eng", 2), Announced((1, 0x50), "ger", 5)
         stl = self.write("one.stl", make_gsi_block(b"", 0, 0))
         request = make_example_request(stl, "one.ts")
+        # The pages in the PMT of each programme that has PID 0x101, and the end of the warning.
         of_pages: list[tuple[list[list[Announced]], str]] = [
             ([], ""), ([[own]], ""), ([[other, own]], ""), ([[], [own]], ""),
             ([[other], [own]], ""), ([[own], [other]], ""), ([[own, other]], ""),
