@@ -371,8 +371,7 @@ class InvisibleRows(Case):
 
     def judge_text(self, text: bytes) -> Iterator[tuple[bool, JudgedPair]]:
         """Judge subtitles without and with a recording. "Ö" is added to "Hi" in their text."""
-        stl = write_programme(self, [(900_000 + 50 * at, 900_040 + 50 * at) for at in range(3)],
-                              text=text.replace(b"Hi", b"Hi\xc8O"), first=7)
+        stl = write_programme(self, TIMES[:3], text=text.replace(b"Hi", b"Hi\xc8O"), first=7)
         sent = schedule_pages(self, stl, "--option", "german")
         recording = self.write("one.pes", join_pes_packets(sent))
         for more in ((), (recording, "--origin", "0")):
@@ -408,9 +407,8 @@ class InvisibleRows(Case):
                            ("accepted" if has_recording else "valid", warnings))
 
     def test_warns_of_subtitles_that_a_layout_hides_from_some_receivers(self) -> None:
-        [*self.judge_text(b"Hi")]
-        judged = judge_files(self, self.path("one.stl"), "--option", "german", "--layout",
-                             "before=0B")
+        stl = write_programme(self, TIMES[:3], text=b"Hi\xc8O", first=7)
+        judged = judge_files(self, stl, "--option", "german", "--layout", "before=0B")
         self.check("kinds", [item["kind"] for item in judged.result["warnings"]], ["hidden"] * 3)
 
     def test_a_severity_file_waives_invisible_rows(self) -> None:
