@@ -225,9 +225,8 @@ class Headers(Case):
         first, second = KEEPING_NUMBERS, OTHER_SUBCODE
         # The flags of a PES packet (h: header, c: closing), the values of its headers, and the
         # state before it; each header with the previous one, and whether the page was open.
-        self.check_rows(lambda flags, values, state: [
-            tuple(header) for header in find_page_headers(PacketRun(0, 1, 0, 0, flags, values),
-                                                          state)], {
+        self.check_rows(lambda flags, values, state: find_page_headers(
+            PacketRun(0, 1, 0, 0, flags, values), state), {
             "no header": (("-", "", INITIAL_STATE), []),
             "the first header": (("h", item, INITIAL_STATE), [(first, None, False)]),
             "the page is open": (("hec", "88080810", received), [(NUMBERS, NUMBERS, True)]),
@@ -291,12 +290,8 @@ class Headers(Case):
 
 class HeaderCounts(Case):
     def test_counts_all_headers_and_those_that_keep_if_no_other_bit_is_wrong(self) -> None:
-        def count(headers: dict[bytes, int], option: str) -> tuple[int, ...] | None:
-            counted = count_keeping_headers(headers, option)
-            return counted and counted[:2]
-
         keep, english = KEEPING_NUMBERS, "english"
-        self.check_rows(count, {
+        self.check_rows(count_keeping_headers, {
             "no header": (({}, english), None), "all erase": (({NUMBERS: 7}, english), None),
             "the only one keeps": (({keep: 1}, english), (1, 1)),
             "three of ten keep": (({NUMBERS: 7, keep: 3}, english), (10, 3)),
