@@ -18,8 +18,9 @@ from subtitles.judging.transmissions import ExpectedPages
 from subtitles.judging.verdict import measure_delay
 from subtitles.stream.packets import Packets
 from subtitles.stream.receiver import BLANK_PAGE, Rows, SpanIndex, Timeline
-from .. import DEV
 from .judged import JudgedPair, ProgrammeCase
+from .stories import read_vectors
+from .test_judging_waivers import TIMES as WAIVED_TIMES, make_waiver
 from .transmissions import CLOSING, HEADER, PAGE, SentPes, make_numbered_row
 
 BEGIN = 900_000
@@ -100,12 +101,39 @@ class SenderFaults(ProgrammeCase):
             self.must(name, any(f"`{name}" in item for item in items))
 
 
-# Causes of refused subtitles, by tables. A row has the subtitles (`100-150 a` has its TCI in frame
-# 100, its TCO in frame 150, and the text of page a), and the decoded pages with their first frames:
-# `100:a/4` is a page that another header ends 4 frames later. `!` has the frames of a pause between
-# PES packets, `?` unreadable frames, `~` lost frames, and `@` a frame with rows without a header.
+class WaivedFaults(ProgrammeCase):
+    """Five subtitles. The second, in the frames 200 to 259, is followed by the third without a
+    pause, up to frame 319."""
 
-CAUSES_FILE = os.path.join(DEV, "vectors", "causes.tsv")
+    cues, qc_args = WAIVED_TIMES, ("--origin", "0", "--every", "25")
+
+    def test_a_fault_is_waived_only_if_each_subtitle_that_it_concerns_has_a_waiver(self) -> None:
+        def leave_out(first: int, end: int) -> SentPes:
+            return [item for item in self.sent if not first * TICKS <= item[0] < end * TICKS]
+
+        third = dict(self.sent)[260 * TICKS][1:-1]  # the row of subtitle 3
+        # The transmission, and the subtitles that each fault concerns, by its number (72: a wrong
+        # page, 73: no header). 0 is a pause, for which there are no waivers.
+        rows: dict[str, tuple[SentPes, dict[int, list[int]]]] = {
+            "nothing sent for 2 and 3": (leave_out(200, 320), {72: [2, 3], 73: [2, 3]}),
+            "3 neither repeated nor erased": (leave_out(285, 400), {72: [3], 73: [3, 0]}),
+            "3 early, in the time of 2": (insert_page(self.sent, 250, *third), {72: [2, 3]})}
+        for name, (sent, concerned) in rows.items():
+            waivers = [(number, at) for number, places in concerned.items() for at in places if at]
+            for missing in (None, *waivers):
+                waived = {waiver for waiver in waivers if waiver != missing}
+                severity = self.write("severity", "\n".join(
+                    make_waiver(*waiver) for waiver in waived).encode())
+                faults = self.judge(sent, "--severity", severity).result["faults"]
+                self.check(f"{name}, without a waiver for {missing}", {
+                    fault["number"]: fault["severity"] for fault in faults}, {
+                    number: "warning" if {(number, at) for at in places} <= waived else "error"
+                    for number, places in concerned.items()})
+
+
+# Causes of refused subtitles, by the tables causes.tsv and causes-by-hand.tsv in dev/vectors, whose
+# first lines explain how subtitles and decoded pages are written.
+
 END = 1600  # end of the examined range of frames
 
 
@@ -187,14 +215,6 @@ def format_cause(cause: Cause, sent: str) -> str:
 
 
 class StoredRows(unittest.TestCase):
-    """Each row of dev/vectors/causes.tsv has random subtitles, decoded pages and options; and the
-    results that were last reviewed: the causes, the numbers of the subtitles to which the faults 63
-    and 74 and the first three faults 72 belong, and the delays of the subtitles in frames.
-
-    Options are the tolerance `within`, the first and last recorded frame by PES packets (`first`,
-    `last`) and by PCR (`reach`), the frames of the faults 63 (`begin`) and 74 (`end`), and the
-    first subtitle's `number`."""
-
     def find_results(self, subtitles: str, sent: str, words: str) -> list[str]:
         options = dict(word.split("=") for word in words.split())
         programme = make_programme(subtitles, int(options.get("number", 1)))
@@ -216,106 +236,10 @@ class StoredRows(unittest.TestCase):
         return ["; ".join(printed), f"{owners}", f"{delays[0]} {delays[1]}"]
 
     def test_finds_the_causes_of_each_row(self) -> None:
-        with open(CAUSES_FILE, encoding="utf-8") as file:
-            for line in file:
-                subtitles, sent, options, *expected = line.rstrip("\n").split("\t")
-                with self.subTest(subtitles, sent=sent, options=options):
-                    self.assertEqual(self.find_results(subtitles, sent, options), expected)
-
-
-# Rows whose causes were derived by hand: subtitles, decoded pages, and the expected causes with
-# their subtitle, their frames if early or late, and the decoded page. `2 early 3, b` means that
-# page b of subtitle 2 was sent 3 frames early.
-ROWS_BY_HAND = {
-    "as expected": ("100-150 a", "0:- 100:a 150:-", ""),
-    "late by 3 frames": ("100-150 a", "0:- 103:a 150:-", "1 late 3, a"),
-    "a wrong text, and the next one early": (
-        "100-150 a;150-200 b", "0:- 100:x 147:b 200:-", "1 wrong text, x; 2 early 3, b"),
-    "all late": ("100-200 a;200-300 b", "0:- 200:a 300:b 400:-", "1 late 100, a; 2 late 100, b"),
-    "all early": ("200-300 a;300-400 b", "0:- 100:a 200:b 400:-", "1 early 100, a; 2 early 100, b"),
-    "the first at the time of the second": (
-        "100-200 a;200-300 b", "0:- 200:a 250:b 300:-",
-        "1 never sent; 2 another subtitle's text of 1, a"),
-    "the third at the time of the second": (
-        "100-150 a;200-250 b;300-350 c", "0:- 100:a 150:- 200:c 250:- 300:c 350:-",
-        "2 another subtitle's text of 3, c"),
-    # A page is searched for in the 250 frames before and the 250 frames after its TCI.
-    "late by 250 frames": ("100-150 a;300-340 b", "0:- 300:b 340:- 350:a 380:-", "1 late 250, a"),
-    "later than 250 frames is never sent": (
-        "100-150 a;300-340 b", "0:- 300:b 340:- 351:a 380:-", "1 never sent; 2 unknown, a"),
-    # A text that is not in the file is reported for the subtitle that it overlaps longer.
-    "a foreign text, for more frames of the second": (
-        "100-203 a;203-260 b", "0:- 100:a 200:z 260:-", "2 wrong text, z"),
-    "a foreign text after one that is not erased": (
-        "100-190 a;203-260 b", "0:- 100:a 195:- 200:z 260:-", "1 not erased, a; 2 wrong text, z"),
-    "a foreign text, for more frames of the first": (
-        "100-203 a;203-260 b", "0:- 100:a 120:z 210:b 260:-", "1 wrong text, z; 2 late 7, b"),
-    "early by 250 frames": ("10-20 a;400-450 b", "0:- 10:a 20:- 150:b 160:-", "2 early 250, b"),
-    # Of several wrong pages the one that lasted longest is reported.
-    "two foreign texts, the second for longer": (
-        "100-150 a", "0:- 100:z 110:y 150:-", "1 wrong text, y"),
-    "two foreign texts, the first for longer": (
-        "100-150 a", "0:- 100:z 140:y 150:-", "1 wrong text, z"),
-    "three foreign texts, the last for longest": (
-        "100-150 a", "0:- 100:z 105:y 108:x 150:-", "1 wrong text, x"),
-    "a foreign text that is not erased": ("100-150 a", "0:- 100:z 125:y", "1 wrong text, z"),
-    "a foreign text, then the own": ("100-150 a", "0:- 100:z 120:a 150:-", "1 wrong text, z"),
-    "a foreign text since the beginning, then the own": (
-        "100-150 a", "0:z 120:a 150:-", "1 late 20, a"),
-    "a foreign text since the pause before": ("100-150 a", "0:- 50:z 160:-", "1 wrong text, z"),
-    "a subtitle before the first page": (
-        "10-50 a;100-150 b", "60:b 150:-", "1 never sent; 2 early 40, b"),
-    "a foreign text in the pause, and in the next": (
-        "100-150 a;200-250 b", "0:- 100:a 150:- 180:z 220:b 250:-",
-        "1 another text in a pause, z; 2 wrong text, z"),
-    "a foreign text at the TCO": (
-        "100-150 a;200-250 b", "0:- 100:a 150:z 170:- 200:b 250:-",
-        "1 another text in a pause, z"),
-    # At the last TCO a text may belong to the next programme.
-    "a foreign text at the last TCO": (
-        "100-150 a;200-250 b", "0:- 100:a 150:- 200:b 250:z 270:-", "2 unknown, z"),
-    "a foreign text after the last TCO": (
-        "100-150 a;200-250 b", "0:- 100:a 150:- 200:b 250:- 251:z 270:-", "2 unknown, z"),
-    "a foreign text before the first TCI": (
-        "100-150 a;200-250 b", "0:z 100:a 150:- 200:b 250:-", "1 unknown, a"),
-    "the second at the first TCO": (
-        "100-150 a;200-250 b", "0:- 100:a 150:b 250:-", "2 early 50, b"),
-    "a foreign text up to the TCO": ("100-150 a", "0:- 100:a 120:z 150:-", "1 wrong text, z"),
-    "a foreign text, then the own up to after the TCO": (
-        "100-150 a", "0:- 100:a 120:z 130:a 160:-", "1 wrong text, z"),
-    "one not erased, then the text of the third": (
-        "50-60 c;100-150 a;300-350 b", "0:- 50:c 110:- 120:b 150:- 300:b 350:-",
-        "1 not erased, c; 2 another subtitle's text of 3, b"),
-    # A pause ends when the page changes, or a few frames earlier.
-    "erased at the end of a pause": ("100-150 a", "0:- 100:a 161:- !148-160", "1 unknown, a"),
-    "erased after a pause": ("100-150 a", "0:- 100:a 165:- !148-160", "1 not erased, a"),
-    "sent at the end of a pause": ("100-150 a", "0:- 111:a 150:- !95-110", "1 unknown"),
-    "sent after a pause": ("100-150 a", "0:- 112:a 150:- !95-110", "1 late 12, a"),
-    "a pause up to the last frame": ("100-150 a", "0:- 160:- !95-149", "1 unknown"),
-    "a pause up to the last frame but one": ("100-150 a", "0:- 160:- !95-148", "1 never sent"),
-    "rows without a header before and after": ("100-150 a", "0:- 160:- @99 @150", "1 never sent"),
-    "rows without a header in its time": ("100-150 a", "0:- 160:- @90 @120", "1 unknown"),
-    "rows without a header in its last frame": ("100-150 a", "0:- 160:- @149 @160", "1 unknown"),
-    "unreadable after the foreign text": (
-        "100-150 a", "0:- 100:a 110:z 130:a 150:- ?130-140", "1 wrong text, z"),
-    "unreadable in the last frame of the foreign text": (
-        "100-150 a", "0:- 100:a 110:z 130:a 150:- ?129-140", "1 unknown, z"),
-    "unreadable before the foreign text": (
-        "100-150 a", "0:- 100:a 110:z 130:a 150:- ?100-109", "1 wrong text, z"),
-    "unreadable before its time": ("100-150 a", "0:- 120:a 150:- ?90-99", "1 late 20, a"),
-    "unreadable when it comes": ("100-150 a", "0:- 120:a 150:- ?120-130", "1 unknown"),
-    "unreadable in its last frame": ("100-150 a", "0:- 160:- ?149-155", "1 unknown"),
-    "unreadable after its time": ("100-150 a", "0:- 160:- ?150-155", "1 never sent"),
-    "a foreign text after the page was erased": (
-        "100-150 a", "0:- 100:a 110:- 120:z 150:-", "1 unknown"),
-    "a row is missing": ("100-150 a", "0:- 100:a,r 150:-", "1 wrong text, a,r"),
-    "another margin": ("100-150 a", "0:- 100:a,m 150:-", "1 wrong place, a,m"),
-    "another attribute": ("100-150 a", "0:- 100:a,a 150:-", "1 wrong colour or attribute, a,a"),
-    "not erased, and another text follows": (
-        "100-150 a;200-250 b", "0:- 100:a 200:b 250:-", "1 not erased, a"),
-    "not erased, and the same text follows": (
-        "100-150 a;160-250 a", "0:- 100:a 250:-", "1 not erased, a"),
-    "not erased, and nothing follows": ("100-150 a", "0:- 100:a", "1 not erased, a")}
+        for row in read_vectors("causes.tsv"):
+            with self.subTest(row["subtitles"], sent=row["sent"], options=row["options"]):
+                self.assertEqual(self.find_results(row["subtitles"], row["sent"], row["options"]),
+                                 [row["causes"], row["owners"], row["delays"]])
 
 
 class CausesByHand(unittest.TestCase):
@@ -328,18 +252,34 @@ class CausesByHand(unittest.TestCase):
         self.assertEqual(causes.first_wrong_frames, {0: 10})
 
     def test_finds_the_causes_derived_by_hand(self) -> None:
-        for name, (subtitles, sent, expected) in ROWS_BY_HAND.items():
-            programme = make_programme(subtitles)
-            causes = Causes(programme, decode(sent, programme))
+        for row in read_vectors("causes-by-hand.tsv"):
+            programme = make_programme(row["subtitles"])
+            causes = Causes(programme, decode(row["sent"], programme))
             spans = find_wrong_spans(causes)
             causes.classify_faults(fake_check_output(spans))
             places = {cause.subtitle_index for cause in causes.list_causes()}
-            with self.subTest(name):
-                self.assertEqual("; ".join(format_cause(cause, sent)
-                                           for cause in causes.list_causes()), expected)
+            with self.subTest(row["name"]):
+                self.assertEqual("; ".join(format_cause(cause, row["sent"])
+                                           for cause in causes.list_causes()), row["causes"])
                 for first, _ in spans:
                     item = causes.find_cause(72, first)
                     self.assertIn(item and item.subtitle_index, places)
+
+    def test_finds_causes_behind_a_delay_of_all_subtitles(self) -> None:
+        """Three subtitles are 10 frames late. The page of the second changes before its TCO."""
+        # The second page and the pages after it, with their frames, and its cause.
+        for sent, expected in (
+                ("210:b 260:-", "late 10, b"), ("210:b 230:b,p 260:-", "wrong place, b,p"),
+                ("210:b 230:b,a 260:-", "wrong colour or attribute, b,a"),
+                ("210:b 230:z 260:-", "wrong text, z"), ("210:b 268:-", "not erased, b"),
+                ("210:b 230:a 260:-", "another subtitle's text of 1, a")):
+            programme, sent = make_programme("100-150 a;200-250 b;300-350 c"), \
+                f"0:- 110:a 160:- {sent} 310:c 360:-"
+            causes = Causes(programme, decode(sent, programme))
+            causes.classify_faults(fake_check_output(find_wrong_spans(causes)))
+            causes.classify_by_delay(10)
+            self.assertEqual([format_cause(cause, sent) for cause in causes.list_causes()],
+                             ["1 late 10, a", f"2 {expected}", "3 late 10, c"])
 
     def test_a_recording_covers_the_frames_of_its_pes_packets_and_of_its_pcr(self) -> None:
         for pcr_frames, expected in ((None, (10, 20)), ((5, 30), (5, 30)), ((12, 18), (10, 20)),
@@ -370,6 +310,19 @@ class CausesByHand(unittest.TestCase):
                       for item in (causes.find_cause(63, 103), causes.find_cause(74, 140))]
             self.assertEqual(result, [0 if has_cause else None for has_cause in have_causes],
                              (blank_from, first, last))
+
+    def test_the_end_of_the_first_page_shows_its_delay_only_if_a_pause_follows(self) -> None:
+        """The recording begins with the first page, 3 frames after its TCI. The second page is 10
+        frames late."""
+        for subtitles, sent, expected in (
+                ("100-150 a;155-200 b", "103:a 160:- 165:b 210:-",
+                 "1 late 10, a; 2 late 10, b"),
+                ("100-150 a;150-200 b", "103:a 160:b 210:-", "2 late 10, b")):
+            programme = make_programme(subtitles)
+            causes = Causes(programme, decode(sent, programme, first=103))
+            causes.classify_faults(fake_check_output([Span(155, 159)], (63, 103)))
+            self.assertEqual("; ".join(format_cause(cause, sent)
+                                       for cause in causes.list_causes()), expected)
 
     def test_describes_a_cause_as_values_and_as_text(self) -> None:
         """Subtitles 1 to 3 have the subtitle numbers (SN) 6 to 8 and the pages a to c."""

@@ -14,8 +14,7 @@ from subtitles.common.program import find_proof
 from subtitles.common.times import CLOCK, TICKS
 from subtitles.formats.listing import parse_fault_line
 from subtitles.judging.causes import Cause, LATE, WRONG_TEXT
-from subtitles.judging.faults import (
-    describe_longest_gap, describe_pid_end, find_fault_place, list_hints)
+from subtitles.judging.faults import describe_longest_gap, find_fault_place, list_hints
 from subtitles.judging.part import report_causes
 from subtitles.judging.sentence import Facts, FaultCount, describe_causes, describe_faults
 from subtitles.judging.transmissions import run_program
@@ -28,6 +27,7 @@ from .judged import LineRecorder
 from .parts import (
     decode_packets, make_answer, make_example_request, make_part, make_shell_script,
     parse_single_fault, survey_packets)
+from .stories import read_vectors
 from .transmissions import CLOSING, HEADER, ORIGIN, make_numbered_row
 from .test_judging_verdicts import make_part_verdict
 
@@ -61,46 +61,11 @@ def make_causes(*several: Cause, count: int = 9, text: bytes = b"text") -> Any:
                            first_wrong_frames={}, delay_of_all=0)
 
 
-# Causes, and the sentence: the worst ones first.
-WORST_CAUSES = {
-    "3 late 3": 'subtitle 3 at 00:00:02:00, "text", appeared 3 frames late',
-    "3 early 1": 'subtitle 3 at 00:00:02:00, "text", appeared 1 frame early',
-    "1 never sent (why)": 'subtitle 1 at 00:00:00:00, "text", was never sent (why)',
-    "1 wrong text; 2 never sent":
-    'subtitle 2 at 00:00:01:00, "text", was never sent; other subtitles: wrong text',
-    "1 wrong text; 2 never sent; 4 never sent":
-    "2 of 9 subtitles were never sent (the first at 00:00:01:00, the last at 00:00:03:00); other "
-    "subtitles: wrong text",
-    "1 late 2; 2 late 1; 4 wrong text; 6 wrong place; 7 wrong text; 9 wrong colour or attribute":
-    "2 of 9 subtitles have the wrong text (the first at 00:00:03:00, the last at 00:00:06:00); "
-    "other subtitles: wrong place, late (2), wrong colour or attribute",
-    "1 another subtitle's text; 2 another subtitle's text; 3 never sent":
-    'subtitle 3 at 00:00:02:00, "text", was never sent; other subtitles: another subtitle\'s text '
-    '(2)',
-    "5 late 7; 7 late 3; 9 late 5":
-    "3 of 9 subtitles appeared 3 to 7 frames late (the first at 00:00:04:00, the last at "
-    "00:00:08:00)",
-    "5 late 7; 9 late 7":
-    "2 of 9 subtitles appeared 7 frames late (the first at 00:00:04:00, the last at 00:00:08:00)",
-    "1 not erased (a); 2 not erased (a)":
-    "2 of 9 subtitles were not erased (a) (the first at 00:00:00:00, the last at 00:00:01:00)",
-    "1 unknown (a); 2 unknown (b)":
-    "2 of 9 subtitles are not as expected (the first at 00:00:00:00, the last at 00:00:01:00)",
-    "1 another subtitle's text; 8 another subtitle's text":
-    "2 of 9 subtitles have other subtitles' texts (the first at 00:00:00:00, the last at "
-    "00:00:07:00)",
-    "3 another text in a pause (at 10:00)": "another text was sent in a pause, at 10:00",
-    "3 another text in a pause (at 10:02); 5 another text in a pause (at 10:04)":
-    "another text was sent in 2 pauses, the first at 10:02",
-    "9 wrong colour or attribute":
-    'subtitle 9 at 00:00:08:00, "text", has a wrong colour or attribute'}
-
-
 class Descriptions(Case):
     def test_reports_the_worst_cause_first(self) -> None:
-        for causes, expected in WORST_CAUSES.items():
-            self.check(causes, describe_causes(make_causes(*parse_causes(causes)), "english"),
-                       expected)
+        for row in read_vectors("worst-causes.tsv"):
+            causes = make_causes(*parse_causes(row["causes"]))
+            self.check(row["name"], describe_causes(causes, "english"), row["sentence"])
 
     def test_quotes_the_expected_and_the_received_text(self) -> None:
         wrong = cause(0, WRONG_TEXT)._replace(sent_page=(b" " * 40,) * 23 + (b"texts".ljust(40),))
@@ -188,11 +153,13 @@ class Descriptions(Case):
     def test_reports_why_the_teletext_ends(self) -> None:
         # Five PES packets, after which the PID has other data.
         packets = Packets(0x101, [PacketRun(0, 5, 0, TICKS, "h", "")], refusal=31)
-        why = "PID 0x101 has data other than PES packets of private_stream_1 from PES packet " \
+        answer = make_answer(["refused 63 Early frame 00:00:00:05",
+                              "refused 74 End frame 00:00:00:09", "2 faults"])
+        why = "74: PID 0x101 has data other than PES packets of private_stream_1 from PES packet " \
             "5 on: refused 31 Start pes 5"
-        for last, words in ((4, why), (3, "")):
-            part = make_part(0, 9, 0, packets=packets, pes=(0, last))
-            self.assertEqual(describe_pid_end(part), words, last)
+        for last, hints in ((4, [why]), (3, [])):
+            part = make_part(0, 9, 0, answer, packets=packets, pes=(0, last))
+            self.check(f"{last}", [*list_hints(make_part_verdict([part]))], hints)
 
     def test_reports_the_longest_gap_without_losses(self) -> None:
         each = tuple(range(0, 1001, 100))

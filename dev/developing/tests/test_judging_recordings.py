@@ -8,7 +8,8 @@ import re
 
 from developing.pes import make_pes_packet, decode_pts
 from subtitles.common.times import TICKS, format_frame, wrap_pts
-from subtitles.formats.stl import GSI
+from subtitles.formats.stl import GSI, TTI
+from subtitles.judging.coverage import describe_unchecked
 from subtitles.results.schema import find_misfit
 from .bench import Case, read_example_file
 from .judged import judge_files
@@ -123,6 +124,31 @@ class Recordings(Case):
                    ("accepted", [(ORIGIN,), (ORIGIN + 1000 * TICKS,)]))
         self.check("commands", [f" check {stl} one.recording.pes " in line
                                 for line in judged.lines("+ ")], [True] * 2)
+        unchecked = [*describe_unchecked(judged.verdict)]
+        self.check("the report lists what was not checked once for both parts", unchecked,
+                   [*dict.fromkeys(unchecked)])
+
+    def test_leaves_jumps_of_the_clock_out_of_times_into_the_recording(self) -> None:
+        """A blank page is sent twice in 10 seconds, and then a subtitle 4 seconds after PTS 0."""
+        stl = write_programme(self, subtitle_times(1))
+        sent = schedule_pages(self, stl)
+        # The first PTS in hours, and the time from it to the subtitle as H:MM:SS. A step forward by
+        # less than an hour is no jump.
+        for hours, time in ((1, "0:00:10"), (-2, "0:00:10"), (-1, "1:00:04")):
+            first = hours * 3600 * 25 * TICKS
+            pages = [(first, sent[-1][1]), (first + 250 * TICKS, sent[-1][1]), *sent]
+            recording = self.write("one.pes", join_pes_packets(pages))
+            row, = judge_files(self, stl, recording, "--origin", "0").result["subtitles"]
+            self.check(f"{hours} hours", row["recording_offset"], time)
+
+    def test_lists_refused_subtitles_and_those_outside_of_a_range_as_not_checked(self) -> None:
+        stl = bytearray(STL)
+        stl[GSI + 2 * TTI + TEXT_AT + 4] = 0xC2  # subtitle 3 is refused
+        judged = judge_files(self, self.write("one.stl", stl), self.write("one.pes", PES),
+                             "--from", "20:15:03:00")
+        self.check("not checked", [item["text"] for item in judged.result["not_checked"]][-2:], [
+            "1 subtitle outside of --from and --to",
+            "1 subtitle refused in the file, or followed by a refused subtitle"])
 
     def test_counts_losses_of_the_page_pid_only(self) -> None:
         """Pages 888 and 801 are sent on two PIDs, and the fifth TS packet of one PID is lost."""
@@ -356,8 +382,8 @@ class Recordings(Case):
         stl = write_programme(self, cues)
         for name, times, causes, more in (
                 ("late alone", late, {"late": 5}, ""),
-                ("not erased", [*late[:2], (late[2][0], late[2][1] + 8), *late[3:]],
-                 {"late": 4, "not erased": 1}, "; also not erased (1)"),
+                ("late, but erased in time", [*late[:2], (late[2][0], cues[2][1]), *late[3:]],
+                 {"late": 5}, ""),
                 ("erased early", [*late[:2], (late[2][0], late[2][1] - 8), *late[3:]],
                  {"late": 4, "erased": 1}, "; also erased (1)")):
             write_programme(self, times, name="sent.stl")

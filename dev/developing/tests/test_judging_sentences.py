@@ -27,9 +27,10 @@ from subtitles.recording.notices import Notice
 from subtitles.stream.receiver import BLANK_PAGE
 from .bench import Case
 from .judged import JudgedPair, ProgrammeCase, judge_files
-from .stories import read_table
+from .stories import read_table, read_vectors
 from .transmissions import (
-    CLOSING, HEADER, join_pes_packets, delay_subtitle, write_programme, schedule_pages)
+    CLOSING, HEADER, join_pes_packets, delay_subtitle, write_programme, schedule_pages,
+    subtitle_times)
 from .test_formats_characters import ANY_SUBCODE, CHARACTER, LEVEL_1, Receiver, TEXT_OFFSET
 from .test_judging_faults import cause, make_causes
 
@@ -65,6 +66,9 @@ NO_CLOCK = f"No clock was given, so a delay that they all share {NOT_CHECKED}."
 SENTENCES: dict[str, tuple[Facts, str]] = {
     "not judged: the first line of the reason": (
         Facts(NOT_JUDGED, 0, reason="no\nmore"), "Not judged: no."),
+    "not judged, and the reason names another programme": (
+        Facts(NOT_JUDGED, 0, reason="another programme: no text", mismatch="another programme"),
+        "Not judged: another programme: no text."),
     "not judged, no reason": (Facts(NOT_JUDGED, 0), "Not judged: check gave no verdict."),
     "accepted": (Facts(ACCEPTED, 1), "Accepted: 1 subtitle has the right text from the first frame "
                  "to the last."),
@@ -113,6 +117,9 @@ SENTENCES: dict[str, tuple[Facts, str]] = {
         Facts(RELATIVE, 2, first=GAP, faults=1, hint="no header"), "Waived, since these faults are "
         "declared as warnings: from 10:00:00:00 on, no header. No clock was given, so a delay that "
         f"all subtitles share {NOT_CHECKED}."),
+    "PTS that go back are named once": (
+        Facts(REFUSED, 2, first=parse_fault_line("refused 62 Order pes 7"), faults=1,
+              step_back="the PTS go back"), "Refused: the PTS go back."),
     "two losses and a gap": (
         Facts(REFUSED, 2, first=parse_fault_line("refused 45 Lost pes 7"), faults=3, lost=[
             "a", "b"], counts=[FaultCount(45, "Lost", 2), FaultCount(73, "Gap", 1)]),
@@ -162,14 +169,18 @@ received | late by | hint                  | sentence
 100-1060 | 2       |                       | all 10 subtitles appeared 2 frames late
 100-1060 | -2      |                       | all 10 subtitles appeared 2 frames early
 110-1060 | 0       | 63 --from 00:00:08:00 | the recording begins after the first TCI
+200-1060 | 0       | 63 --from 00:00:08:00 | the recording begins after the first TCI
 110-1060 | 2       | 63 --from 00:00:08:00 | all 10 subtitles appeared 2 frames late
-100-1050 | 0       | 74 --to 00:00:38:11   | the recording ends before the last TCO
-100-960  | 0       | 74 --to 00:00:38:11   | the recording ends before the last TCO
+100-1050 | 0       | 74 --to 00:00:34:11   | the recording ends before the last TCO
+100-960  | 0       | 74 --to 00:00:34:11   | the recording ends before the last TCO
 """
 
 
 class RecordingEnds(ProgrammeCase):
-    """The subtitles 1 to 10 appear at the frames 100, 200, .. 1000, for 60 frames each."""
+    """The subtitles 1 to 9 appear at the frames 100, 200, .. 900, for 60 frames each. Subtitle 10
+    follows the ninth without a pause, so the program can't judge a range that ends between them."""
+
+    cues = [*subtitle_times(9), (960, 1060)]
 
     def test_counts_subtitles_that_are_cut_off(self) -> None:
         for row in read_table(ENDS):
@@ -265,33 +276,6 @@ class EmptyRanges(ProgrammeCase):
 NO_BOX = 'no receiver shows "Hi", which is outside of a box'
 SAME_COLOUR = 'no receiver shows "Hi", which has the colour of its background'
 ONE = 'libzvbi does not show "Hi", which follows a single start box (0B); ffmpeg does'
-# The bytes of a row (0A end box, 0B start box, 1C black background, 1D new background, 00 to 07 and
-# 10 to 17 colours of text and mosaics), which receivers show it, and the message about it.
-ROWS: tuple[tuple[bytes, Visibility, str], ...] = (
-    (b"", Visibility.ALL, ""), (b"\x0b\x0b\x0a\x0a", Visibility.ALL, ""),  # no characters
-    (b"\x0b\x0bHi\x0a\x0a", Visibility.ALL, ""), (b"\x0b\x0bHi", Visibility.ALL, ""),
-    (b"\x0b\x0b\x0aHi", Visibility.ALL, ""),  # a single end box does not close the box
-    (b"\x0b\x0b\x03\x1d\x04Hi", Visibility.ALL, ""),  # blue text on yellow
-    (b"\x0b\x0b\x1d\x1cHi", Visibility.ALL, ""),  # white text on black
-    (b"\x0b\x0b\x1d\x01Hi", Visibility.ALL, ""),  # red text on white
-    (b"\x0b\x0b\x1d\x11HI\x07", Visibility.ALL, ""),  # mosaic mode still shows capital letters
-    (b"Hi\x0b", Visibility.NONE, NO_BOX), (b"Hi\x0b\x0b", Visibility.NONE, NO_BOX),
-    (b"\x0b\x0b\x0a\x0aHi", Visibility.NONE, NO_BOX), (b"Hi", Visibility.NONE, NO_BOX),
-    (b"\x0b\x0b\x1dHi", Visibility.NONE, SAME_COLOUR),
-    (b"\x0b\x0b\x03\x1dHi", Visibility.NONE, SAME_COLOUR),
-    (b"\x0b\x0b\x03\x1d\x04\x1dHi", Visibility.NONE, SAME_COLOUR),
-    (b"\x0b\x1dHi", Visibility.NONE, SAME_COLOUR),
-    (b"\x0b\x0b\x1d\x01\x07Hi", Visibility.NONE, SAME_COLOUR),
-    (b"\x1dHi", Visibility.NONE, SAME_COLOUR),
-    (b"\x0bHi", Visibility.SOME, ONE), (b"\x0b\x07\x0bHi", Visibility.SOME, ONE),
-    (b"\x0bHi\x0a\x0a", Visibility.SOME, ONE),
-    (b"\x0b\x0bH\x0a\x0ai", Visibility.SOME, 'no receiver shows "i", which is outside of a box'),
-    (b"H\x0b\x0bi", Visibility.SOME, 'no receiver shows "H", which is outside of a box'),
-    (b"\x0b\x0bH\x1di", Visibility.SOME, 'no receiver shows "i", which has the colour of its '
-                                         'background'),
-    (b"H\x0bi", Visibility.SOME,
-     'no receiver shows "H", which is outside of a box; libzvbi does not show "i", which follows a '
-     'single start box (0B); ffmpeg does'))
 # offsets in libzvbi's characters
 HIDDEN, OPACITY_OFFSET, FOREGROUND_OFFSET, BACKGROUND_OFFSET = 0, 2, 3, 4
 
@@ -313,12 +297,17 @@ class DrawingReceiver(Receiver):
         return result
 
 
+def make_cells(text: str) -> bytes:
+    return b"".join(bytes.fromhex(word) if re.fullmatch("[0-9A-F]{2}", word) else word.encode()
+                    for word in text.split())
+
+
 class VisibleRows(Case):
     def test_finds_the_characters_that_decoders_show(self) -> None:
-        for cells, visibility, message in ROWS:
-            self.check(cells.hex(),
-                       (find_visibility(cells), describe_hidden_characters(cells, "english")),
-                       (visibility, message))
+        for row in read_vectors("hidden-rows.tsv"):
+            cells = make_cells(row["cells"])
+            self.check(row["name"], (find_visibility(cells).name, describe_hidden_characters(
+                cells, "english")), (row["shown"], row["message"]))
 
     def test_no_decoder_shows_text_in_the_colour_of_its_background(self) -> None:
         colours = [*range(8), *range(0x10, 0x18)]  # of text and of mosaics, from black to white
@@ -333,9 +322,10 @@ class VisibleRows(Case):
             receiver = DrawingReceiver()
         except OSError:
             self.skipTest("what libzvbi draws, which is not installed")
-        for cells, _, _ in ROWS:
+        for row in read_vectors("hidden-rows.tsv"):
+            cells = make_cells(row["cells"])
             expected = "".join(chr(cell.code) for cell in decode_cells(cells) if cell.is_shown)
-            self.check(cells.hex(), receiver.draw_row(cells), expected)
+            self.check(row["name"], receiver.draw_row(cells), expected)
 
     def test_reports_each_hidden_row_with_its_block(self) -> None:
         shown, hidden, partly = (cells.ljust(40) for cells in (b"\x0b\x0bHi", b"Hi", b"\x0bHi"))
