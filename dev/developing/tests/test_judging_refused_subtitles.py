@@ -138,6 +138,21 @@ class RefusedSubtitles(Case):
             item["verdict"] for item in judged.result["subtitles"]][1:5],
             ["right", "not known", "wrong", "right"])
 
+    def test_the_sentence_names_the_first_fault_of_a_subtitle_that_is_an_error(self) -> None:
+        """Subtitle 4 begins too early (fault 57) and has the text `BAD` (fault 50). Subtitle 8 has
+        a control code (fault 51)."""
+        tci_seconds = 7  # offset in a TTI block
+        for number, text in ((4, BAD), (8, b"\x9f")):
+            self.blocks[number - 1] = *self.blocks[number - 1][:2], text
+        stl = self.write("three.stl", make_stl_of_blocks(self.blocks, {4: {tci_seconds: 14}}))
+        for lines, words in (
+                (b"", "2 of 10 subtitles have faults: subtitle 4 at 00:00:14:00 has fault 57 "),
+                (b"57 warning", "subtitles have faults: subtitle 4 at 00:00:14:00 has fault 50 "),
+                (b"57 warning\n50 warning", "Refused: subtitle 8 at 00:00:32:00 has fault 51 ")):
+            severity = self.write("severity", lines)
+            sentence = self.judge(stl, self.pes, "--severity", severity).verdict.sentence
+            self.must(f"{lines!r}", words in sentence, sentence)
+
     def test_waives_file_faults_and_fault_78_by_number(self) -> None:
         late = self.write_late_recording()
         others = "9 other subtitles were judged: all have the right text"
@@ -223,10 +238,12 @@ class RefusedSubtitles(Case):
 
     def test_notes_that_other_subtitles_are_not_judged_with_an_empty_recording(self) -> None:
         empty = self.write("empty.pes", b"")
-        judged = self.judge(self.write_stl(3), empty)
+        judged = self.judge(self.write_stl(3), empty, "--from", "00:00:08:00")
         self.check("verdict", (judged.timed_verdict, judged.check_lines,
                                judged.result["subtitle_counts"]), (
             "refused", ["refused 50 Character block 3 at 0", "1 faults"], None))
+        self.check("not checked", [item["text"] for item in judged.result["not_checked"]],
+                   ["1 subtitle outside of --from and --to"])
         self.must("note", f"the other subtitles were not judged: {empty} is empty"
                   in judged.verdict.notes, judged.verdict.notes)
         self.must("sentence", " (block 3), the national option " in judged.verdict.sentence,

@@ -46,7 +46,7 @@ def list_outside(verdict: Verdict) -> Iterator[tuple[str, str]]:
         yield NOT_READ, f"{request.recording}: it was not read"
     if request.between != ALL_DAY and verdict.parts:
         file = SubtitleFile(verdict.parts[0].names.program_stl)
-        count = len(file.begins) - verdict.subtitle_count
+        count = sum(not request.between.includes(begin) for begin in file.begins)
         yield OUTSIDE, f"{counted(count, 'subtitle')} outside of --from and --to"
     if verdict.valid_subtitles:
         skipped = counted(len(verdict.valid_subtitles.skipped_positions), "subtitle")

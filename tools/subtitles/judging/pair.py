@@ -364,7 +364,7 @@ class PairJudge:
             if self.current_part:
                 raise
             explanation = reason
-        self.verdict.valid_subtitles, self.verdict.subtitle_count = None, 0
+        self.verdict.valid_subtitles = None
         text = "; ".join(str(explanation).splitlines())
         self.listener.add_notes(f"the other subtitles were not judged: {text}")
         self.judge_file_only(answer, True)
