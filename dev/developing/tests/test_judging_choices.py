@@ -316,6 +316,8 @@ class Profiles(Case):
             "--late 0:3,1:4,2:4/0:12", "--layout after=0A"])
         again = judge_files(self, stl, pes, "--origin", "0", "--profile", self.path("profile"))
         self.check("verdict", again.timed_verdict, "accepted")
+        self.check("delays", again.result["complete_after"], {
+            "minimum": 0, "median": 1, "maximum": 2, "never_complete": 0})
 
     def test_proposes_a_layout_unless_it_is_implausible(self) -> None:
         stl = self.write_stl("one.stl")

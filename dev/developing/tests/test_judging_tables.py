@@ -96,11 +96,11 @@ class PartClocks(unittest.TestCase):
     def test_reports_where_a_video_drifts_from_the_subtitles(self) -> None:
         """The Teletext PID 9 is in two programmes, with the video PIDs 1 and 2, and 3, but not 4.
         Frames 10 to 100 are judged. An earlier drift is a fault if the clock is the first picture's
-        time code; an unclear drift is not checked, and a later one does not matter."""
-        drift, unclear, earlier, later = (
+        time code; unclear drifts are not checked, and a later one does not matter."""
+        drift, unclear, second, earlier, later = (
             Departure(TICKS * frame, TICKS * (frame - 1), ticks) for frame, ticks in (
-                (50, 5 * TICKS), (60, None), (5, 2 * TICKS), (101, None)))
-        departures = {1: [earlier], 2: [drift, unclear, later], 3: [drift], 4: [drift]}
+                (50, 5 * TICKS), (60, None), (70, None), (5, 2 * TICKS), (101, None)))
+        departures = {1: [earlier], 2: [drift, unclear, second, later], 3: [drift], 4: [drift]}
         survey: Any = SimpleNamespace(
             leads={(9, video): several for video, several in departures.items()},
             get_packets=Survey().get_packets, find_programmes=lambda pid: [
@@ -112,8 +112,9 @@ class PartClocks(unittest.TestCase):
                 found = desync.find_desync(survey, 9, TimedPart(10, 100, Clock(0, source)),
                                            within=0, number=7)
                 self.assertEqual([fault.part for fault in found.faults], [7] * count, source)
-                self.assertEqual([" decoding times jump" in text for text in summarize_pictures(
-                    found.unchecked)], [True], source)
+                self.assertEqual([text.partition(" decoding times jump")[2] for text in
+                                  summarize_pictures(found.unchecked)],
+                                 ["; and at 1 more place"], source)
 
     def test_subtitles_on_time_show_that_the_teletext_clock_did_not_jump(self) -> None:
         subtitle: Any = SimpleNamespace(begin=10, end=20)

@@ -181,6 +181,15 @@ class Verdicts(Case):
             NamedFault(NEVER_SENT, "nothing was sent")])
         self.check("a name", refused.sentence, "Refused: nothing was sent; 2 faults in all.")
 
+    def test_a_waived_pair_has_the_fault_numbers_of_all_parts(self) -> None:
+        waived = make_part_verdict([make_part(0, 9, 0, make_answer(lines))
+                                    for lines in (OTHER_LINES, REFUSED)],
+                                   Severity(self.write("mild", b"others warning\n")))
+        self.check("lines", (waived.line, waived.worst_line),
+                   (f"waived: {OTHER_LINES[0]}", f"waived: {REFUSED[0]}"))
+        self.must("sentence", "; 3 faults in all: 72 Content, 38 UnitLength and 70 Repeat." in
+                  waived.sentence, waived.sentence)
+
     def test_the_verdict_on_a_part_has_its_own_gaps_alone(self) -> None:
         whole = self.make_verdict_with_gaps()
         part = whole.narrow_to_part(whole.parts[1], whole.gaps[3:4])
