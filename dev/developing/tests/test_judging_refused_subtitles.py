@@ -187,14 +187,18 @@ class RefusedSubtitles(Case):
                    ("not judged", UNREAD))
 
     def test_ignores_refused_subtitles_outside_the_range(self) -> None:
-        """Subtitle 3, at 00:00:12:00, is refused."""
-        for words, verdict, counts in (
-                (("--from", "00:00:20:00"), "accepted", (6, 0)),
-                (("--to", "00:00:12:00"), "accepted", (2, 0)),
-                (("--to", "00:00:24:00"), "refused", (4, 1)),
-                (("--from", "00:00:20:00", "--to", "00:00:10:00"), "not judged", None)):
-            judged = self.judge(self.write_stl(3), self.pes, *words)
-            self.check(f"{words}", (judged.timed_verdict, judged.verdict.subtitle_counts),
+        """Subtitle 3, at 00:00:12:00, is refused, or the TCI of subtitle 7 is not a time."""
+        tci_hours = 5  # offset in a TTI block
+        no_time = self.write("99.stl", make_stl_of_blocks(self.blocks, {7: {tci_hours: 99}}))
+        bad = self.write_stl(3)
+        for stl, words, verdict, counts in (
+                (no_time, ("--from", "00:00:20:00"), "refused", (5, 1)),
+                (bad, ("--from", "00:00:20:00"), "accepted", (6, 0)),
+                (bad, ("--to", "00:00:12:00"), "accepted", (2, 0)),
+                (bad, ("--to", "00:00:24:00"), "refused", (4, 1)),
+                (bad, ("--from", "00:00:20:00", "--to", "00:00:10:00"), "not judged", None)):
+            judged = self.judge(stl, self.pes, *words)
+            self.check(f"{stl} {words}", (judged.timed_verdict, judged.verdict.subtitle_counts),
                        (verdict, counts and SubtitleCounts(*counts)))
         self.must("the reason", " has no subtitle with a TCI at " in judged.stderr[0],
                   judged.stderr)

@@ -19,7 +19,7 @@ from subtitles.judging.sentence import (
     find_worst_named_fault, rank_number)
 from subtitles.judging.status import (
     ACCEPTED, CheckSummary, DIFFERS, Decision, FAULT_NUMBERS, Grounds, LOST, NOT_ANSWERED,
-    NOT_JUDGED, NOTHING_READ, REFUSED, RELATIVE, SAME, Severity, STATUSES, WAIVED, WARNED,
+    NOT_JUDGED, NOTHING_READ, REFUSED, RELATIVE, SAME, Severity, STATUSES, VALID, WAIVED, WARNED,
     combine_statuses, decide, decide_comparison, matches_exit_status)
 from .bench import Case
 from .parts import make_answer, make_part
@@ -152,6 +152,12 @@ class Decisions(Case):
                                         named_faults=[NEVER_SENT])).word, NOT_JUDGED)
         self.assertEqual(decide(Grounds([], NAMES_ARE_WARNINGS, named_faults=[NEVER_SENT])),
                          Decision(NOT_JUDGED, NOTHING_READ, "undecided"))
+
+    def test_a_named_warning_waives_a_file_that_is_judged_alone(self) -> None:
+        valid = CheckSummary(0, is_accepted=True, is_file=True)
+        words = [decide(Grounds([valid], NAMES_ARE_WARNINGS, named_faults=names)).word
+                 for names in ((), FAULT_NAMES)]
+        self.assertEqual(words, [VALID, WAIVED])
 
     def check_decision(self, name: str, seen: Grounds, is_allowed: bool,
                        clock: dict[str, Any]) -> None:

@@ -9,6 +9,7 @@ from unittest import mock
 
 from developing.pes import make_pes_packet
 from subtitles.clock.start import Clock, GIVEN, RECORDING, TimedPart
+from subtitles.common.checks import JUMP
 from subtitles.common.files import SummedFile
 from subtitles.common.program import ProgramInfo
 from subtitles.common.times import CLOCK, Span, TICKS, format_frame
@@ -18,6 +19,7 @@ from subtitles.judging.check import CheckOutput, NO_END
 from subtitles.judging.part import Part, find_part_causes
 from subtitles.judging.status import Severity
 from subtitles.judging.subtitles import SubtitleCounts, ValidSubtitles
+from subtitles.judging.unchecked import MIN_UNJUDGED_CHANGE, Unchecked
 from subtitles.judging.verdict import (
     DELAYING_FAULTS, DelaySpread, FailedOutput, Gap, Unjudged, Verdict, count_fault_numbers,
     find_gaps, make_gaps, summarize_delays)
@@ -156,6 +158,12 @@ class Verdicts(Case):
                 verdict.unjudged_reason, verdict.is_final),
                 ("not judged", status, None, None, why, is_final))
         self.must("final without an error", make_part_verdict(self.make_three_parts()).is_final)
+
+    def test_a_large_jump_of_pictures_prevents_a_verdict_unless_it_is_a_warning(self) -> None:
+        for lines, word in ((b"", "not judged"), (b"pictures left warning\n", "accepted")):
+            verdict = make_part_verdict([make_part(0, 9, 0)], Severity(self.write("mild", lines)))
+            verdict.unchecked.append(Unchecked(JUMP, "", change=MIN_UNJUDGED_CHANGE))
+            self.check(f"{lines!r}", verdict.word, word)
 
     def test_keeps_each_warning_once(self) -> None:
         notice, other = Notice("pause", "1", None), Notice("pause", "2", None)
