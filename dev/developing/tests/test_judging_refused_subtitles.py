@@ -14,7 +14,6 @@ from unittest import mock
 from developing.multiplex import PACKET, PAYLOAD, PAYLOAD_START, make_packet_header
 from developing.stl import make_gsi_block, make_tti_block
 from subtitles.cli.collection import make_pair_row, format_summary
-from subtitles.common.command_line import counted
 from subtitles.common.times import TICKS
 from subtitles.formats.stl import NamedSubtitle, Subtitle, SubtitleFile
 from subtitles.formats.teletext import OPTIONS, OPTION_BY_WORD, has_characters
@@ -38,6 +37,7 @@ REPLACE_ADVICE = "replace it (it needs other character sets, or packets X/26, wh
     "refused with fault 70)"
 WORDS = "--origin", "0", "--every", "100"
 PAGE = 0, 0x88
+TCI_HOURS, TCI_SECONDS = 5, 7  # offsets in a TTI block
 
 
 def make_stl_of_blocks(blocks: Sequence[ShownSubtitle],
@@ -97,12 +97,13 @@ class RefusedSubtitles(Case):
                       in judged.check_lines, judged.check_lines)
 
     def test_the_sentence_names_three_refused_subtitles_and_counts_the_others(self) -> None:
-        for bad, words, more in (((3, 5), "2 of 10 subtitles have faults: subtitle 3 at ", ""),
-                                 (range(2, 6), "4 of 10 subtitles have faults: ", " and 1 more; 6"),
-                                 (range(2, 9), "7 of 10 subtitles have ", " and 4 more; 3 other")):
+        for bad, more in (((3, 5), []), (range(2, 5), []), (range(2, 6), ["1 more; 6"]),
+                          (range(2, 9), ["4 more; 3"])):
             sentence = self.judge(self.write_stl(*bad), self.pes).verdict.sentence
-            self.must(f"{bad}", words in sentence and more in sentence and
-                      (" more; " in sentence) == bool(more), sentence)
+            self.must(f"{bad}", f"{len(bad)} of 10 subtitles have faults: " in sentence, sentence)
+            self.check(f"{bad}: named", re.findall(r"subtitle (\d+) at .*? fault 50 ", sentence),
+                       [f"{number}" for number in bad][:3])
+            self.check(f"{bad}: others", re.findall(r" and (\d+ more; \d+) other", sentence), more)
 
     def test_writes_both_counts_into_all_results(self) -> None:
         judged = self.judge(self.write_stl(3, 7), self.pes, "--json", self.path("x.json"),
@@ -131,8 +132,7 @@ class RefusedSubtitles(Case):
             self.check(f"{words}", judge_files(self, *words).result["subtitle_counts"], counts)
 
     def test_does_not_know_a_subtitle_before_one_that_overlaps_it(self) -> None:
-        tci_seconds = 7  # offset in a TTI block
-        early = make_stl_of_blocks(self.blocks, {4: {tci_seconds: 14}})  # instead of 16
+        early = make_stl_of_blocks(self.blocks, {4: {TCI_SECONDS: 14}})  # instead of 16
         judged = self.judge(self.write("near.stl", early), self.pes)
         self.check("subtitles 2 to 5", [
             item["verdict"] for item in judged.result["subtitles"]][1:5],
@@ -141,10 +141,9 @@ class RefusedSubtitles(Case):
     def test_the_sentence_names_the_first_fault_of_a_subtitle_that_is_an_error(self) -> None:
         """Subtitle 4 begins too early (fault 57) and has the text `BAD` (fault 50). Subtitle 8 has
         a control code (fault 51)."""
-        tci_seconds = 7  # offset in a TTI block
         for number, text in ((4, BAD), (8, b"\x9f")):
             self.blocks[number - 1] = *self.blocks[number - 1][:2], text
-        stl = self.write("three.stl", make_stl_of_blocks(self.blocks, {4: {tci_seconds: 14}}))
+        stl = self.write("three.stl", make_stl_of_blocks(self.blocks, {4: {TCI_SECONDS: 14}}))
         for lines, words in (
                 (b"", "2 of 10 subtitles have faults: subtitle 4 at 00:00:14:00 has fault 57 "),
                 (b"57 warning", "subtitles have faults: subtitle 4 at 00:00:14:00 has fault 50 "),
@@ -178,18 +177,9 @@ class RefusedSubtitles(Case):
                       and (text[:2] != b"50" or word == "waived" or "has fault 50" not in sentence),
                       sentence)
 
-    def test_does_not_judge_waived_subtitles_if_no_pes_packet_can_be_read(self) -> None:
-        unread = self.write("unread.pes", b"".join(
-            damage_packet(item, 33) for item in packets(self.read("one.pes"))))
-        judged = self.judge(self.write_stl(3), unread, "--severity",
-                            self.write("severity", b"others warning\n"))
-        self.check("verdict", (judged.timed_verdict, judged.verdict.unjudged_reason),
-                   ("not judged", UNREAD))
-
     def test_ignores_refused_subtitles_outside_the_range(self) -> None:
         """Subtitle 3, at 00:00:12:00, is refused, or the TCI of subtitle 7 is not a time."""
-        tci_hours = 5  # offset in a TTI block
-        no_time = self.write("99.stl", make_stl_of_blocks(self.blocks, {7: {tci_hours: 99}}))
+        no_time = self.write("99.stl", make_stl_of_blocks(self.blocks, {7: {TCI_HOURS: 99}}))
         bad = self.write_stl(3)
         for stl, words, verdict, counts in (
                 (no_time, ("--from", "00:00:20:00"), "refused", (5, 1)),
@@ -255,11 +245,14 @@ class RefusedSubtitles(Case):
 
     def test_does_not_waive_a_pair_of_which_nothing_was_read(self) -> None:
         empty, mild = self.write("empty.pes", b""), self.write("mild", b"others warning\n")
+        unread = self.write("unread.pes", b"".join(
+            damage_packet(item, 33) for item in packets(self.read("one.pes"))))
         odd = bytearray(self.read("good.stl"))
         odd[11:12] = b"7"  # with an invalid DSC, all subtitles are refused
         rows: list[tuple[str, list[str], str, str | None]] = [
             (self.write_stl(3), [empty], "not judged", UNREAD),
-            (self.write_stl(3), [], "waived", None),
+            (self.path("bad.stl"), [unread], "not judged", UNREAD),
+            (self.path("bad.stl"), [], "waived", None),
             (self.write("odd.stl", bytes(odd)), [self.pes], "refused", None),
             (self.path("odd.stl"), [], "refused", None)]
         for stl, recording, verdict, reason in rows:
@@ -312,26 +305,14 @@ class ExpectedPages(unittest.TestCase):
                               for frame in frames[1:]}, {OPTION_BY_WORD[option].bits},
                              (gap, option))
 
-    def test_names_the_first_refused_subtitles_and_counts_the_others(self) -> None:
-        for count in (0, 1, 2, 3, 4, 5, 39, 40, 41, 42):
+    def test_lists_forty_refused_subtitles_and_counts_the_others(self) -> None:
+        for count, more in ((1, []), (40, []), (41, ["undecided: 1 more subtitle"]),
+                            (42, ["undecided: 2 more subtitles"])):
             refused = [RefusedSubtitle(NamedSubtitle(at, at, "00:00:01:00", "00:00:02:00"),
-                                       parse_single_fault(f"refused 19 Row block {at}"),
-                                       f"letter {at}", "")
+                                       parse_single_fault(f"refused 19 Row block {at}"), "", "")
                        for at in range(1, count + 1)]
-            valid_subtitles = ValidSubtitles([], refused, frozenset(range(count + 2)))
-            more = [f"undecided: {counted(count - 40, 'more subtitle')}"] * (count > 40)
-            self.assertEqual([*valid_subtitles.format_lines()],
-                             [item.format_line() for item in refused[:40]] + more, count)
-            if count < 2:
-                continue
-            printed = valid_subtitles.describe()
-            self.assertTrue(printed.startswith(f"{count} of {count + 2} subtitles have faults: "),
-                            count)
-            self.assertEqual([at for at in range(1, count + 1) if f" (letter {at})" in printed],
-                             [*range(1, min(count, 3) + 1)], count)
-            self.assertEqual(re.findall(r" and (\d+) more$", printed),
-                             [f"{count - 3}"] * (count > 3),
-                             count)
+            self.assertEqual([*ValidSubtitles([], refused, frozenset()).format_lines()],
+                             [item.format_line() for item in refused[:40]] + more)
 
 
 # Test that very long inputs are read to their end.

@@ -126,10 +126,18 @@ class Decisions(Case):
                 ("accepted", "waived", "refused", "silent"), LOSSES, (False, True),
                 ((), ("page",), ("repeat", "page")), (False, True), CLOCKS):
             parts = [RIGHT["accepted"], (RIGHT | WRONG)[name], RIGHT["accepted"]]
+            if name in ("refused", "silent"):
+                word = REFUSED if name == "refused" else NOT_JUDGED
+            elif True in losses and not is_allowed:
+                word = LOST
+            elif is_strict and warnings:
+                word = WARNED
+            else:
+                word = ACCEPTED if name == "accepted" else WAIVED
             for severity in ALLOWING_SEVERITIES if is_allowed else [ONE_WARNING]:
-                self.check_decision(name,
-                                    Grounds(parts, severity, losses, warnings, is_strict, **clock),
-                                    is_allowed, clock)
+                result = decide(Grounds(parts, severity, losses, warnings, is_strict, **clock))
+                self.check(f"{name} {losses} {is_allowed} {warnings} {is_strict} {clock}",
+                           get_outcome(result), decide_by_clock(word, clock))
 
     def test_a_named_fault_refuses_a_pair_unless_it_is_a_warning(self) -> None:
         outputs = RIGHT | WRONG
@@ -159,24 +167,6 @@ class Decisions(Case):
                  for names in ((), FAULT_NAMES)]
         self.assertEqual(words, [VALID, WAIVED])
 
-    def check_decision(self, name: str, seen: Grounds, is_allowed: bool,
-                       clock: dict[str, Any]) -> None:
-        """Check a verdict on parts with losses and warnings.
-
-        `is_allowed` means that --allow-lost or a severity file accepts losses (fault 45).
-        """
-        result, losses, warnings = decide(seen), seen.judged_losses, seen.warnings
-        if name in ("refused", "silent"):
-            expected = REFUSED if name == "refused" else NOT_JUDGED
-        elif True in losses and not is_allowed:
-            expected = LOST
-        elif seen.is_strict and warnings:
-            expected = WARNED
-        else:
-            expected = ACCEPTED if name == "accepted" else WAIVED
-        self.check(f"{name} {losses} {is_allowed} {warnings} {seen.is_strict} {clock}",
-                   get_outcome(result), decide_by_clock(expected, clock))
-
     def test_two_recordings_differ_by_any_fault(self) -> None:
         accepted, waived = [RIGHT["accepted"]], [RIGHT["waived"]]
         rows: dict[str, tuple[Grounds, str, str]] = {  # the verdict with and without a clock
@@ -199,9 +189,6 @@ class Decisions(Case):
                 self.check(f"{name} {kinds}", (
                     result.word, result.status, result.not_judged_kind in kinds),
                     (NOT_JUDGED, status, True))
-            result = decide(Grounds([output, output], ONE_WARNING, has_clock=True))
-            self.assertEqual(result.word, self.decide_expected_word([name]))
-            self.assertEqual(result.not_judged_kind is None, result.word != NOT_JUDGED)
 
     def test_gives_a_reason_and_a_kind_of_error_if_not_judged(self) -> None:
         accepted, unread = RIGHT["accepted"], RIGHT["waived, not read"]

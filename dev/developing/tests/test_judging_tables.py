@@ -220,8 +220,8 @@ class Notices(Case):
         for origin in (0, CLOCK - 10 * TICKS):
             for frames, expected in (
                     (list(range(40)), []), ([*range(20), *range(22, 40)], []),
-                    ([*range(20), *range(23, 40)], three), ([*range(20), *range(22, 40)], []),
-                    ([*range(20), 23], three), ([*range(18), 21], []),
+                    ([*range(20), *range(23, 40)], three), ([*range(20), 23], three),
+                    ([*range(18), 21], []),
                     ([*range(19), 22], [(three[0][0], "00:00:00:19")]),
                     ([*range(20), *range(23, 40), *range(45, 60)],
                      [*three, ("no PES packet for 5 frames", "00:00:01:15")]), ([], []), ([5], [])):

@@ -48,14 +48,6 @@ def make_pair_request(*args: str) -> Request:
     return make_example_request("one.stl", "one.pes", "--origin", "0", *args)
 
 
-def make_loss_between(before: int | None, after: int | None, shift: int = 0,
-                      **more: Any) -> LossPlace:
-    """Return a loss between two frames. `shift` ticks are added to the PTS of the frames."""
-    first, last = (None if item is None else (shift + TICKS * item) % CLOCK
-                   for item in (before, after))
-    return LossPlace(first, last, **more)
-
-
 def read_lines(case: Case, lines: Sequence[str]) -> CheckOutput:
     """Return the output of a `check` that has printed these lines, and has not ended."""
     result = CheckOutput(case.path("list"))
@@ -80,7 +72,8 @@ class Verdicts(Case):
         allowing = {"request": make_pair_request("--profile", self.path("allowing"))}
         strict = {"request": make_pair_request("--strict"), "warnings": strange}
         self.write("relative", b"--relative\n")
-        untimed = {"request": make_example_request("one.stl", "one.pes")}
+        untimed, untimed_strict = ({"request": make_example_request("one.stl", "one.pes", *words)}
+                                   for words in ((), ("--strict",)))
         in_profile = {"request": make_example_request("one.stl", "one.pes", "--profile",
                                                       self.path("relative"))}
         unused_profile = {"request": make_pair_request("--profile", self.path("relative"))}
@@ -118,12 +111,9 @@ class Verdicts(Case):
             ("ff", untimed, "relative", "relative 20 frames 4 transmissions in 2 parts", None),
             ("f", in_profile, "relative", f"{relative}; the profile has --relative", None),
             ("a", unused_profile, "accepted", good, good),
-            ("f", {"request": make_example_request("one.stl", "one.pes", "--strict")}, "relative",
-             relative, relative),
+            ("f", untimed_strict, "relative", relative, relative),
             ("f", {**untimed, "gaps": lost}, "lost", f"{of_loss}: {relative}", None),
-            ("f", {"request": make_example_request("one.stl", "one.pes", "--strict"),
-                   "warnings": strange},
-             "warned", f"{warned}: {relative}", None),
+            ("f", {**untimed_strict, "warnings": strange}, "warned", f"{warned}: {relative}", None),
             ("r", {**untimed, "is_mild": True}, "relative", f"relative, waived: {content}", None),
             ("fo", untimed, "refused", first, None)]
         lines_of = {"a": [good], "f": [good], "r": REFUSED, "o": OTHER_LINES}
@@ -172,17 +162,13 @@ class Verdicts(Case):
         verdict.warn([other, notice])
         self.check("each", verdict.warnings, [notice, other])
 
-    def make_verdict_with_gaps(self) -> Verdict:
-        """Return a verdict on three parts with the gaps 0 to 4. 1, 3 and 4 have judged frames."""
+    def test_the_sentence_names_the_first_loss_in_judged_frames(self) -> None:
+        """Of five gaps, 1, 3 and 4 have judged frames."""
         verdict = make_part_verdict(self.make_three_parts())
         verdict.gaps = [Gap("1", "9", f"{at} lost", LossPlace(1, 2, 3), is_judged=at in (1, 3, 4))
                         for at in range(5)]
-        return verdict
-
-    def test_the_sentence_names_the_first_loss_in_judged_frames(self) -> None:
-        sentence = self.make_verdict_with_gaps().sentence
-        self.must("judged", sentence.startswith(
-            "Not accepted: between 1 and 9: 1 lost, and in 2 more places;"), sentence)
+        self.must("judged", verdict.sentence.startswith(
+            "Not accepted: between 1 and 9: 1 lost, and in 2 more places;"), verdict.sentence)
 
     def test_the_sentence_names_a_fault_without_a_number_first(self) -> None:
         refused = dataclasses.replace(make_part_verdict(self.make_three_parts(0)), named_faults=[
@@ -198,12 +184,6 @@ class Verdicts(Case):
         self.must("sentence", "; 3 faults in all: 72 Content, 38 UnitLength and 70 Repeat." in
                   waived.sentence, waived.sentence)
 
-    def test_the_verdict_on_a_part_has_its_own_gaps_alone(self) -> None:
-        whole = self.make_verdict_with_gaps()
-        part = whole.narrow_to_part(whole.parts[1], whole.gaps[3:4])
-        self.check("part", (part.parts, part.gaps), (whole.parts[1:2], whole.gaps[3:4]))
-        self.must("sentence", "and in" not in part.sentence, part.sentence)
-
     def test_a_loss_is_judged_if_it_lies_within_a_part(self) -> None:
         """Three parts have the frames 0 to 99, 100 to 199 and 200 to 299. Each loss is between two
         consecutive frames. With the second origin the PTS wrap at frame 150."""
@@ -215,8 +195,9 @@ class Verdicts(Case):
                                    ([99, 299, -5], [False, False, False]),
                                    ([99, 150], [False, True]), ([150, 99], [True, False]),
                                    ([10, 299, -9], [True, False, False])):
-                verdict.gaps = make_gaps([make_loss_between(frame, frame + 1, origin)
-                                          for frame in frames], verdict.parts)
+                pts = [(origin + TICKS * frame) % CLOCK for frame in frames]
+                verdict.gaps = make_gaps([LossPlace(item, (item + TICKS) % CLOCK) for item in pts],
+                                         verdict.parts)
                 self.check(f"{origin} {frames}", (
                     verdict.collect_grounds().judged_losses, verdict.is_lost),
                     (judged, any(judged)))
@@ -352,7 +333,7 @@ class PartDecisions(Case):
         first = 900_000  # 10:00:00:00
         for lost_frames, is_read in ((25, True), (50, False)):
             part = make_part(first, first + 50, 0, make_answer(lines), pes=(0, 1), places=[
-                make_loss_between(first - 1, first + lost_frames + 1, missing=9)])
+                LossPlace(TICKS * (first - 1), TICKS * (first + lost_frames + 1), missing=9)])
             self.check(f"{lost_frames} lost frames", part.is_read(), is_read)
 
     def test_counts_the_headers_in_the_readable_pes_packets_of_a_part(self) -> None:

@@ -411,10 +411,6 @@ class Verdict:
         is_refused = any(part.check_output.fault_numbers & STL_FAULTS for part in self.parts)
         return None if is_refused else SubtitleCounts(self.subtitle_count, 0)
 
-    def narrow_to_part(self, part: Part, gaps: list[Gap]) -> Verdict:
-        """Return the verdict on one part alone. `gaps` lists the gaps in this part."""
-        return dataclasses.replace(self, parts=[part], gaps=gaps)
-
     @property
     def delays(self) -> DelaySpread | None:
         """Return the minimum, the median and the maximum delay until subtitles are complete."""
