@@ -248,11 +248,6 @@ class DecodedPages(Case):
             decoded = decode_packets(self, b"".join(
                 broken[at] if at in numbers else item for at, item in enumerate(good)))
             self.check(f"{numbers}", decoded.uncertain_spans, uncertain)
-            for first, last in ((0, 15), (15, 25), (30, 30), (65, 66), (85, 90)):
-                is_certain = not any(span.first <= last and first <= span.last
-                                     for span in uncertain)
-                self.check(f"{numbers}: {first} to {last}", decoded.was_received(first, last),
-                           is_certain)
 
     def test_uses_the_last_page_of_a_frame(self) -> None:
         a, b = (((text.ljust(40),) * 24) for text in (b"a", b"b"))
@@ -292,21 +287,6 @@ class DecodedPages(Case):
         enough = 2 * PACKETS_PER_PAUSE  # number of PES packets in a regular stream with two pauses
         for decoded.count, is_regular in ((enough, True), (enough - 1, False)):
             self.check(f"{decoded.count}", decoded.find_pause(91) is not None, is_regular)
-
-    def test_drops_pages_before_a_step_back(self) -> None:
-        """The judged frames begin at 300. A step back after it ends the decoding."""
-        # The frames of pages, the number of decoded pages, and whether a step ends the decoding.
-        for frames, count, is_ended in (
-                ([100, 200, 310, 350], 4, False), ([200, 250, 150, 310, 350], 3, False),
-                ([200, 310, 305, 350], 2, True), ([310, 350, 320], 2, True)):
-            packets = survey_packets(self, b"".join(make_pes_packet(TICKS * frame, [
-                HEADER, make_numbered_row(20, b"%d" % frame), CLOSING]) for frame in frames))
-            decoded = Timeline(packets, PAGE, 0, begin=300)
-            self.check(f"{frames}", (len(decoded.pages), decoded.halt is not None),
-                       (count, is_ended))
-            self.check(f"{frames}: received up to the last page, and later",
-                       [decoded.was_received(300, decoded.last + more) for more in (0, 1)],
-                       [True, not is_ended])
 
 
 class SubtitlesInParts(Case):

@@ -306,8 +306,10 @@ class ExpectedPages(unittest.TestCase):
                              (gap, option))
 
     def test_lists_forty_refused_subtitles_and_counts_the_others(self) -> None:
-        for count, more in ((1, []), (40, []), (41, ["undecided: 1 more subtitle"]),
-                            (42, ["undecided: 2 more subtitles"])):
+        rows: list[tuple[int, list[str]]] = [
+            (1, []), (40, []), (41, ["undecided: 1 more subtitle"]),
+            (42, ["undecided: 2 more subtitles"])]
+        for count, more in rows:
             refused = [RefusedSubtitle(NamedSubtitle(at, at, "00:00:01:00", "00:00:02:00"),
                                        parse_single_fault(f"refused 19 Row block {at}"), "", "")
                        for at in range(1, count + 1)]

@@ -15,7 +15,7 @@ from subtitles.formats.stl import Subtitle, parse_subtitles
 from subtitles.judging.causes import Cause, CAUSE_NAMES
 from subtitles.judging.check import CheckOutput
 from subtitles.judging.sentence import (
-    CAUSE_RANKS, NAME_RANKS, NUMBER_RANKS, Rank, WorstFault, find_worst_cause, find_worst_fault,
+    CAUSE_RANKS, NAME_RANKS, NUMBER_RANKS, Rank, find_worst_cause, find_worst_fault,
     find_worst_named_fault, rank_number)
 from subtitles.judging.status import (
     ACCEPTED, CheckSummary, DIFFERS, Decision, FAULT_NUMBERS, Grounds, LOST, NOT_ANSWERED,
@@ -23,6 +23,7 @@ from subtitles.judging.status import (
     combine_statuses, decide, decide_comparison, matches_exit_status)
 from .bench import Case
 from .parts import make_answer, make_part
+from .stories import read_vectors
 
 ERROR, WARNING = 72, 67  # fault numbers; `ONE_WARNING` makes 67 a warning
 ENDS_READING = (*range(10, 16), 17, *range(22, 26), 30, 31, 32, 44)
@@ -266,17 +267,10 @@ class Severities(Case):
 
 
 BEGIN = "refused 63 Begin frame 10:00:00:00"
-CONTENT = "refused 72 Content frame 10:00:01:00 row 22 column 3"
 END = "refused 74 Late frame 10:00:09:00"
 INCOMPLETE = "refused 77 Incomplete frame 10:00:02:00"
 CONTROL = "refused 67 Control frame 10:00:00:00 packet 0"
-GAP, LOST_LINE = "refused 73 Gap frame 10:00:03:00", "refused 45 Lost pes 7"
-PARITY = "refused 68 Parity frame 10:00:02:00 packet 1"
-SILENT = "refused 79 Silent frame 10:00:01:00"
-ORDER, START = "refused 62 Order pes 3", "refused 31 Start pes 4"
-CHARACTER = "refused 50 Character block 1 at 4"
-UNDECIDED = "refused 78 Undecided frame 10:00:00:00"
-LATER_CONTENT = "refused 72 Content frame 10:00:05:00 row 1 column 3"
+LOST_LINE = "refused 45 Lost pes 7"
 PACKET_FAULTS_ONLY = {3, 4, 76, 82}  # fault numbers that `check` does not report
 SECOND = 25
 
@@ -324,22 +318,11 @@ class LeadingFaults(Case):
             "late", "early", "wrong colour or attribute", "not received"]))
 
     def test_chooses_the_first_fault_of_the_worst_rank(self) -> None:
-        for lines, expected in (
-                ([CONTROL], CONTROL), ([CONTENT], CONTENT), ([CONTROL, CONTENT], CONTENT),
-                ([CONTROL, CONTENT, LATER_CONTENT], CONTENT),
-                ([CONTROL, GAP, LATER_CONTENT, CONTENT], LATER_CONTENT),
-                ([CONTROL, INCOMPLETE], INCOMPLETE), ([CONTROL, INCOMPLETE, CONTENT], INCOMPLETE),
-                ([CONTROL, BEGIN], CONTROL), ([GAP, BEGIN], BEGIN),
-                ([LOST_LINE, GAP, END], LOST_LINE), ([LOST_LINE, GAP], LOST_LINE),
-                ([GAP, LOST_LINE], LOST_LINE), ([GAP, SILENT, PARITY], PARITY),
-                ([GAP, CONTROL, LOST_LINE], CONTROL), ([SILENT, CONTROL], CONTROL),
-                ([GAP, ORDER], ORDER), ([GAP, START], START), ([PARITY, CONTROL], PARITY),
-                ([UNDECIDED, CONTENT], CONTENT), ([CONTROL, UNDECIDED], CONTROL),
-                ([GAP, UNDECIDED], UNDECIDED), ([CHARACTER, UNDECIDED, CONTENT], CHARACTER),
-                ([CONTENT, CHARACTER], CHARACTER)):
+        for row in read_vectors("leading-faults.tsv"):
+            lines, expected = row["faults"].split("; "), row["first"]
             part = make_part(0, 9, 0, make_check_output(*lines, path=self.path("list")))
             worst = part.worst_fault_line
-            self.check(f"{lines}", (part.first_text, worst and worst.line, part.check_output.line),
+            self.check(row["name"], (part.first_text, worst and worst.line, part.check_output.line),
                        (expected, expected, lines[0]))
 
     def test_an_accepted_part_has_no_worst_fault(self) -> None:
@@ -358,14 +341,6 @@ class LeadingFaults(Case):
         for faults, rank, expected in rows:
             self.must(f"{[fault.name for fault in faults]} {rank}",
                       find_worst_named_fault(faults, rank) is expected)
-
-    def test_the_worst_fault_of_a_transmission_is_none_of_the_subtitle_file(self) -> None:
-        rows: tuple[tuple[list[str], str | None], ...] = (
-            ([CHARACTER, UNDECIDED, GAP, CONTROL], CONTROL), ([CHARACTER, UNDECIDED], None))
-        for lines, expected in rows:
-            part = make_part(0, 9, 0, make_check_output(*lines, path=self.path("list")))
-            sent = part.worst_transmission_fault
-            self.must(f"{lines}", (sent and sent.fault.line) == expected, sent)
 
     def check_worst_fault(self, name: str, lines: Sequence[str], causes: Any, expected: str
                           ) -> None:
@@ -394,11 +369,6 @@ class LeadingFaults(Case):
                                  ({63: 1}, WRONG_PAGES[1]), ({74: 0, 63: 1}, END)):
             causes.frames_by_end_fault = places
             self.check_worst_fault(f"{places}", [BEGIN, *WRONG_PAGES, END], causes, expected)
-
-    def test_chooses_the_last_fault_72_before_the_first_wrong_frame(self) -> None:
-        causes = make_causes_named(["wrong text"] * 4)
-        causes.first_wrong_frames = {0: 900_000 + SECOND + 9}
-        self.check_worst_fault("9 frames later", WRONG_PAGES, causes, WRONG_PAGES[1])
 
 
 # Two subtitles as `show` prints them, and their values.

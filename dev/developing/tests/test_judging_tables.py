@@ -21,7 +21,7 @@ from subtitles.formats.stl import SubtitleFile
 from subtitles.judging import desync, timing
 from subtitles.judging.pages import (
     ATTRIBUTES, describe_attribute_difference, describe_code, describe_extra_rows, describe_move,
-    format_page_text, is_partial_page, is_text_moved, join_page_text)
+    format_page_text, join_page_text)
 from subtitles.judging.pair import PairJudge
 from subtitles.judging.subtitles import OptionAdvice
 from subtitles.judging.timing import (
@@ -421,19 +421,8 @@ class PageDifferences(Case):
         self.check_rows(lambda *rows: describe_extra_rows(OWN, make_page_with_rows(*rows)), {
             "none": ((ONE, TWO), ""), "one": ((ONE, TWO, (2, b"x")), "an additional row: 2"),
             "two": ((ONE, TWO, (2, b"x"), (24, b"y")), "additional rows: 2 and 24"),
+            "three": ((ONE, TWO, (2, b"x"), (3, b"z"), (24, b"y")), "additional rows: 2, 3 and 24"),
             "another colour": ((YELLOW, TWO, (2, b"x")), "")})
-
-    def test_recognises_the_text_of_a_page_in_other_rows_or_columns(self) -> None:
-        self.check_rows(lambda *rows: is_text_moved(OWN, make_page_with_rows(*rows)), {
-            "the same": ((ONE, TWO), False), "column": (((20, b" " + HELLO), TWO), True),
-            "row": (((21, HELLO), TWO), True), "colour": ((YELLOW, TWO), False),
-            "column of the last row": ((ONE, (22, b" two")), True)})
-
-    def test_recognises_a_page_with_some_of_the_rows(self) -> None:
-        self.check_rows(lambda *rows: is_partial_page(make_page_with_rows(*rows), OWN), {
-            "all": ((ONE, TWO), True), "the first": ((ONE,), True), "the last": ((TWO,), True),
-            "none": ((), True), "another colour": ((YELLOW,), False),
-            "another": (((21, b"x"),), False)})
 
     def test_joins_the_texts_of_the_rows_of_a_page(self) -> None:
         self.check("words", join_page_text(OWN), "Hello two")

@@ -31,6 +31,7 @@ from subtitles.stream.gaps import LossPlace
 from subtitles.stream.packets import PacketRun, Packets
 from .bench import Case
 from .parts import make_answer, make_example_request, survey_packets, make_part
+from .stories import read_vectors
 from .transmissions import CLOSING, HEADER, make_numbered_row
 
 REFUSED = ("refused 72 Content frame 00:00:05:00 row 20 column 1", "1 faults")
@@ -64,68 +65,29 @@ class Verdicts(Case):
                           ("accepted 10 frames 2 transmissions",)), at + 1) for at in range(3)]
 
     def test_chooses_the_last_line_and_the_leading_fault(self) -> None:
-        left, never = NamedFault(PICTURES_LEFT, "away", "00:00:01:00"), NamedFault(NEVER_SENT, "")
-        lost = [Gap(None, None, "", LossPlace(1, 2, missing=9), True)]
-        strange = [Notice(kind, kind, None) for kind in ("pause", "page", "pause")]
-        mild = self.write("mild", b"72 warning\nnever sent warning\n")
-        self.write("allowing", b"--allow-lost\n--severity %s\n" % mild.encode())
-        allowing = {"request": make_pair_request("--profile", self.path("allowing"))}
-        strict = {"request": make_pair_request("--strict"), "warnings": strange}
+        self.write("mild", b"72 warning\nnever sent warning\n")
+        self.write("allowing", f"--allow-lost\n--severity {self.path('mild')}\n".encode())
         self.write("relative", b"--relative\n")
-        untimed, untimed_strict = ({"request": make_example_request("one.stl", "one.pes", *words)}
-                                   for words in ((), ("--strict",)))
-        in_profile = {"request": make_example_request("one.stl", "one.pes", "--profile",
-                                                      self.path("relative"))}
-        unused_profile = {"request": make_pair_request("--profile", self.path("relative"))}
-        relative = "relative 10 frames 2 transmissions"
-        good, content, first = "accepted 10 frames 2 transmissions", REFUSED[0], OTHER_LINES[0]
-        has = "; the profile has --allow-lost and --severity"
-        warned, of_loss = "not accepted, since --strict treats warnings as faults (pause, page)", \
-            "not accepted, since TS packets are lost"
-        # A letter for each part: accepted (`a`), with fault 72 (`r`), with the faults 38 and 70
-        # (`o`), or accepted by an estimated clock (`f`). Members of the verdict (`is_mild`: fault
-        # 72 and `never sent` are warnings), the verdict, its last line, and the line of the worst
-        # fault, or `None` if that is the last line.
-        rows: list[tuple[str, dict[str, Any], str, str | None, str | None]] = [
-            ("a", {}, "accepted", good, good),
-            ("aa", {}, "accepted", "accepted 20 frames 4 transmissions in 2 parts", None),
-            ("aor", {}, "refused", first, content), ("ro", {}, "refused", content, content),
-            ("r", {"named_faults": [left]}, "refused", content, content),
-            ("o", {"named_faults": [left, never]}, "refused", first, never.line),
-            ("a", {"named_faults": [left, never]}, "refused", left.line, never.line),
-            ("", {"named_faults": [never]}, "refused", never.line, never.line),
-            ("a", {"named_faults": [never, left], "is_mild": True}, "refused", left.line, None),
-            ("a", {"named_faults": [never], "is_mild": True}, "waived", f"waived: {never.line}",
-             None),
-            ("r", {"is_mild": True, **allowing}, "waived", f"waived: {content}{has}", None),
-            ("ror", {"is_mild": True}, "refused", first, None),
-            ("a", {"gaps": lost, **allowing}, "lost", f"{of_loss}: {good}{has}", None),
-            ("ra", {"gaps": lost, "is_mild": True}, "lost", f"{of_loss}: waived: {content}", None),
-            ("a", strict, "warned", f"{warned}: {good}", None),
-            ("r", {**strict, "is_mild": True}, "warned", f"{warned}: waived: {content}", None),
-            ("af", {}, "accepted", "accepted 20 frames 4 transmissions in 2 parts", None),
-            ("af", {**strict, "warnings": []}, "warned", "not accepted, since --strict treats "
-             "warnings as faults (estimated): accepted 20 frames 4 transmissions in 2 parts", None),
-            ("f", untimed, "relative", relative, relative),
-            ("f", {}, "relative", relative, relative),
-            ("ff", untimed, "relative", "relative 20 frames 4 transmissions in 2 parts", None),
-            ("f", in_profile, "relative", f"{relative}; the profile has --relative", None),
-            ("a", unused_profile, "accepted", good, good),
-            ("f", untimed_strict, "relative", relative, relative),
-            ("f", {**untimed, "gaps": lost}, "lost", f"{of_loss}: {relative}", None),
-            ("f", {**untimed_strict, "warnings": strange}, "warned", f"{warned}: {relative}", None),
-            ("r", {**untimed, "is_mild": True}, "relative", f"relative, waived: {content}", None),
-            ("fo", untimed, "refused", first, None)]
-        lines_of = {"a": [good], "f": [good], "r": REFUSED, "o": OTHER_LINES}
-        for letters, members, word, line, worst_line in rows:
-            parts = [make_part(0, 99, 0, make_answer(lines_of[letter]), number,
-                               RECORDING if letter == "f" else GIVEN)
-                     for number, letter in enumerate(letters, 1)]
-            severity = Severity(mild if "is_mild" in members else None)
-            verdict = dataclasses.replace(make_part_verdict(parts, severity), **{
-                name: value for name, value in members.items() if name != "is_mild"})
-            self.check(f"{letters} {members}", (verdict.word, verdict.line, verdict.worst_line),
-                       (word, line, worst_line or line))
+        accepted, lost = ["accepted 10 frames 2 transmissions"], Gap(
+            None, None, "", LossPlace(1, 2, missing=9), is_judged=True)
+        outputs = {"accepted": accepted, "estimated": accepted, "72": REFUSED, "38 70": OTHER_LINES}
+        named = {NEVER_SENT: NamedFault(NEVER_SENT, ""),
+                 PICTURES_LEFT: NamedFault(PICTURES_LEFT, "away", "00:00:01:00")}
+        for row in read_vectors("verdicts.tsv"):
+            request = make_example_request("one.stl", "one.pes", *(
+                self.path(word) if word.isalpha() else word for word in row["options"].split()))
+            verdict = make_part_verdict([
+                make_part(0, 99, 0, make_answer(outputs[word]), number,
+                          RECORDING if word == "estimated" else GIVEN)
+                for number, word in enumerate(filter(None, row["parts"].split(", ")), 1)],
+                Severity(request.severity))
+            verdict = dataclasses.replace(
+                verdict, request=request, gaps=[lost] * bool(row["lost"]),
+                warnings=[Notice(kind, kind, None) for kind in row["warnings"].split()],
+                named_faults=[named[name] for name in row["named faults"].split(", ") if name])
+            last_line = row["last line"]
+            self.check(row["name"], (verdict.word, verdict.line, verdict.worst_line),
+                       (row["verdict"], last_line, row["line of the worst fault"] or last_line))
 
     def test_is_not_judged_after_an_error_or_a_failed_output(self) -> None:
         full, broken = FailedOutput("full", "resource"), FailedOutput("broken", "bug")
@@ -297,35 +259,12 @@ class Verdicts(Case):
 
 class PartDecisions(Case):
     def test_detects_whether_any_pes_packet_of_a_part_was_read(self) -> None:
-        """PES packets with the faults 38 and 61 are not read. If the subtitle file has a fault
-        (50), clean frames or faults of the transmission show that PES packets were read."""
-        refused, accepted = "50 Character block 1 at 4", "accepted 51 frames 2 transmissions"
-        trusted = "trusted frames 10:00:00:00 10:00:01:24"
-        # The number of PES packets in the recording, the first and last one of the part, lines of
-        # `check`, and whether a PES packet was read.
-        rows: list[tuple[int, tuple[int, int] | None, list[str], bool]] = [
-            (3, (0, 2), ["38 X pes 0", "ended 38 X pes 2"], False),
-            (3, (0, 2), ["38 X pes 0", "ended 38 X pes 1"], True),
-            (3, (0, 2), ["38 X pes 1", "ended 38 X pes 2"], True),
-            (3, (1, 2), ["38 X pes 1", "ended 38 X pes 2"], False),
-            (3, (1, 99), ["38 X pes 1", "ended 38 X pes 2"], False),
-            (3, (0, 2), ["38 X pes 0", "38 X pes 1", "38 X pes 2"], False),
-            (3, (0, 2), ["38 X pes 0", "61 X pes 1", "38 X pes 2"], False),
-            (3, (0, 2), ["38 X pes 0", "61 X pes 2"], True),
-            (3, (0, 2), ["38 X pes 0", "ended 38 X pes 2", "72 X frame 00:00:00:00 row 1 column 1"],
-             True), (0, (0, 2), ["60 Empty"], False), (3, (0, 2), [accepted], True),
-            (3, None, [accepted], False), (2, (0, 1), [refused], False),
-            (2, (0, 1), [refused, trusted], True),
-            (2, (0, 1), [refused, "78 Undecided frame 10:00:02:00"], True),
-            (2, (0, 1), [refused, "33 Flags pes 0"], True),
-            (2, (0, 1), [refused, "33 Flags pes 0", "ended 33 Flags pes 1"], False)]
-        for count, pes, some, expected in rows:
-            lines = [line if line[0].isalpha() else f"refused {line}" for line in some]
-            faults = sum(line.startswith("refused ") for line in lines)
-            printed = make_answer([*lines, *[f"{faults} faults"] * bool(faults)])
+        for row in read_vectors("read-parts.tsv"):
+            count, part_range = int(row["PES packets"]), row["part"].split("-")
             packets = Packets(0, [PacketRun(0, count, 0, TICKS, "h", "")] * bool(count))
-            part = make_part(0, 9, 0, printed, packets=packets, pes=pes)
-            self.check(f"{count} {pes} {lines}", part.is_read(), expected)
+            part = make_part(0, 9, 0, make_answer(row["lines"].split("; ")), packets=packets,
+                             pes=(int(part_range[0]), int(part_range[1])) if row["part"] else None)
+            self.check(row["name"], part.is_read(), row["is read"] == "yes")
 
     def test_a_part_is_not_read_if_all_its_clean_frames_are_lost(self) -> None:
         lines = ["refused 50 Character block 1 at 4",
