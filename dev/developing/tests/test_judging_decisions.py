@@ -31,7 +31,7 @@ from subtitles.stream.receiver import BLANK_PAGE, PACKETS_PER_PAUSE, Rows, Timel
 from subtitles.stream.survey import Announced
 from .bench import Case
 from .parts import make_example_request, make_default_options, survey_packets, decode_packets
-from .transmissions import CLOSING, HEADER, PAGE, make_numbered_row
+from .transmissions import CLOSING, HEADER, PAGE, make_numbered_row, write_subtitle_file
 
 
 class Results(Case):
@@ -148,6 +148,19 @@ class SubtitleFiles(Case):
         notices = find_character_set_notices(packets, make_example_request("one.stl", "one.ts"))
         self.check("names", [re.split(" names |, not |: ", item.line)[1] for item in notices], [
             "character set 001 of region 0000 (German)", *["an unreadable character set"] * 2])
+
+
+    def test_continues_the_same_text_of_a_subtitle_that_ends_within_the_tolerance(self) -> None:
+        """The frames of two subtitles with the same text are 100 to 159 and 162 to 219."""
+        stl = write_subtitle_file(self, [(100, 160, b"text"), (162, 220, b"text")])
+        names = OutputNames("one", self.folder, None)
+        names.set_subtitle_file(stl)
+        for within, is_continued in (("1", False), ("2", True)):
+            request = make_example_request(stl, "a.pes", "--from", "00:00:06:12", "--within",
+                                           within)
+            judge = PairJudge(mock.Mock(request=request, valid_subtitles=None), mock.Mock(), names,
+                              mock.Mock(), False)
+            self.check(within, judge.is_continued(make_subtitle(2, 162)), is_continued)
 
 
 class EstimatedOrigins(Case):

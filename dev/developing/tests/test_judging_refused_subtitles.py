@@ -12,6 +12,7 @@ from typing import Sequence
 from unittest import mock
 
 from developing.multiplex import PACKET, PAYLOAD, PAYLOAD_START, make_packet_header
+from developing.pes import make_packet
 from developing.stl import make_gsi_block, make_tti_block
 from subtitles.cli.collection import make_pair_row, format_summary
 from subtitles.common.times import TICKS
@@ -30,7 +31,7 @@ from .transmissions import (
     ShownSubtitle, join_pes_packets, make_delay, replace_pts, packets, schedule_pages,
     subtitle_times)
 from .test_judging_pairs import UNREAD, damage_packet
-from .test_judging_reasons import KEEPING_HEADER
+from .test_judging_reasons import KEEPING_HEADER, change_numbers
 
 BAD = b"\xe6: no letter"  # begins with U+0132, which no national option has
 REPLACE_ADVICE = "replace it (it needs other character sets, or packets X/26, which are " \
@@ -209,6 +210,15 @@ class RefusedSubtitles(Case):
                        ("refused", 2, SubtitleCounts(10 - len(bad), len(bad))))
             self.must(f"{bad} {words}: sentence", words in judged.verdict.sentence,
                       judged.verdict.sentence)
+
+    def test_explains_a_header_that_keeps_the_page_but_changes_the_sub_code(self) -> None:
+        header = make_packet(0, 0, change_numbers({2: 1}), b" " * 32)
+        sent = [(pts, [header, *packets[1:]] if at == 30 else packets)
+                for at, (pts, packets) in enumerate(self.sent)]
+        recording = self.write("odd.pes", join_pes_packets(sent))
+        hints = self.judge(self.write_stl(3), recording, "--keeping").result["hints"]
+        self.must("hint", "67: C4 (erase page) is clear, though the sub-code changes from 0000 to "
+                  "0001" in hints, hints)
 
     def test_draws_the_judged_subtitles_by_a_layout(self) -> None:
         self.blocks = [(begin, end, b"N\xc8umber %d" % number)
