@@ -76,6 +76,8 @@ class Pictures(Case):
             "none in the last 40 seconds": ((make_leads(500, 3000),), [HOLE]),
             "none for 20 seconds": ((make_leads(500, 2000) + make_leads(2500, 4500),), [HOLE]),
             "only after the part": ((make_leads(5000, 9000),), [HOLE]),
+            "only after a part of three seconds": (
+                (make_leads(5000, 9000), ONE_VIDEO, SENT[:3]), [HOLE]),
             "none for 40 seconds without Teletext": (
                 (make_leads(500, 2000) + make_leads(3000, 4500), ONE_VIDEO, SENT[:40] + SENT[80:]),
                 []),
@@ -100,6 +102,9 @@ class Pictures(Case):
         for change, kinds in ((10, []), (15, []), (16, [JUMP]), (50, [JUMP]), (-50, [])):
             rows[f"the lead grows by {change} frames without a jump"] = (
                 ([*ahead, *make_leads(500, 2500), *make_leads(2500, 4500, 6 + change)],), kinds)
+        rows["the lead grows by 16 frames for 20 seconds"] = (
+            ([*ahead, *make_leads(500, 2500), *make_leads(2500, 3000, 6 + 16),
+              *make_leads(3000, 4500)],), [JUMP])
         self.check_kinds(rows)
 
     def test_a_lead_that_changes_by_more_than_a_second_prevents_a_verdict(self) -> None:
