@@ -23,7 +23,7 @@ from .test_report_stories import make_report
 
 FOLDER = os.path.join(TOP, "dev", "snapshots")
 HEAD, TAIL = 16, 4  # number of lines stored from the start and end of a long list
-REPORT_LINES = 42  # number of lines stored from the start of a report
+REPORT_LINES = 36  # number of lines stored from the start of a report
 WIDTH = 300  # maximum number of characters stored from a line
 OMITTED = re.compile(r"date$|seconds$|^files_at_start\.|^inputs\.|^commands\b|^omitted\.|^format$")
 
