@@ -430,7 +430,7 @@ class SilentPrinter(Printer):
         self.lines: list[str] = []
 
     def print_line(self, line: str) -> None:
-        self.last = line
+        self.last_line = line
         self.lines.append(line)
 
     def print_error(self, line: str) -> None:
