@@ -369,7 +369,8 @@ class LossesInParts(unittest.TestCase):
 
             places = [LossPlace(pts_at(before), pts_at(after)) for before, after, _ in rows]
             with self.subTest(shift=shift):
-                self.assertEqual([*find_lost_spans(places, shift, 0)], [span for *_, span in rows])
+                self.assertEqual([*find_lost_spans(
+                    places, origin=shift, within=0)], [span for *_, span in rows])
 
     def test_computes_the_frames_of_a_recording_from_its_first_and_last_pcr(self) -> None:
         hour = 90_000

@@ -391,7 +391,8 @@ class Runs(unittest.TestCase):
         """Return the first and last frame of each airing that is found.
 
         An airing begins `step` frames after the one before. `kinds` has a letter for each: r
-        (right), w (wrong texts), f (few right texts), h (half of the cues) or l (less than half).
+        (right), w (wrong texts), f (a quarter of the texts are right), h (half of the cues) or l
+        (less than half).
         """
         sendings = []
         for number, kind in enumerate(kinds):
@@ -403,15 +404,16 @@ class Runs(unittest.TestCase):
         return [(first[1] + EACH * first[0], last[1] + EACH * last[0])
                 for first, last in find_airings(bases, has_clock)]
 
-    def test_finds_airings_with_half_of_the_cues_or_more(self) -> None:
-        for step, kinds in itertools.product((EACH, -10 ** 6), (
-                "r", "rrr", "hrr", "lr", "rwr", "wrw", "fr")):
-            for has_clock in (False, True)[:1 + ("w" in kinds)]:
-                kept = [(EACH * at, EACH * at + self.due[5 if kind == "h" else 11].end)
-                        for at, kind in enumerate(kinds)
-                        if kind != "l" and not (kind == "w" and has_clock)]
-                self.assertEqual(self.find_airings(self.due, kinds, step, has_clock), kept,
-                                 (step, kinds, has_clock))
+    def test_finds_airings_with_half_of_the_cues_or_a_quarter_of_the_texts(self) -> None:
+        """Airings with wrong texts are found by the times of their cues, unless a clock is given.
+        """
+        for step, kinds, has_clock in itertools.product((EACH, -10 ** 6), (
+                "r", "rrr", "hrr", "lr", "rwr", "wrw", "fr"), (False, True)):
+            kept = [(EACH * at, EACH * at + self.due[5 if kind == "h" else 11].end)
+                    for at, kind in enumerate(kinds)
+                    if kind != "l" and not (kind == "w" and has_clock)]
+            self.assertEqual(self.find_airings(self.due, kinds, step, has_clock), kept,
+                             (step, kinds, has_clock))
 
     def test_finds_an_airing_at_equal_distances_only_by_its_texts(self) -> None:
         self.assertEqual(self.find_airings(self.grid, "rw", EACH), [(0, 1150)])

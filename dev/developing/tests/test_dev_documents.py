@@ -359,8 +359,8 @@ class SourcesOfFacts(Case):
     make them true."""
 
     def test_the_document_and_the_file_of_each_row_have_its_words(self) -> None:
-        for path in sorted(glob.glob(os.path.join(FACTS, "**", "*.tsv"), recursive=True)):
-            document = os.path.relpath(path, FACTS).removesuffix("tsv") + "md"
+        for document, _ in list_document_texts():
+            path = os.path.join(FACTS, document.removesuffix("md") + "tsv")
             for number, row in enumerate(read_document(path).splitlines(), 1):
                 place = f"row {number} of {os.path.relpath(path, TOP)}"
                 stated, source, code = row.split("\t")

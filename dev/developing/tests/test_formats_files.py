@@ -80,7 +80,8 @@ class Blocks(unittest.TestCase):
 
     def test_blocks_of_another_group_belong_to_another_subtitle(self) -> None:
         data = make_gsi_block(b"", 0, 0) + self.block(1, 0) + self.block(1, 255, group=1)
-        self.assertTrue(refusal(lambda: list(stl.read_stored_subtitles(data)), DamagedFile))
+        self.assertEqual(refusal(lambda: list(stl.read_stored_subtitles(data)), DamagedFile),
+                         "block 2 begins a subtitle, but the one before is incomplete")
 
     def test_decodes_only_subtitles_with_a_duration(self) -> None:
         data = make_gsi_block(b"", 0, 0) + b"".join(

@@ -285,7 +285,7 @@ OTHER_OPTION = make_packet(0, 0, [8, 8, 0, 8, 0, 8, 1, 8], b" " * 32)  # German
 RESERVED_OPTION = make_packet(0, 0, [8, 8, 0, 8, 0, 8, 1, 14], b" " * 32)
 OTHER_SUBCODE = make_packet(0, 0, [8, 8, 1, 8, 0, 8, 1, 0], b" " * 32)
 NEXT_PAGE = make_packet(0, 0, [9, 8, 0, 8, 0, 8, 1, 0], b" " * 32)
-KEEPING_HEADER = make_packet(0, 0, [8, 8, 0, 0, 0, 8, 1, 0], b" " * 32)  # C4 clear
+KEEPING_HEADER = make_packet(0, 0, [8, 8, 0, 0, 0, 8, 1, 0], b" " * 32)  # C4 clear: fault 67
 ROW = make_numbered_row(22, b"Good evening.")
 TEXT, NO_TEXT = [HEADER, ROW, CLOSING], [HEADER, CLOSING]  # page transmissions
 # M/29: region 1, so that receivers above level 1 show other characters

@@ -172,8 +172,7 @@ class UntrustedResults(Case):
         for number in range(CHANGES):
             result = changed(known[number % 9 == 8], chance)
             is_valid = validator.is_valid(result)
-            if isinstance(result, dict) and "pairs" not in result:
-                self.check(f"change {number}", find_misfit(result) is None, is_valid)
+            self.check(f"change {number}", find_misfit(result) is None, is_valid)
             valid_count += is_valid
         self.must("some of each", CHANGES // 20 < valid_count < CHANGES // 2, valid_count)
 
