@@ -38,6 +38,7 @@ STATUS_CASES: dict[str, tuple[dict[str, object], int]] = {
     "invalid free bytes": ({"free_bytes": 5}, UNKNOWN)}
 
 
+@mock.patch.dict(os.environ, TZ="EAST-5")  # five hours ahead of UTC, in which states have dates
 class Status(Case):
     def test_ends_with_the_status_of_nagios(self) -> None:
         for name, (changes, status) in STATUS_CASES.items():

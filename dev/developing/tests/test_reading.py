@@ -22,7 +22,7 @@ from subtitles.judging.cues import CERTAIN, NOT_CERTAIN
 from subtitles.judging.status import (
     ACCEPTED, AS_SHOWN, CheckSummary, DIFFERS, Grounds, NOT_READ, SAME, Severity, WITH_FAULTS,
     decide_reading)
-from subtitles.reading.judge import is_trusted
+from subtitles.reading.judge import AFTER, BEFORE, is_trusted, list_doubts
 from subtitles.recording.dates import find_date
 from subtitles.reading.received import (
     ShownPage, choose_header_option, choose_language, find_header_bits, find_likely_errors,
@@ -239,6 +239,9 @@ class Decisions(Case):
         reading: Any = SimpleNamespace(first=5, last=200)
         self.check("frames", [frame for frame in range(300)
                               if not is_trusted(part, reading, frame)], [10, 11, 12, 99])
+        reading.written_pages = [SimpleNamespace(begin=begin, end=end, cut="") for begin, end in (
+            (5, 9), (5, 10), (13, 20), (14, 20))]
+        self.check("subtitles next to it", dict(list_doubts(part, reading)), {2: AFTER, 3: BEFORE})
 
     def test_decides_the_verdict(self) -> None:
         # `cut` is the answer of `check` about a recording that ends within a subtitle: fault 74.
@@ -599,10 +602,12 @@ class WrittenFiles(Case):
                              "--csv", "1.csv", "--junit", "1.xml", data=piped)
             self.check(name, (call.status, sorted(os.listdir(self.path("out")))),
                        (0, ["888.html", "888.json", "888.stl", "888.txt"]))
-        result, lines = json.loads(self.read("1.json")), self.read("1.csv").splitlines()
-        self.check("subtitles", len(lines) - 2, len(result["subtitles"]))
-        self.check("sum", result["inputs"]["recording"]["sha256"],
-                   hashlib.sha256(data).hexdigest())
+        self.tool("read", sent, "--page", "888", "--json", "without -o.json")
+        for name in ("without -o.json", "1.json"):
+            result = json.loads(self.read(name))
+            self.check(f"sum in {name}", result["inputs"]["recording"]["sha256"],
+                       hashlib.sha256(data).hexdigest())
+        self.check("subtitles", len(self.read("1.csv").splitlines()) - 2, len(result["subtitles"]))
         call = self.tool("qc", "--collect", "out", "--junit", "all.xml")
         self.must("collected", call.status == 0 and b"1 pair: 1 as shown" in call.out, call)
         self.check("the report", self.read("out/888.html").count(b"<td>certain</td>"),
