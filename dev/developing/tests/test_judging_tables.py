@@ -444,11 +444,11 @@ class SubtitleBlocks(Case):
         comment = make_tti_block(7, 25, 50, 20, 2, b"no", comment=1)
         user = make_tti_block(7, 25, 50, 20, 2, b"no", 0xFE)
         other = make_tti_block(300, 75, 99, 20, 2, b"$")
-        data = make_gsi_block(b"", 6, 2) + b"".join([comment, first, user, comment, last, other])
+        data = make_gsi_block(b"", 6, 2) + b"".join([user, first, user, comment, last, other])
         path = self.write("one.stl", data + b"x" * 127)
         file = SubtitleFile(path)
         self.check("counts", (file.count(), file.count_ended(), list(file.list_last_blocks())),
-                   (6, (2, 4), [5, 6]))
+                   (6, (2, 3), [5, 6]))
         self.check("texts", (file.text(5), file.text(6)), (b"a\xc2e\x80\xf9\xff", b"$"))
         self.check("characters", [file.describe_byte(5, at) for at in range(7)], [
             ("61", "a"), ("C2", "é"), ("65", "e"), ("80", None), ("F9", "ø"), ("FF", "\ufffd"),
