@@ -175,9 +175,10 @@ class WaivedSubtitles(Case):
         stl = write_subtitle_file(self, replace_subtitles({
             2: (200, 260, b"Number \x9f 2"), 4: (400, 460, b"Number \x9f 4")}))
         two, four = make_waiver(51, 2), make_waiver(51, 4)
+        # The waivers in the severity file, and the beginning of the sentence
         rows: list[tuple[list[str], str]] = [
             ([], "Refused: in subtitle 2 at"), ([two], "Refused: in subtitle 4 at"),
-            ([two, four], "Waived, ")]
+            ([make_waiver(51, 1)], "Refused: in subtitle 2 at"), ([two, four], "Waived, ")]
         for lines, words in rows:
             sentence = self.judge_with(lines, stl)["sentence"]
             self.check(f"{lines}", sentence[:len(words)], words)
