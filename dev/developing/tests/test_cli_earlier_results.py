@@ -122,6 +122,7 @@ class StoredResults(Case):
         faults = [{**FAULT, "line": f"refused {number}", "number": 5, "name": "X",
                    "frame": number}
                   for number in range(120)]
+        faults.append({**FAULT, "cause": {"name": "late"}})  # counted by its cause, not as 72
         causes = {"late": 2, "early": 1}
         row = make_row(make_result(faults=faults, fault_count=7, seconds=1.5, hints=["72: a hint"],
                                    cause_counts={**causes, "never": 0}), "name")

@@ -100,9 +100,10 @@ class PictureDepartures(Case):
             self.check(f"{lost} lost, {ahead}", self.list_jumps(
                 make_video_leads([6.0] * 80, {40: lost}), ahead), expected)
 
-    def test_finds_a_lead_that_grows_steadily_but_not_a_jump_of_the_teletext_pts(self) -> None:
-        leads = make_video_leads([6 + 0.02 * at for at in range(100)])
-        self.check("it grows", find_steady_change(leads), round(99 * 0.02 * TICKS))
+    def test_finds_a_lead_that_changes_steadily_but_not_a_jump_of_the_teletext_pts(self) -> None:
+        for name, slope in (("it grows", 0.02), ("it shrinks", -0.02)):
+            leads = make_video_leads([6 + slope * at for at in range(100)])
+            self.check(name, find_steady_change(leads), round(99 * slope * TICKS))
         for slopes in ((0.04, 0.02), (0.02, 0.04)):
             self.check(f"before and after a step: {slopes}", find_steady_change(make_video_leads(
                 [6 + slope * at for slope in slopes for at in range(100)], {100: 9})),
