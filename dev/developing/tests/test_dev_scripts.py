@@ -362,7 +362,7 @@ def replace_check(name: str, script: Any, faults: list[str]) -> dict[str, Any]:
             "try_known": lambda *_: script.CheckResult("a", faults, (), 1)},
         "check-live": lambda: {
             "make_feeds": lambda: [script.Feed("a", [], [], ())], "make_stream": lambda _: [],
-            "follow": mock.Mock(side_effect=[(0, 0), (1 - len(faults), len(faults))])},
+            "follow": mock.Mock(side_effect=[(0, len(faults)), (1 - len(faults), 0)])},
         "check-manual": lambda: {
             "copy_named_files": mock.Mock(), "CHAPTERS": [], "DOCUMENTS": [],
             "check_names": lambda: (1 - len(faults), len(faults))},
