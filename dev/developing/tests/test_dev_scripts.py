@@ -187,6 +187,13 @@ class FailedScripts(Case):
             import_script("check-program").compare_examples(self.bench.program)
         self.check("output", out.getvalue(), f"{count} passed, 0 failed\n")
 
+    def test_check_program_counts_missing_unexpected_and_different_examples_as_failed(self) -> None:
+        script = import_script("check-program")
+        files = {"same": b"", "other": b"1", "old": b""}, {"same": b"", "other": b"2", "new": b""}
+        with contextlib.redirect_stdout(io.StringIO()), mock.patch.multiple(
+                script, read_files=mock.Mock(side_effect=files), subprocess=mock.Mock()):
+            self.check("passed, failed", script.compare_examples(""), (1, 3))
+
 
 # What `check` prints about the inputs of bench/inputs.py with 200 frames or subtitles
 INPUTS = {
