@@ -322,11 +322,12 @@ class Clones(Case):
         self.clone.check_comparison(
             "dist/PROVED names these sources, but they do not build dist/subttx", failed=1)
 
-    def test_compare_fails_if_the_program_in_dist_is_damaged(self) -> None:
-        with open(self.clone.path("dist", "subttx"), "ab") as file:
-            file.write(b"\0")
-        self.clone.check_comparison("dist/subttx is not the program that dist/PROVED names",
-                                    failed=1)
+    def test_compare_fails_if_the_program_in_dist_is_damaged_or_missing(self) -> None:
+        message = "dist/subttx is not the program that dist/PROVED names"
+        self.clone.write("dist/subttx", "damaged")
+        self.clone.check_comparison(message, failed=1)
+        os.remove(self.clone.path("dist", "subttx"))
+        self.clone.check_comparison(message, failed=1)
 
 
 # A fake prover, which logs the crate, runs FIRST, and proves all crates except FAILS.
