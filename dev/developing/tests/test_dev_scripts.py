@@ -13,7 +13,7 @@ from unittest import mock
 
 from developing.proved import Crates, ProvedProgram, format_proved, list_crate_sums
 from developing.shown import has_expected_status
-from developing.surveying.streams import make_random_recording
+from developing.surveying.streams import Recording, make_random_recording
 from subtitles.common.command_line import Stop
 from subtitles.common.program import TOP, read
 from ..trial import RunResult
@@ -337,6 +337,14 @@ class FailedChecks(Case):
         self.check("a line for each of two PES packets", script.without_runs(
             ["pes 9 4 2 8589931000 3600 a", "pid 9"]), [
                 "pid 9", "9 4 8589931000 a", "9 5 8 a"])
+
+    def test_check_survey_compares_the_lines_of_the_last_page(self) -> None:
+        script, recording = import_script("check-survey"), Recording(b"", [(0, 0x88), (3, 0)])
+        with mock.patch.multiple(
+                script, make_random_recording=lambda _: recording, survey=lambda *_: ["set 1"],
+                printed=lambda *_: ["page 888", "set 1", "page 300", "set 2"]):
+            self.check("difference", script.compare("", 1)[2],
+                       "page 300: line 1: set 2, expected: set 1")
 
     def test_check_tools_prints_first_what_it_runs_and_last_its_counts(self) -> None:
         name = "test_dev_gate.Counts"  # has one test with a check for each row
