@@ -149,10 +149,10 @@ class Sentences(Case):
 
     def test_has_a_sentence_for_each_cause(self) -> None:
         for name in [item for item in CAUSE_NAMES if item != TEXT_IN_PAUSE]:
-            # Subtitle 3 has the cause, or the subtitles 3 and 5.
-            for several in ([cause(2, name, 3)], [cause(2, name, 3), cause(4, name, 5)]):
+            # Subtitle 3 has the cause, with 7 frames, or the subtitles 3 and 5.
+            for several in ([cause(2, name, 7)], [cause(2, name, 7), cause(4, name, 9)]):
                 words = describe_causes(make_causes(*several), "english")
-                predicates = CAUSE_PREDICATES.get(name, ("appeared 3 ", "appeared 3 "))
+                predicates = CAUSE_PREDICATES.get(name, ("appeared 7 ", "appeared 7 "))
                 with self.subTest(name, count=len(several)):
                     self.assertIn(f" {predicates[len(several) - 1]}", words)
                     self.assertRegex(words, VERB)

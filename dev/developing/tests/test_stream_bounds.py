@@ -332,7 +332,10 @@ class ClearOrigins(unittest.TestCase):
         return SimpleNamespace(best=best, others=others, early=early,
                                time_base=SimpleNamespace(find_cue_offset=lambda _: offset))
 
-    def test_an_origin_is_unclear_if_as_many_cues_and_pages_match_at_another(self) -> None:
+    def test_an_origin_is_unclear_if_another_has_the_same_score(self) -> None:
+        # The score is the number of cues and page changes that match. Below 5 matching cues, the
+        # score of cues and texts may decide instead. If in-cues and out-cues have different delays,
+        # other origins up to MAX_CUE_OFFSET frames away, or without a matching text, do not count.
         five, four, offset, most = self.fit(5, 5, 2), self.fit(4, 4, 2), self.OFFSET, MAX_CUE_OFFSET
         for best, other, cue_offset, expected in (
                 (five, self.fit(5, 4, 9), None, False), (five, self.fit(5, 5), None, True),
