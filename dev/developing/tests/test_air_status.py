@@ -50,12 +50,12 @@ class Status(Case):
                        CRITICAL if status == CRITICAL else UNKNOWN)
 
     def test_a_watched_folder_has_no_metrics_of_a_feed(self) -> None:
-        """The state of `qc --watch` is from 1970, with 5 free bytes and a refused film."""
+        """The state of `qc --watch` is from 2009, with 5 free bytes and a refused film."""
         feed, state = 'the "news"', State()
         os.mkdir(self.path(feed))
         blocks = mock.Mock(f_bavail=1, f_bfree=9, f_frsize=5)  # only root may fill all free blocks
         with mock.patch.object(os, "statvfs", return_value=blocks):
-            state.look_at_folders(0.0, results=self.path(feed))
+            state.look_at_folders(1_234_567_890.0, results=self.path(feed))
         state.waiting = 2
         state.add_result("film", "refused", "refused: 72 | RowMissing")
         write_state(self.path(feed), state.make_contents())
@@ -65,6 +65,7 @@ class Status(Case):
                    "72 / RowMissing|age=AGEs waiting=2 late=0 free_results=5B\n")
         lines = self.read("metrics").decode().replace(r'feed="the \"news\""', "").splitlines()
         self.check("metrics", [line for line in lines if not line.startswith("# ")], [
+            "subttx_air_date_timestamp_seconds{} 1234567890",
             'subttx_air_alarm{,alarm="disk"} 1',
             'subttx_air_alarm{,alarm="bug"} 0', 'subttx_air_free_bytes{,folder="results"} 5',
             "subttx_air_waiting{} 2", "subttx_air_late{} 0",
