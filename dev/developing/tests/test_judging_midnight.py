@@ -199,6 +199,8 @@ class Programmes(MidnightCase):
         self.check("the note", judged.result["notes"], [
             f"{self.path('film.stl')} runs over midnight: check read {command[2]}, a copy in which "
             "all times are 12 h earlier"])
+        alone = judge_files(self, self.path("film.stl"), "-o", self.path("out")).verdict.commands
+        self.check("its file without a recording", shlex.split(alone[-1])[2], command[2])
 
     def test_reads_a_recording_into_one_file(self) -> None:
         blank = [(TICKS * (MIDNIGHT - 210), [HEADER, CLOSING])]

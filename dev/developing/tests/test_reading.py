@@ -15,7 +15,8 @@ from subtitles.common.checks import CLOCK as CLOCK_KIND, OPTION, OUTSIDE, PHRASE
 from subtitles.common.times import CLOCK, FRAMES_OF_A_DAY, Span, TICKS
 from subtitles.formats.layout import PLAIN, draw_text, make_page_rows
 from subtitles.formats.listing import NEVER_SENT, SUB_PAGES
-from subtitles.formats.stl_writer import StoredPage, make_gsi_block, store_page
+from subtitles.formats.stl_writer import (
+    StoredPage, make_gsi_block, make_subtitle_blocks, store_page)
 from subtitles.formats.teletext import (
     CROATIAN, ENGLISH, FRENCH, GERMAN, OPTIONS, NationalOption)
 from subtitles.judging.cues import CERTAIN, NOT_CERTAIN
@@ -74,8 +75,10 @@ class StoredPages(Case):
                 ({23: b"\x0d\x0ba"}, "row 23 has double height (0D)")):
             self.check(reason, store_page(make_page(rows), ENGLISH), reason)
 
-    def test_counts_blocks_before_subtitles(self) -> None:
+    def test_counts_blocks_before_subtitles_and_numbers_those_of_a_subtitle(self) -> None:
         self.check("TNB and TNS", make_gsi_block(b"", 5, 3)[238:248], b"0000500003")
+        blocks = make_subtitle_blocks(1, 0, 25, 20, 2, b"a" * 3 * 112)  # 112 bytes fill a block
+        self.check("EBN of each block of 128 bytes", blocks[3::128], b"\x00\x01\xff")
 
     def test_draws_each_stored_character_as_its_code(self) -> None:
         national_codes = bytes.fromhex("23 24 40 5B 5C 5D 5E 5F 60 7B 7C 7D 7E")
