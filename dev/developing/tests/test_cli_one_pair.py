@@ -35,6 +35,7 @@ from .judged import LineRecorder
 from .parts import make_answer, make_example_request, markup_text, make_part
 from .results import capture_output
 from .test_formats_files import refusal
+from .test_judging_status import make_severity
 
 REFUSED = ["refused 72 Content frame 00:00:01:00 row 1 column 2", "refused 68 Parity frame "
            "00:00:02:00 packet 1", "2 faults"]
@@ -135,11 +136,14 @@ class LastLines(Case):
 
     def test_the_sentence_names_the_report_or_the_page_about_the_fault(self) -> None:
         accepted = [make_part(0, 9, 0)]
+        relative = [make_part(0, 9, 0, make_answer(REFUSED), source=RECORDING)]
         for parts, page, end in (
                 (self.ACCEPTED_AND_REFUSED, None, ". See docs/manual/refusals.md#n72."),
                 (self.ACCEPTED_AND_REFUSED, "out/one.html", ". See out/one.html."),
+                (relative, "relative.html", ". See relative.html."),
                 (accepted, "a.html", "."), (accepted, None, ".")):
-            verdict = self.verdict(parts)
+            verdict = self.verdict(parts, severity=make_severity(
+                *["others warning"] * (parts is relative)))
             self.check(f"{page}", self.print_lines(verdict, page)[-2],
                        verdict.sentence.removesuffix(".") + end)
 

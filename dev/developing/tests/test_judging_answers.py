@@ -130,6 +130,8 @@ class ChangingFiles(Case):
                 "one.ts": make_stream_of_pids((TELETEXT_PID, read_example_file("story.pes")))}
         for (change, command), changed, program_call in itertools.product(
                 self.CHANGES.items(), data, ("survey*one.ts", "check*--pes*--all*")):
+            with contextlib.suppress(FileExistsError):  # the severity file is a symbolic link
+                os.symlink("its target", self.path("one.severity"))
             for name, content in data.items():
                 self.write(name, content)
             self.write("other", data[changed])
