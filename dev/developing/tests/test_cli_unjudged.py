@@ -315,6 +315,14 @@ class OutputsAndSignals(CallCase):
                        [self.path("one.recording.pes")] * bool(is_kept and count and ending))
         self.check("no recording", self.make_output_files(True).list_raw_outputs(None), [])
 
+    def test_writes_a_file_again_if_an_input_has_changed_since(self) -> None:
+        files = self.make_output_files()
+        files.verdict.failed_outputs = []
+        files.stamps = {self.write("one.ts", b"changed"): None}  # there was no file at the start
+        files.written = [Output(self.path("one.csv"), lambda: iter([b"not judged"]))]
+        files.find_changes()
+        self.check("contents", self.read("one.csv"), b"not judged")
+
     def test_a_result_replaces_a_link_but_another_output_follows_it(self) -> None:
         os.symlink(self.write("theirs", b""), self.path("link"))
         for is_result in (False, True):

@@ -105,6 +105,9 @@ class Pictures(Case):
         rows["the lead grows by 16 frames for 20 seconds"] = (
             ([*ahead, *make_leads(500, 2500), *make_leads(2500, 3000, 6 + 16),
               *make_leads(3000, 4500)],), [JUMP])
+        rows["only one picture in 20 seconds is more than a frame behind the PCR"] = (([*ahead, *(
+            make_leads(frame, frame + SECOND, 21.1 if frame % 500 == 0 else 20.9)[0]
+            for frame in range(500, 4500, SECOND))],), [])
         self.check_kinds(rows)
 
     def test_a_lead_that_changes_by_more_than_a_second_prevents_a_verdict(self) -> None:
