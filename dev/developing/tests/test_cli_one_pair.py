@@ -35,7 +35,6 @@ from .judged import LineRecorder
 from .parts import make_answer, make_example_request, markup_text, make_part
 from .results import capture_output
 from .test_formats_files import refusal
-from .test_judging_status import make_severity
 
 REFUSED = ["refused 72 Content frame 00:00:01:00 row 1 column 2", "refused 68 Parity frame "
            "00:00:02:00 packet 1", "2 faults"]
@@ -142,8 +141,8 @@ class LastLines(Case):
                 (self.ACCEPTED_AND_REFUSED, "out/one.html", ". See out/one.html."),
                 (relative, "relative.html", ". See relative.html."),
                 (accepted, "a.html", "."), (accepted, None, ".")):
-            verdict = self.verdict(parts, severity=make_severity(
-                *["others warning"] * (parts is relative)))
+            verdict = self.verdict(parts, severity=Severity(
+                self.write("mild", b"others warning\n") if parts is relative else None))
             self.check(f"{page}", self.print_lines(verdict, page)[-2],
                        verdict.sentence.removesuffix(".") + end)
 

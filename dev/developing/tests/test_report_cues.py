@@ -50,15 +50,14 @@ class ActualCues(Case):
 
     def test_finds_the_frames_in_which_a_subtitle_was_decoded(self) -> None:
         one, blank, two, wrong = self.ONE, BLANK_PAGE, self.TWO, page(b"onf")
-        late, early, text, never = (
-            Cause(0, name, frames, sent, None, "", 0) for name, frames, sent in (
-                (LATE, 7, one), (EARLY, 60, one), (WRONG_TEXT, None, wrong), (NEVER, None, None)))
+        late, text, never = (Cause(0, name, frames, sent, None, "", 0) for name, frames, sent in (
+            (LATE, 7, one), (WRONG_TEXT, None, wrong), (NEVER, None, None)))
         # The cause of a fault of the first subtitle, the decoded pages by their first frame, and
         # its decoded in-cue and out-cue
         for name, cause, changes, cues in (
                 ("right", None, [(100, one), (200, two)], (100, 200)),
                 ("late", late, [(107, one), (207, two)], (107, 207)),
-                ("early", early, [(40, one), (140, two)], (40, 140)),
+                ("early", late._replace(name=EARLY, frames=60), [(40, one), (140, two)], (40, 140)),
                 ("late within the limit", None, [(103, one), (203, two)], (103, 203)),
                 ("wrong text", text, [(101, wrong), (199, two)], (101, 199)),
                 ("never sent", never, [(0, blank), (200, two)], (None, None)),
