@@ -1,6 +1,0 @@
-//! The program.
-use low::double;
-
-fn main() {
-    double(1);
-}
