@@ -125,7 +125,7 @@ def judge_files_with(program: str, *args: str, recorder: LineRecorder | None = N
 class ProgrammeCase(Case):
     """A test case with a subtitle file `stl` and its correct transmission (`sent`, `pes`).
 
-    Ten subtitles appear every 100 frames for 60 frames. Frame 0 has the PTS 0, which qc is told.
+    Ten subtitles appear every 100 frames for 60 frames. --origin gives qc the PTS 0 of frame 0.
     """
 
     cues: Sequence[tuple[int, int]] = subtitle_times(10)  # TCI and TCO of each, in frames

@@ -311,7 +311,7 @@ class ForkedPairs(Case):
                           limit)
 
     def item(self, kind: str, name: str = "one", *args: str) -> BatchItem:
-        """Return a pair whose subtitle file contains `kind`, which tells how judging ends."""
+        """Return a pair whose subtitle file contains `kind`, which selects how judging ends."""
         stl = self.write(f"{name}.stl", kind.encode())
         return BatchItem(name, make_example_request(stl, self.path("one.ts"), *args), None)
 

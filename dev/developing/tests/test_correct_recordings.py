@@ -124,7 +124,7 @@ PES_STEPS: dict[str, Callable[[random.Random, int], int]] = {
     "normal": lambda chance, at: max(1, round(chance.gauss(3, 2))),
     "bursts": lambda chance, at: chance.choice((1, 1, 1, 8)),
     "wall clock": lambda chance, at: chance.choices((1, 2), (9, 1))[0],
-    "beside filler": lambda chance, at: 2 if at % 6 == 4 else 1}
+    "next to filler": lambda chance, at: 2 if at % 6 == 4 else 1}
 
 
 def make_paced_programme(case: Case, name: str, count: int, each: int) -> tuple[str, SentPes]:

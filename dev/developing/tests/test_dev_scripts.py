@@ -41,7 +41,7 @@ ALL_CALLS = [*FIRST_CALLS, "dev/release --keep", *LAST_CALLS]
 # last line of the gate, whose status is 1 if anything failed; and the calls
 GATE_CASES: dict[str, tuple[str, str, str, int, str, list[str]]] = {
     "all stages pass": ("", "rt", STAGES["rt"], 0, ALL_PASSED, ALL_CALLS),
-    "anew": ("--anew", "rt", STAGES["rt"], 0, ALL_PASSED, [
+    "with --anew": ("--anew", "rt", STAGES["rt"], 0, ALL_PASSED, [
         *FIRST_CALLS[:2], "rt ci --anew", *ALL_CALLS[3:]]),
     "two named crates": ("low high", "rt", STAGES["rt"], 0, STAGES["rt"], [
         "rt ci low high", "dev/release --note"]),
