@@ -2,7 +2,7 @@
 
 dev/snapshots/named.txt has the arguments, status and printed lines of each run in `named_calls`,
 and the lines of its output files that were not printed. reports.txt has the text of the reports in
-`test_report_stories`. `dev/check-tools --update test_snapshots` writes the files again, and `git
+`test_report_pages`. `dev/check-tools --update test_snapshots` writes the files again, and `git
 diff` then shows how a change affects the user.
 """
 from __future__ import annotations
@@ -19,7 +19,7 @@ from subtitles.common.program import TOP
 from . import named_calls
 from .bench import BENCH
 from .failures import MAX_LINES_PRINTED
-from .test_report_stories import make_report
+from .test_report_pages import make_report
 
 FOLDER = os.path.join(TOP, "dev", "snapshots")
 HEAD, TAIL = 16, 4  # number of lines stored from the start and end of a long list
@@ -96,7 +96,7 @@ def format_call_output(output: named_calls.CallOutput) -> list[str]:
 
 
 def format_report_snapshot(name: str) -> list[str]:
-    """Judge a recording of `test_report_stories`. Return its verdict and the text of its report."""
+    """Judge a recording of `test_report_pages`. Return its verdict and the text of its report."""
     judged, page, folder = make_report(name)
     page = named_calls.replace_volatile_text(page, BENCH.program).replace(folder, "FOLDER")
     return [judged.verdict.word, *format_page_snapshot(page)]

@@ -21,7 +21,7 @@ from .streams import (
     make_program_association, program_map, make_teletext_descriptor)
 from .transmissions import (
     CLOSING, HEADER, SentPes, join_pes_packets, write_programme, schedule_pages)
-from .test_judging_losses import WRONG, enlarge_pes_packets
+from .test_judging_pairs import WRONG, enlarge_pes_packets
 
 # first TCI, interval between TCIs, and duration, in frames
 FIRST_TCI, DISTANCE, DURATION = 900_000, 100, 60

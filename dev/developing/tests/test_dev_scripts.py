@@ -1,4 +1,4 @@
-"""Test the scripts of the gate: what they count, and what they must not count as passed."""
+"""Test the scripts of the gate and those that read crates: what they print, and what they count."""
 from __future__ import annotations
 
 import contextlib
@@ -11,18 +11,21 @@ import sys
 from typing import Any, Callable
 from unittest import mock
 
-from developing.proved import Crates, ProvedProgram, format_proved, list_crate_sums
+from developing.proved import Crates, format_proved, list_crate_sums, ProvedProgram
 from developing.shown import has_expected_status
-from developing.surveying.streams import Recording, make_random_recording
+from developing.surveying.streams import make_random_recording, Recording
 from subtitles.common.command_line import Stop
-from subtitles.common.program import TOP, read
+from subtitles.common.program import read, TOP
+from ..compiled import share_compiled
+from ..shown import find_commands, run_command
 from ..trial import RunResult
 from .bench import (
-    BENCH, EXAMPLES, Bench, Case, CompletedCall, get_example_path, get_tool_path, import_script,
+    BENCH, Bench, Case, CompletedCall, EXAMPLES, get_example_path, get_tool_path, import_script,
     read_example_file)
 from .failures import MAX_LINES_PRINTED
 from .programmes import wait_until
 from .runner import Counts
+from .test_dev_clones import list_omitted_names
 from .test_dev_gate import COUNT_CASES
 
 GATE = os.path.join(TOP, ".ci", "run")
@@ -502,3 +505,30 @@ class ReleasedArchives(Case):
             self.write("PROVED", format_proved(
                 ProvedProgram(None, None, None, CRATE_LINES)).encode())
             self.check("all crates", dist.find_proved_program()[0], program)
+
+
+VECTORS = os.path.join(TOP, "dev", "vectors")
+
+
+class SmallRepository(Case):
+    """The repository of dev/vectors/small-repository.txt with the scripts. The commands in its
+    folder bin/ replace those of the toolchain and of apt."""
+
+    def write_files(self) -> None:
+        _, *sections = (read(os.path.join(VECTORS, "small-repository.txt")) or "").split("\n=== ")
+        for section in sections:
+            name, _, text = section.partition("\n")
+            os.makedirs(os.path.dirname(self.path(name)), exist_ok=True)
+            self.write_program(name, text.rstrip("\n") + "\n")
+
+    def test_scripts_print_the_stored_output(self) -> None:
+        self.write_files()
+        for name in ("tools", "dev"):
+            shutil.copytree(os.path.join(TOP, name), self.path(name), ignore=list_omitted_names)
+        share_compiled(self.path("tools"))
+        for name in ("VERSION", "HANDLES"):
+            shutil.copy(os.path.join(TOP, name), self.folder)
+        environment = {**os.environ, "PATH": f"{self.path('bin')}:{os.environ['PATH']}"}
+        for line in find_commands(os.path.join(VECTORS, "script-outputs.txt")):
+            result = run_command(f"{line.command}\necho status $?", self.folder, environment)
+            self.check(f"line {line.number}: {line.command}", result, (line.shown, 0))

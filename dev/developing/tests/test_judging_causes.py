@@ -20,7 +20,7 @@ from subtitles.stream.packets import Packets
 from subtitles.stream.receiver import BLANK_PAGE, Rows, SpanIndex, Timeline
 from .judged import JudgedPair, ProgrammeCase
 from .stories import read_vectors
-from .test_judging_waivers import TIMES as WAIVED_TIMES, make_waiver
+from .test_judging_fault_details import TIMES as WAIVED_TIMES, make_waiver
 from .transmissions import CLOSING, HEADER, PAGE, SentPes, make_numbered_row
 
 BEGIN = 900_000

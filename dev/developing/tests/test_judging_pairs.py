@@ -1,19 +1,32 @@
-"""Test verdicts on pairs with unreadable packets or losses, and the sentences about them."""
+"""Test verdicts on pairs with unreadable packets, losses or pictures that were not checked."""
 from __future__ import annotations
 
-from developing.pes import DATA, GAP_MARKER, decode_pts
-from subtitles.common.times import TICKS, format_frame
-from .bench import Case, get_example_path, read_example_file
-from .judged import JudgedPair, ProgrammeCase, judge_files
+from types import SimpleNamespace
+from typing import Any, Mapping, Sequence
+
+from developing.pes import DATA, decode_pts, GAP_MARKER, make_pes_packet, STUFFING_UNIT
+from subtitles.clock.start import Clock, GIVEN, RECORDING, START, TCP, TimedPart
+from subtitles.common.checks import HOLE, JUMP, NO_VIDEO, STEADY, UNREAD
+from subtitles.common.times import format_frame, TICKS
+from subtitles.judging.desync import find_desync
+from subtitles.judging.status import CheckSummary, decide, Grounds, NOT_JUDGED, REFUSED, Severity
+from subtitles.judging.timing import describe_pace, describe_unchecked_losses
+from subtitles.judging.unchecked import Unchecked
+from subtitles.stream.pace import IRREGULAR, Pace, PAUSED, REGULAR, TOO_FEW
+from subtitles.stream.survey import Survey
+from .bench import Case, get_example_path, read_example_file, Row
+from .judged import judge_files, JudgedPair, ProgrammeCase
 from .results import check_schema
-from .stories import StoryCase, read_table
+from .stories import read_table, StoryCase
+from .streams import find_teletext_places, make_multiplex, Packet, remove_packets_at, Shape
+from .test_stream_pace import BEGIN, fill_missing_frames, TIMES
 from .transmissions import (
-    ORIGIN, join_pes_packets, packets, write_programme, make_random_stl, write_subtitle_file,
-    subtitle_times)
+    CLOSING, HEADER, join_pes_packets, make_numbered_row, make_random_stl, ORIGIN, packets,
+    schedule_pages, SentPes, subtitle_times, write_programme, write_subtitle_file)
 
 STORY, HELLO = get_example_path("story.stl"), get_example_path("hello.stl")
 ACCENT = get_example_path("accent.stl")
-UNREAD = "none of the recording was read, and --severity makes all faults warnings"
+NOT_READ = "none of the recording was read, and --severity makes all faults warnings"
 EVERY_OPTION = ["--every", "40"]  # frames; allows the loss of two page transmissions
 BITS = {33: (6, 0xC0), 37: (DATA - 1, 0x30)}  # byte and bits whose damage is this fault
 
@@ -74,8 +87,8 @@ class UnreadablePackets(ProgrammeCase):
                                  self.path(row["severity"]))
             is_unread, name = row["verdict"] == "not judged", f"{row['files']} {row['severity']}"
             self.check(f"{name}: verdict", judged.timed_verdict, row["verdict"])
-            self.check(f"{name}: reason", judged.result["reason"], UNREAD if is_unread else None)
-            self.check(f"{name}: printed", judged.stderr[-1:] == [UNREAD], is_unread)
+            self.check(f"{name}: reason", judged.result["reason"], NOT_READ if is_unread else None)
+            self.check(f"{name}: printed", judged.stderr[-1:] == [NOT_READ], is_unread)
             self.check(f"{name}: has no line", judged.result["line"] is None, is_unread)
             self.must(f"{name}: faults", judged.result["faults"])
 
@@ -217,3 +230,280 @@ class Options(Case):
         for row in read_table(OPTIONS):
             judged = judge_files(self, *pairs[row["pair"]], *row["options"].split())
             self.check(f"{row['pair']} {row['options']}", judged.timed_verdict, row["verdict"])
+
+
+WRONG = [HEADER, make_numbered_row(22, b"Wrong"), CLOSING]
+WRONG_PAGE_FRAME = BEGIN + 300  # frame of the wrong page, within a subtitle
+WRONG_PAGE_INDEX = WRONG_PAGE_FRAME - BEGIN  # index of the PES packet with the wrong page
+WRONG_PAGE_REPORTED = {"verdict": "refused", "fault numbers": "72", "losses judged": ""}
+# With pace N, silence is reported N frames after the last PES packet, which is in 10:00:11:24.
+SILENT_STREAM = {"verdict": "refused", "line": "refused 79 Silent frame 10:00:12:01"}
+SILENT_FILE = {"verdict": "refused", "line": "refused 79 Silent frame 10:00:12:00", "pace": "1"}
+ANNOUNCED = "between 10:00:11:24 and 10:00:12:01: the interval between PES packets is unusually " \
+    "long, and the stream announces a jump of the continuity counter"
+TOO_CLOSE = "not checked: a missing PES packet, at 1 place where PES packets are too close together"
+UNNOTICED_JUMP = "not checked: losses on PID 0x101, at 1 place where the stream announces a " \
+    "jump of the continuity counter"
+# The number of lost PES packets, and of TS packets in each. In all, 16 or 32 TS packets are lost,
+# after which the 4-bit continuity counter goes on as if none were.
+LOST_PES = ((2, 8), (4, 8), (4, 4), (16, 1))
+
+
+def enlarge_pes_packets(data: bytes, count: int) -> bytes:
+    """Return a PES packet with so many stuffing units that it fills `count` TS packets."""
+    result = data + STUFFING_UNIT * (4 * count - len(data) // 46)
+    return result[:4] + (len(result) - 6).to_bytes(2, "big") + result[6:]
+
+
+def lose(result: list[Packet], count: int, is_announced: bool = False, frame: int = WRONG_PAGE_FRAME
+         ) -> list[Packet]:
+    """Delete `count` TS packets of Teletext, from the PES packet in this frame on.
+
+    If `is_announced` is true, a discontinuity_indicator follows the last of them.
+    """
+    return remove_packets_at(result, frame * TICKS, count, is_announced)
+
+
+class HiddenPages(StoryCase):
+    cues, origin = TIMES, 0
+
+    def send_wrong_page(self, every: int = 25) -> SentPes:
+        sent = fill_missing_frames(schedule_pages(self, self.stl, every=every))
+        return [*sent[:WRONG_PAGE_INDEX], (sent[WRONG_PAGE_INDEX][0], WRONG),
+                *sent[WRONG_PAGE_INDEX + 1:]]
+
+    def make_stream_packets(self, sent: SentPes, size: int, first: int = 0, count: int = 1 << 20
+                            ) -> list[Packet]:
+        """Return a stream in which `count` PES packets from `first` on fill `size` TS packets each.
+        """
+        result = [make_pes_packet(pts, packets) for pts, packets in sent]
+        result[first:first + count] = [enlarge_pes_packets(item, size)
+                                       for item in result[first:first + count]]
+        return make_multiplex(result, Shape(400))
+
+    def test_refuses_a_stream_that_lacks_pes_packets_without_a_gap_in_the_counter(self) -> None:
+        for count, size in LOST_PES:
+            stream = self.make_stream_packets(self.send_wrong_page(), size, WRONG_PAGE_INDEX, count)
+            name = f"{count} PES packets of {size} TS packets"
+            self.check_answers(f"{name} received", self.judge_stream(stream), WRONG_PAGE_REPORTED)
+            judged = self.judge_stream(lose(stream, count * size))
+            self.check_answers(f"{name} lost", judged, {**SILENT_STREAM, "pace": "2"})
+
+    def test_refuses_a_file_that_lacks_pes_packets(self) -> None:
+        sent = self.send_wrong_page()
+        for count in (1, 2, 3, 5, 7):
+            judged = self.judge(sent[:WRONG_PAGE_INDEX] + sent[WRONG_PAGE_INDEX + count:])
+            self.check_answers(f"{count} lost", judged, SILENT_FILE)
+            self.check(f"{count} lost: pace", judged.lines("pace: "),
+                       ["PES packets are at most 1 frame apart: --pace 1"])
+            self.check(f"{count} lost: advises --pace none",
+                       "--pace none" in judged.verdict.sentence, False)
+
+    def test_notes_places_where_pes_packets_are_too_close_to_notice_a_loss(self) -> None:
+        # A PES packet in every second frame, and one between two of them
+        judged = self.judge([item for at, item in enumerate(self.send_wrong_page(50))
+                             if at % 2 == 0 or at == WRONG_PAGE_INDEX + 1])
+        self.check_answers("an additional PES packet", judged, {"pace": "2"})
+        self.check("note", [note for note in judged.notes if note == TOO_CLOSE], [TOO_CLOSE])
+
+    def test_finds_lost_pes_packets_at_an_announced_jump_of_the_counter(self) -> None:
+        stream = self.make_stream_packets(self.send_wrong_page(), size=3)
+        self.check_answers("received", self.judge_stream(stream), WRONG_PAGE_REPORTED)
+        for options, verdict in (((), "lost"), (("--pace", "none"), "lost"),
+                                 (("--allow-lost",), "accepted")):
+            judged = self.judge_stream(lose(stream, 3, is_announced=True), *options)
+            self.check_answers(f"{options}", judged, {"verdict": verdict, "losses judged": "True"})
+            self.must(f"{options}: line", ANNOUNCED in judged.stderr, judged.stderr)
+            self.check(f"{options}: output of check", judged.check_lines[-1].split()[0], "accepted")
+        for name, count, line in (
+                ("one PES packet and two thirds of another", 5, "refused 45 Lost pes 300"),
+                ("two PES packets", 6, SILENT_STREAM["line"])):
+            judged = self.judge_stream(lose(stream, count, is_announced=True))
+            self.check_answers(name, judged, {"verdict": "refused", "line": line})
+
+    def test_notes_a_possible_loss_at_an_announced_jump(self) -> None:
+        # A PES packet in every second frame, and the wrong page between two of them
+        sent = [item for at, item in enumerate(self.send_wrong_page(50)) if at % 2 == 0 or item[1]]
+        wrong = sent.index((WRONG_PAGE_FRAME * TICKS, WRONG))
+        frame = sent[wrong - 1][0] // TICKS + 1
+        sent[wrong:wrong + 1] = [(frame * TICKS, WRONG), (WRONG_PAGE_FRAME * TICKS, [])]
+        stream = self.make_stream_packets(sent, size=3)
+        for words in ((), ("--pace", "3"), ("--pace", "none")):
+            received = self.judge_stream(stream, *words)
+            self.check_answers(f"received {words}", received, {"verdict": "refused"})
+            self.check(f"received {words}: note", received.stderr.count(UNNOTICED_JUMP), 0)
+            judged = self.judge_stream(lose(stream, 3, is_announced=True, frame=frame), *words)
+            self.check_answers(f"lost {words}", judged, {
+                "verdict": "accepted", "losses judged": ""})
+            self.check(f"lost {words}: notes", (judged.stderr.count(UNNOTICED_JUMP),
+                                                judged.notes.count(UNNOTICED_JUMP)), (1, 1))
+
+    def test_ignores_an_announced_jump_without_loss(self) -> None:
+        stream = self.make_stream_packets(self.send_wrong_page(), size=1)
+        wrong, later = (find_teletext_places(stream, (WRONG_PAGE_FRAME + frames) * TICKS)[0]
+                        for frames in (0, 60))
+        announcement = lose(stream, 1, is_announced=True)[wrong]
+        judged = self.judge_stream([*stream[:later], announcement, *stream[later:]])
+        self.check_answers("a jump in a later frame", judged, WRONG_PAGE_REPORTED)
+
+
+def make_recording(is_stream: bool, pcr_range: tuple[int, int] | None = (0, 9)) -> Any:
+    """Return a recording with PES packets on PID 5, and the first and last PCR of its programme."""
+    return SimpleNamespace(is_stream=is_stream, packets=SimpleNamespace(pid=5),
+                           survey=SimpleNamespace(get_pcr_range=lambda pid: pcr_range))
+
+
+class LossEvidence(Case):
+    def test_describes_what_would_not_be_noticed(self) -> None:
+        stream, file = make_recording(True), make_recording(False, pcr_range=None)
+        too_close = Pace(REGULAR, interval=1, loss_interval=3, hidden_places=5)
+        irregular = "on this PID alone, since the PES packets come at irregular intervals"
+        # The pace, the number of frames of the shortest loss that would not be noticed, and the
+        # recording
+        self.check_rows(describe_unchecked_losses, {
+            "a pause": ((Pace(PAUSED, 1701), 15, stream), "losses of 0.6 s or more on this PID "
+                        "alone, since there is no PES packet for up to 1701 frames"),
+            "a file": ((Pace(TOO_FEW), None, file), "missing PES packets, since there are too few "
+                       "PES packets to measure their interval"),
+            "too close together": ((too_close, 15, stream), "losses of up to 0.08 s on this PID "
+                                   "alone, at 5 places where PES packets are too close together"),
+            "regular": ((too_close._replace(hidden_places=0), 15, stream), ""),
+            "no PCR": ((Pace(IRREGULAR), None, make_recording(True, pcr_range=None)),
+                       "losses that the counter does not show, such as 16 TS packets, since the "
+                       "programme of PID 0x5 has no PCR"),
+            **{f"{frames} frames": ((Pace(IRREGULAR), frames, stream), f"{losses} {irregular}")
+               for frames, losses in ((None, "losses"), (0, "losses"), (2, "losses"), (
+                   3, "losses of 0.1 s or more"), (25, "losses of 1.0 s or more"))}})
+
+    def test_prints_the_pace_of_a_dense_recording(self) -> None:
+        pace = Pace(REGULAR, interval=1, loss_interval=3, is_dense=True)
+        self.check("line", describe_pace(pace, True), "pace: PES packets are at most 1 frame "
+                   "apart, with several in some frames: --pace 2")
+
+
+TELETEXT_PID, VIDEO_PID, SECOND_VIDEO_PID, PID_WITHOUT_VIDEO = 0x101, 0x200, 0x204, 300
+AUDIO, PRIVATE, H_264, HEVC = 3, 6, 27, 36  # stream_types
+PART_BEGIN, PART_END, SECOND = 1000, 4000, 25  # in frames
+SENT = [TICKS * frame for frame in range(PART_BEGIN, PART_END, SECOND)]  # PTS of the subtitles
+ONE_VIDEO = {VIDEO_PID: H_264}
+TWO_VIDEOS = {VIDEO_PID: H_264, SECOND_VIDEO_PID: HEVC}
+
+
+def make_leads(begin: int, end: int, lead: float = 6, growth: float = 0, video: int = VIDEO_PID,
+               number_shift: int = 0) -> list[str]:
+    """Return the `lead` line of `survey` for each second between two frames.
+
+    Teletext is `lead` frames ahead of the last picture before it, and `growth` more in each second.
+    The number of this picture is its frame plus `number_shift`.
+    """
+    return [f"lead {TELETEXT_PID} {TICKS * frame} {round(TICKS * (lead + growth * at))} {video} "
+            f"{frame + number_shift}" for at, frame in enumerate(range(begin, end, SECOND))]
+
+
+class Pictures(Case):
+    """A part from frame 1000 to frame 4000, which sends Teletext in each second. Frame 0 has PTS 0.
+    """
+
+    def find_unchecked(self, lines: Sequence[str], streams: Mapping[int, int] = ONE_VIDEO,
+                       sent: Sequence[int] = SENT, *, pcr_pid: int = VIDEO_PID,
+                       source: str = GIVEN) -> list[Unchecked]:
+        """Return what was not checked in a programme with these PIDs and their stream_types."""
+        survey = Survey()
+        for line in ["size 188", f"programme 1 {pcr_pid}", f"stream {TELETEXT_PID} {PRIVATE}", *(
+                f"stream {pid} {kind}" for pid, kind in streams.items()), *lines]:
+            survey.read_line(line)
+        part = TimedPart(PART_BEGIN, PART_END, Clock(0, source))
+        return [*find_desync(survey, TELETEXT_PID, part, 0, 1, sent).unchecked]
+
+    def check_kinds(self, rows: Mapping[str, Row]) -> None:
+        """Check the kinds of what was not checked, if no video PID has the PCR.
+
+        Arguments: lines of `survey`, PIDs and stream_types of the programme, PTS of Teletext.
+        """
+        for name, ((lines, *more), kinds) in rows.items():
+            unchecked = self.find_unchecked(lines, *more, pcr_pid=PID_WITHOUT_VIDEO)
+            self.check(name, [item.kind for item in unchecked], kinds)
+
+    def test_says_why_no_picture_was_compared(self) -> None:
+        has_pictures = f"pictures {VIDEO_PID} 0 0 9 0"
+        of_programme_2 = ["programme 2 9", f"stream {VIDEO_PID} {H_264}"]
+        self.check_kinds({
+            "no picture has a time stamp": (([has_pictures], ONE_VIDEO), [UNREAD]),
+            "the video is scrambled": (([], ONE_VIDEO), [UNREAD]),
+            "a PID with pictures is not in the PMT": (([has_pictures], {}), [UNREAD]),
+            "only audio": (([], {259: AUDIO}), [NO_VIDEO]),
+            "private data with pictures": (([has_pictures], {VIDEO_PID: PRIVATE}), [UNREAD]),
+            "video of another programme": (([has_pictures, *of_programme_2], {}), [NO_VIDEO]),
+            "only one of two videos": ((make_leads(500, 4500), TWO_VIDEOS), [UNREAD])})
+
+    def test_says_where_no_picture_was_compared(self) -> None:
+        self.check_kinds({
+            "all": ((make_leads(500, 4500),), []),
+            "none in the first 20 seconds": ((make_leads(1500, 4500),), [HOLE]),
+            "none in the first 3 seconds": ((make_leads(1075, 4500),), []),
+            "none in the last 40 seconds": ((make_leads(500, 3000),), [HOLE]),
+            "none for 20 seconds": ((make_leads(500, 2000) + make_leads(2500, 4500),), [HOLE]),
+            "only after the part": ((make_leads(5000, 9000),), [HOLE]),
+            "only after a part of three seconds": (
+                (make_leads(5000, 9000), ONE_VIDEO, SENT[:3]), [HOLE]),
+            "none for 40 seconds without Teletext": (
+                (make_leads(500, 2000) + make_leads(3000, 4500), ONE_VIDEO, SENT[:40] + SENT[80:]),
+                []),
+            "stills, one in 10 seconds": ((make_leads(500, 4500)[::10],), [])})
+
+    def test_says_where_the_delay_between_pictures_and_subtitles_changes(self) -> None:
+        first = make_leads(500, 2000)
+        second_video = make_leads(2000, 4500, video=SECOND_VIDEO_PID)
+        other_delay = make_leads(2000, 4500, lead=5, video=SECOND_VIDEO_PID)
+        for_20_seconds = make_leads(2000, 2500, lead=5, video=SECOND_VIDEO_PID)
+        rows: dict[str, Row] = {
+            "no change at another video": ((first + second_video, TWO_VIDEOS), []),
+            "at another video": ((first + other_delay, TWO_VIDEOS), [JUMP]),
+            "at another video, and back": (
+                (first + for_20_seconds + make_leads(2500, 4500), TWO_VIDEOS), [JUMP, JUMP]),
+            "a frame in 50 seconds": ((make_leads(500, 4500, growth=0.02),), [STEADY]),
+            "a frame in 200 seconds": ((make_leads(500, 4500, growth=0.005),), [])}
+        # PTS are 20 frames ahead of the PCR. From frame 2500 on, pictures are missing, but decoding
+        # times go on where they stopped: a larger lead shows pictures behind the PCR.
+        ahead = [f"ahead {TELETEXT_PID} {TICKS * frame} {TICKS * 20}"
+                 for frame in range(505, 4500, SECOND)]
+        for change, kinds in ((10, []), (15, []), (16, [JUMP]), (50, [JUMP]), (-50, [])):
+            rows[f"the lead grows by {change} frames without a jump"] = (
+                ([*ahead, *make_leads(500, 2500), *make_leads(2500, 4500, 6 + change)],), kinds)
+        rows["the lead grows by 16 frames for 20 seconds"] = (
+            ([*ahead, *make_leads(500, 2500), *make_leads(2500, 3000, 6 + 16),
+              *make_leads(3000, 4500)],), [JUMP])
+        rows["only one picture in 20 seconds is more than a frame behind the PCR"] = (([*ahead, *(
+            make_leads(frame, frame + SECOND, 21.1 if frame % 500 == 0 else 20.9)[0]
+            for frame in range(500, 4500, SECOND))],), [])
+        self.check_kinds(rows)
+
+    def test_a_lead_that_changes_by_more_than_a_second_prevents_a_verdict(self) -> None:
+        def may_be_wrong(change: int) -> list[bool]:
+            """Change the lead by some frames where the decoding times jump, at frame 2500."""
+            return [item.may_be_wrong for item in self.find_unchecked([
+                *make_leads(500, 2500), *make_leads(2500, 4500, 6 + change, number_shift=-60)])]
+
+        # The change of the lead in frames, and whether the only unchecked place prevents a verdict
+        self.check_rows(may_be_wrong, {
+            "no change": ((0,), [False]), "a frame": ((1,), [False]),
+            "less than a second": ((24,), [False]), "more than a second": ((26,), [True]),
+            "two seconds": ((50,), [True]), "two seconds less": ((-50,), [True])})
+
+    def test_a_jump_near_the_picture_that_gives_the_clock_prevents_a_verdict(self) -> None:
+        # The source of the clock, the frame at which decoding times jump and the lead becomes a
+        # frame shorter, and whether the clock may be wrong. Frame 1020 is in the part's first
+        # second. The first picture gives the clock if its source is START or TCP.
+        for source, frame, is_doubtful in ((START, 900, True), (START, 1020, True),
+                                           (START, 1100, False), (TCP, 900, True),
+                                           (GIVEN, 1020, False), (RECORDING, 1020, False)):
+            unchecked, = self.find_unchecked([*make_leads(500, frame), *make_leads(
+                frame, 4500, 5, number_shift=-2)], source=source)
+            warns = unchecked.text.endswith(", so the clock of --start may be wrong")
+            self.check(f"{source} {frame}", (unchecked.may_be_wrong, warns), (is_doubtful,) * 2)
+
+    def test_a_doubt_prevents_a_verdict_unless_an_error_was_found(self) -> None:
+        doubtful = Grounds([CheckSummary(0, True)], Severity(None), doubts=["a"], has_clock=True)
+        self.check("no fault", decide(doubtful).word, NOT_JUDGED)
+        wrong_text = CheckSummary(1, fault_count=1, printed_total=1, fault_numbers=[72])
+        self.check("a fault", decide(doubtful._replace(parts=[wrong_text])).word, REFUSED)

@@ -30,7 +30,7 @@ from .parts import parse_single_fault
 from .transmissions import (
     ShownSubtitle, join_pes_packets, make_delay, replace_pts, packets, schedule_pages,
     subtitle_times)
-from .test_judging_pairs import UNREAD, damage_packet
+from .test_judging_pairs import NOT_READ, damage_packet
 from .test_judging_reasons import KEEPING_HEADER, change_numbers
 
 BAD = b"\xe6: no letter"  # begins with U+0132, which no national option has
@@ -260,8 +260,8 @@ class RefusedSubtitles(Case):
         odd = bytearray(self.read("good.stl"))
         odd[11:12] = b"7"  # with an invalid DSC, all subtitles are refused
         rows: list[tuple[str, list[str], str, str | None]] = [
-            (self.write_stl(3), [empty], "not judged", UNREAD),
-            (self.path("bad.stl"), [unread], "not judged", UNREAD),
+            (self.write_stl(3), [empty], "not judged", NOT_READ),
+            (self.path("bad.stl"), [unread], "not judged", NOT_READ),
             (self.path("bad.stl"), [], "waived", None),
             (self.write("odd.stl", bytes(odd)), [self.pes], "refused", None),
             (self.path("odd.stl"), [], "refused", None)]

@@ -8,7 +8,7 @@ from .failures import Mismatch
 from .named_calls import NAMED
 from .snapshots import (
     describe_changes, format_named_snapshot, format_report_snapshot, write_stored)
-from .test_report_stories import REPORTS
+from .test_report_pages import REPORTS
 
 
 class Snapshots(Case):

@@ -1,29 +1,38 @@
-"""Test how the tools read the output of `survey`, and lines that dev/check-survey does not compare.
-
-Random recordings with all kinds of lines are in dev/check-survey.
-"""
+"""Test how the tools read `survey` and `extract`, and the comparison of `survey` with `packets`."""
 from __future__ import annotations
 
 import operator
 import os
-from typing import Callable, Iterable, Sequence
+import sys
+from typing import Any, Callable, Iterable, Sequence
+from unittest import mock
 
-from developing.pes import make_pes_packet
+from developing.multiplex import PACKET, PAYLOAD_START
+from developing.pes import decode_pts, make_pes_packet
 from subtitles.common.command_line import ProgramInterrupted
-from subtitles.common.program import TOP, read
+from subtitles.common.program import read, TOP
 from subtitles.common.times import CLOCK, TICKS
 from subtitles.formats.teletext import Page
-from subtitles.stream.packets import GapMarker, PCRStep, PacketRun, PageChange, Texts
+from subtitles.judging.pair import PairJudge
+from subtitles.recording.recording import find_unreadable_packets
+from subtitles.stream.gaps import explain_refusal
+from subtitles.stream.packets import GapMarker, PacketRun, Packets, PageChange, PCRStep, Texts
 from subtitles.stream.pictures import VideoLead
+from subtitles.stream.proved import (
+    collect_items, compare_lines, End, find_end, find_unproved_number, Item, list_items,
+    SurveyMismatch)
 from subtitles.stream.survey import (
-    Announced, ProgramMap, Survey, VERSION, Video, find_first_pages, read_stored_survey, survey,
-    survey_runs)
-from .bench import Case
-from .streams import (
-    AUDIO_PID, DISCONTINUITY, TELETEXT_PID, VIDEO_PID, StreamMaker, filler, make_components,
-    make_mpeg_2_picture, make_video_packet)
+    Announced, find_first_pages, list_language_codes, ProgramMap, read_stored_survey, Survey,
+    survey, survey_runs, VERSION, Video)
+from .bench import Case, get_example_path, read_example_file
+from .judged import judge_files, ProgrammeCase
 from .parts import read_survey
-from .transmissions import CLOSING, PAGE
+from .streams import (
+    AUDIO, AUDIO_PID, DISCONTINUITY, filler, make_components, make_mpeg_2_picture,
+    make_stream_of_pids, make_teletext_descriptor, make_video_packet, PRIVATE, PTS_AHEAD,
+    StreamMaker, TELETEXT_PID, VIDEO_PID)
+from .test_judging_pairs import damage_packet
+from .transmissions import CLOSING, join_pes_packets, packets, PAGE
 
 FIRST_PTS = 1_000_000  # PTS of the first PES packet of Teletext
 LAST_PTS = FIRST_PTS + 100_000 * TICKS  # PTS of the last PES packet, in a stream with PCRs
@@ -256,3 +265,246 @@ class SurveyAnswers(Case):
                 yielded.append((run.first, rows))
         self.check("a program that fails at the end", yielded,
                    [(0, rows_of_first), (1, None), (2, ())])
+
+
+PID, SCRAMBLED_PID = 0x101, 0x102
+# A program that changes what `survey` prints, by one of SURVEY_CHANGES.
+FAULTY_PROGRAM = """#!{python}
+import re, subprocess, sys
+run = subprocess.run([{program!r}, *sys.argv[1:]], stdout=subprocess.PIPE)
+out = run.stdout.decode()
+if sys.argv[1] == "survey":
+    out = re.sub({pattern!r}, {replacement}, out, flags=re.M)
+sys.stdout.write(out)
+sys.exit(run.returncode)
+"""
+SURVEY_CHANGES = {  # patterns, and expressions for the replacements
+    "omits PES packet 5": (r"^pes \d+ 5 1 .*\n", '""'),
+    "omits the gap marker": (r"^gap .*\n", '""'),
+    "delays PES packet 5 by 900 ticks": (r"^(pes \d+ 5 1 )(\d+)",
+                                         "lambda match: match[1] + str(int(match[2]) + 900)")}
+
+
+def remove_first_ts_packet(stream: bytes, pes: bytes) -> bytes:
+    """Return a stream without the first TS packet of a PES packet."""
+    at = stream.index(pes[:20]) // PACKET * PACKET
+    return stream[:at] + stream[at + PACKET:]
+
+
+def make_stream_with_late_tables(pes: list[bytes], count: int) -> bytes:
+    """Return a stream whose PAT and PMT follow `count` PES packets, each of which has its
+    data_identifier in its second TS packet. The PMT also announces a scrambled PID."""
+    maker = StreamMaker([(VIDEO_PID, AUDIO, b""), *(
+        (pid, PRIVATE, make_teletext_descriptor()) for pid in (PID, SCRAMBLED_PID))])
+    for number, item in enumerate(pes):
+        if number == count:
+            maker.put_tables()
+            maker.put_packet(SCRAMBLED_PID, PAYLOAD_START, item[:184])
+            packet = maker.packets.pop()  # then with transport_scrambling_control 2
+            maker.packets.append(packet[:3] + bytes([packet[3] | 0x80]) + packet[4:])
+        maker.put_pcr(decode_pts(item) - PTS_AHEAD)
+        first = 40 if number < count else 184
+        maker.put_packet(PID, PAYLOAD_START, item[:first])
+        for at in range(first, len(item), 184):
+            maker.put_packet(PID, 0, item[at:at + 184])
+    return maker.data
+
+
+class Comparison(Case):
+    """Items (PES packets and gap markers) that `survey` printed, and lines of `packets`, which ends
+    at the first PES packet that it refuses (`refused 45 Lost` for a gap marker)."""
+
+    FIRST, GAP, LAST = Item(3, pts=70), Item(4, pts=None, fault=45), Item(5, pts=90)
+    FIRST_LINE, LAST_LINE = "pes 3 pts 70", "pes 5 pts 90"
+
+    def test_returns_the_pes_packet_from_which_packets_must_be_called_again(self) -> None:
+        too_long = [Item(4, pts=None, fault=32), Item(5, pts=None, fault=32)]
+        self.check_rows(lambda items, lines, end: compare_lines(iter(items), lines, end), {
+            "all read": (([self.FIRST], [self.FIRST_LINE, "1 pes"], End(99)), None),
+            "it ended at a gap marker": (
+                ([self.FIRST, self.GAP, self.LAST], [self.FIRST_LINE, "refused 45 Lost pes 4"],
+                 End(99)), 5),
+            "the call after that": (([self.LAST], [self.LAST_LINE, "1 pes"], End(99)), None),
+            "after fault 32, `check` does not read on": (
+                ([self.FIRST, *too_long], [self.FIRST_LINE, "refused 32 Length pes 4"], End(99)),
+                None),
+            "other data after the last item, as `survey` found": (
+                ([self.LAST], [self.LAST_LINE, "refused 31 Start pes 6"], End(6, {31})), None)})
+
+    def test_raises_an_error_if_survey_and_packets_differ(self) -> None:
+        first, line, items = [self.FIRST], self.FIRST_LINE, [self.FIRST, self.GAP, self.LAST]
+        rows: dict[str, tuple[list[Item], list[str]]] = {
+            "another number": (items, ["pes 2 pts 70", "1 pes"]),
+            "another PTS": (first, ["pes 3 pts 71", "1 pes"]),
+            "a fault that packets does not find": ([Item(3, None, 33)], [line, "1 pes"]),
+            "one PES packet too few": (first, ["0 pes"]),
+            "one too many": (first, [line, "pes 4 pts 80", "2 pes"]),
+            "another count": (first, [line, "2 pes"]),
+            "survey omits a gap marker": ([self.FIRST, self.LAST], [line, "refused 45 Lost pes 4"]),
+            "another fault": (items, [line, "refused 33 Flags pes 4"]),
+            "survey read past the end": (first, [line, "refused 31 Start pes 4"]),
+            "packets ended earlier": (first, ["refused 31 Start pes 3"]),
+            "no last line": (first, [line]), "no line": ([], [])}
+        for name, (known, lines) in rows.items():
+            with self.subTest(name), self.assertRaises(SurveyMismatch):
+                compare_lines(iter(known), lines, End(5, {32}))
+
+    def test_lists_items_as_packets_counts_them(self) -> None:
+        packets = Packets(PID, [
+            PacketRun(0, length=2, pts=5, step=3, flags="h", control=""),
+            PacketRun(2, length=1, pts=None, step=0, flags="m", control=""),
+            PacketRun(3, length=1, pts=9, step=0, flags="", control="", fault=37)], refusal=32)
+        self.check("items", [*list_items(packets, (1, 9))], [
+            Item(1, pts=8), Item(2, pts=None, fault=45), Item(3, pts=None, fault=37)])
+        self.check("end", find_end(packets), End(4, {32}))
+
+    def test_recognises_items_that_were_compared(self) -> None:
+        # Number, count, PTS, ticks to the next, flags (h: a header, m: a gap marker), C bits
+        runs = [PacketRun(0, 1, 5, 0, "h", ""), PacketRun(1, 2, 8, 3, "", ""),
+                PacketRun(3, 1, None, 0, "m", ""), PacketRun(4, 1, 9, 0, "", "", fault=37)]
+        compared = collect_items(Packets(PID, runs), (1, 4))
+        # The first item of the other range, the run that differs in it, and its changed members
+        rows: dict[str, tuple[int, int, dict[str, Any], bool]] = {
+            "the same": (1, 0, {}, True), "from a later item on": (2, 0, {}, True),
+            "from an earlier item on": (0, 0, {}, False), "another PTS": (1, 1, {"pts": 9}, False),
+            "no gap marker": (1, 2, {"flags": ""}, False),
+            "another fault": (1, 3, {"fault": 38}, False), "one more": (1, 3, {"length": 2}, False)}
+        for name, (first, at, change, is_included) in rows.items():
+            other = Packets(PID, [*runs[:at], runs[at]._replace(**change), *runs[at + 1:]])
+            self.check(name, compared.includes(collect_items(other, (first, 5))), is_included)
+        other = Packets(PID, runs, refusal=32)
+        self.check("another end", compared.includes(collect_items(other, (1, 4))), False)
+
+    def test_calls_packets_for_at_most_twenty_gap_markers(self) -> None:
+        packets = Packets(PID, [PacketRun(at, 1, None, 0, "m", "") for at in range(30)])
+        for last, first_not_compared, calls in ((18, None, 19), (19, None, 20), (20, 20, 20),
+                                                (29, 20, 20)):
+            command = mock.Mock()
+            command.list_packets.side_effect = lambda first, _: [f"refused 45 Lost pes {first}"]
+            number = find_unproved_number(command, packets, (0, last))
+            self.check(f"0 to {last}", (number, command.list_packets.call_count),
+                       (first_not_compared, calls))
+
+
+class JudgedRecordings(ProgrammeCase):
+    """A correct transmission of ten subtitles on one PID, with a loss or a damaged PES packet."""
+
+    def test_judges_nothing_if_survey_and_packets_differ(self) -> None:
+        path = self.write("one.ts", remove_first_ts_packet(
+            make_stream_of_pids((PID, join_pes_packets(self.sent))), self.pes[7]))
+        verdict = judge_files(self, self.stl, path, *self.qc_args, "--allow-lost").verdict
+        self.check("the correct program", (verdict.word, verdict.status), ("waived", 0))
+        for name, (pattern, replacement) in SURVEY_CHANGES.items():
+            program = self.write_program("program", FAULTY_PROGRAM.format(
+                python=sys.executable, program=self.bench.program, pattern=pattern,
+                replacement=replacement))
+            verdict = judge_files(self, self.stl, path, *self.qc_args, "--allow-lost",
+                                  program=program).verdict
+            self.check(name, (verdict.word, verdict.status, verdict.not_judged_kind,
+                              "SurveyMismatch" in (verdict.unjudged_reason or "")),
+                       ("not judged", 70, "bug", True))
+
+    def test_the_comparison_does_not_change_verdicts_on_losses_and_damage(self) -> None:
+        whole = make_stream_of_pids((PID, join_pes_packets(self.sent)))
+        damaged = make_stream_of_pids((PID, b"".join(
+            damage_packet(item, 37) if at == 5 else item for at, item in enumerate(self.pes))))
+        first, repeated = (remove_first_ts_packet(whole, self.pes[at]) for at in (5, 7))
+        rows: dict[str, tuple[bytes, tuple[str, ...]]] = {
+            "damaged": (damaged, ()), "lost": (first, ()), "a repeated page lost": (repeated, ()),
+            "lost, --allow-lost": (first, ("--allow-lost",)),
+            "a repeated page lost, --allow-lost": (repeated, ("--allow-lost",))}
+        for name, (data, words) in rows.items():
+            judged = self.judge_stream(data, *words)
+            with mock.patch.object(PairJudge, "compare_packets"):
+                without = self.judge_stream(data, *words)
+            self.check(name, (judged.verdict.word, judged.verdict.line),
+                       (without.verdict.word, without.verdict.line))
+            self.check(f"{name}: judged", judged.verdict.word != "not judged", True)
+
+    def test_judges_the_range_of_a_pid_that_survey_recognises_late(self) -> None:
+        for count in (0, 1, 4):  # PES packets before the tables, by which `survey` knows the PID
+            verdict = self.judge_stream(make_stream_with_late_tables(self.pes, count)).verdict
+            self.check(f"{count}", (verdict.word, [part.pes for part in verdict.parts]),
+                       ("accepted", [(0, len(self.pes) - 1)]))
+
+
+# PIDs with the number of their TS packets, the number of these that are scrambled, the number of
+# the fault that ended reading (0: none), the number of PES packets before it, and the expected
+# reason (`None`: all PES packets were read).
+UNREADABLE_PIDS = (
+    (6, 3, 2, 0, 0, "PID 0x6 has no complete PES packet in 3 TS packets"),
+    (5, 3, 3, 0, 0, "PID 0x5 is scrambled, in all its 3 TS packets"),
+    (9, 1, 1, 0, 0, "PID 0x9 is scrambled, in all its 1 TS packet"),
+    (2, 7, 0, 31, 0, "PID 0x2 has no PES packets of private_stream_1, which carry Teletext"),
+    (1, 1, 0, 0, 0, "PID 0x1 has no complete PES packet in 1 TS packet"))
+OTHER_PIDS = (
+    (10, 9, 9, 0, 1, None), (8, 9, 0, 0, 1, None), (3, 0, 0, 0, 0, "PID 0x3 has no packets"),
+    (4, 9, 0, 31, 1, "PID 0x4 has data other than PES packets of private_stream_1 from PES packet "
+     "1 on: refused 31 Start pes 1"),
+    (7, 9, 1, 32, 2, "PID 0x7 has data other than PES packets of 184 to 1656 bytes from PES packet "
+     "2 on: refused 32 Length pes 2"))
+
+
+class ExtractMessages(Case):
+    def test_explains_why_no_more_pes_packets_of_a_pid_are_read(self) -> None:
+        known = Survey()
+        for pid, count, scrambled, fault, pes_count, reason in UNREADABLE_PIDS + OTHER_PIDS:
+            known.by_pid[pid] = Packets(
+                pid, [PacketRun(0, pes_count, 0, 0, "", "")] * bool(pes_count),
+                packets=count, scrambled=scrambled, refusal=fault)
+            self.check(f"{pid:#x}", explain_refusal(known.by_pid[pid]), reason)
+        self.check("PIDs with TS packets but no PES packet",
+                   [item.pid for item in find_unreadable_packets(known)],
+                   sorted(row[0] for row in UNREADABLE_PIDS))
+
+    def test_names_the_languages_of_ebu_tech_3264(self) -> None:
+        # The language code LC of a subtitle file, and the codes of ISO 639-2 that a PMT may have
+        for code, expected in (
+                ("09", "eng"), ("08", "deu ger"), ("0A", "spa"), ("0a", "spa"), ("28", "swe"),
+                ("27", "fin"), ("15", "ita"), ("0F", "fra fre"), ("06", "ces cze"), ("1B", "hun"),
+                ("21", "por"), ("25", "slk slo"), ("07", "dan"), ("1D", "nld dut"), ("20", "pol"),
+                ("1E", "nor nob nno"), ("22", "ron rum"), ("26", "slv"), ("29", "tur"),
+                ("7f", ""), ("00", ""), ("x", ""), ("", "")):
+            self.check(code, list_language_codes(code), expected.split())
+
+
+class ConvertedStreams(Case):
+    """The five PES packets of examples/story.pes, multiplexed by dev/pes2ts as PID 0x101."""
+
+    def test_extracts_the_multiplexed_pes_packets(self) -> None:
+        process = self.tool("pes2ts", get_example_path("story.pes"), "0x101")
+        self.check("made", (process.status, process.told),
+                   (0, ["pes2ts: 5 PES packets as PID 0x101"]))
+        result = [process.out[at:at + PACKET] for at in range(0, len(process.out), PACKET)]
+        for name, data, packet_size in (
+                ("188 bytes", b"".join(result), "188"),
+                ("192 bytes", b"".join(b"TIME" + item for item in result), "192"),
+                ("204 bytes", b"".join(item + b"\x47" * 16 for item in result), "204"),
+                ("from the midst of a packet", result[0][77:] + b"".join(result), "188")):
+            process = self.call([
+                self.bench.program, "extract", self.write("one.ts", data), self.path("back.pes"),
+                "--pid", "0x101", "--packet-size", packet_size])
+            self.check(name, (process.status, process.out), (0, b"written 5 pes 0 gaps\n"))
+            self.check(f"{name}: bytes",
+                       self.read("back.pes") == read_example_file("story.pes"), True)
+
+    def test_converts_the_pes_packets_before_the_first_that_is_no_teletext(self) -> None:
+        data = read_example_file("story.pes")
+        first = packets(data)[0]
+        # What is wrong, the file, the number of PES packets before that, and the message
+        for name, pes, count, line in (
+                ("the last byte is missing", data[:-1], 4, "PES packet 4 is incomplete"),
+                ("another start code", first + b"\1" + data, 1,
+                 "PES packet 1 does not begin with 00 00 01 BD"),
+                ("no PTS", first + data[:7] + b"\0" + data[8:], 1,
+                 "PES packet 1 is not a Teletext packet"),
+                ("185 bytes long", data[:4] + b"\0\xb3" + data[6:184] + b"x", 0,
+                 "PES packet 0 is not a Teletext packet")):
+            path = self.write("wrong.pes", pes)
+            process = self.tool("pes2ts", path, "0x101")
+            self.check(name, (process.status, process.told), (1, [
+                f"pes2ts: {path}: {line}",
+                f"pes2ts: {count} PES packet{'s' * (count != 1)} as PID 0x101"]))
+            payloads = [item[4:] for at in range(0, len(process.out), PACKET)
+                        if (item := process.out[at:at + PACKET])[1:3] in (b"\x41\x01", b"\1\1")]
+            self.check(f"{name}: before it", b"".join(payloads), b"".join(packets(data)[:count]))
