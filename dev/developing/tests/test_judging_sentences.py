@@ -3,12 +3,12 @@ from __future__ import annotations
 
 import ctypes
 import itertools
+import json
 import re
 from types import SimpleNamespace
 from typing import Any, Iterator
 
 from developing.pes import make_packet
-from subtitles.clock.start import advise_on_clock
 from subtitles.common.times import CLOCK, TICKS
 from subtitles.formats.layout import make_cell_lines, PLAIN, prepare_line, TextFault
 from subtitles.formats.listing import NamedFault, NOT_SHOWN, parse_fault_line, read_meanings, SILENT
@@ -20,8 +20,7 @@ from subtitles.judging.pages import (
     HIDDEN as HIDDEN_KIND, may_hide_rows, Visibility)
 from subtitles.judging.sentence import (
     CAUSE_PREDICATES, describe_causes, Facts, FAULT_CLAUSES, FaultCount, write_sentence)
-from subtitles.judging.status import (
-    ACCEPTED, FAULT_NUMBERS, LOST, NOT_JUDGED, REFUSED, RELATIVE, WARNED)
+from subtitles.judging.status import FAULT_NUMBERS, REFUSED
 from subtitles.judging.transmissions import describe_control_bits
 from subtitles.recording.notices import Notice
 from subtitles.stream.receiver import BLANK_PAGE
@@ -36,7 +35,7 @@ from .transmissions import (
     CLOSING, delay_subtitle, HEADER, join_pes_packets, schedule_pages, SentPes, subtitle_times,
     write_programme, write_subtitle_file)
 
-NOT_CHECKED = f"was not checked: {advise_on_clock(False)}"
+ADVICE_OPTIONS = ("--within", "--keeping", "--no-complete", "--allow-lost", "--severity", "--pace")
 PACKET_FAULTS_ONLY = {3, 4}  # fault numbers that `check` does not report
 VERB = re.compile(r"\b(is|are|has|have|was|were|does|ends|comes|begins?|differs|fall|appeared|"
                   r"lacks|had|do)\b")
@@ -62,78 +61,14 @@ class HeaderOptions(Case):
             self.assertEqual(option and option.word, expected, (bits, requested))
 
 
-GAP = parse_fault_line("refused 73 Gap frame 10:00:00:00")
-NO_CLOCK = f"No clock was given, so a delay that they all share {NOT_CHECKED}."
-# The verdict, the number of subtitles and other facts; and the sentence that is made from them.
-SENTENCES: dict[str, tuple[Facts, str]] = {
-    "not judged: the first line of the reason": (
-        Facts(NOT_JUDGED, 0, reason="no\nmore"), "Not judged: no."),
-    "not judged, and the reason names another programme": (
-        Facts(NOT_JUDGED, 0, reason="another programme: no text", mismatch="another programme"),
-        "Not judged: another programme: no text."),
-    "not judged, no reason": (Facts(NOT_JUDGED, 0), "Not judged: check gave no verdict."),
-    "accepted": (Facts(ACCEPTED, 1), "Accepted: 1 subtitle has the right text from the first frame "
-                 "to the last."),
-    "accepted with a tolerance": (Facts(ACCEPTED, 1, within=1), "Accepted: 1 subtitle has the "
-                                  "right text within 1 frame."),
-    "losses": (Facts(LOST, 2, lost=["a", "b", "c"]), "Not accepted: a, and in 2 more places; "
-               "everything that was received is right."),
-    "a loss and a fault that is a warning": (
-        Facts(LOST, 2, first=GAP, faults=1, lost=["a"]),
-        "Not accepted: a; all faults that were found are declared as warnings."),
-    "a loss and a named fault that is a warning": (
-        Facts(LOST, 2, faults=1, named="pictures", lost=["a"]),
-        "Not accepted: a; all faults that were found are declared as warnings."),
-    "--strict, and a subtitle with a waived fault": (
-        Facts(WARNED, 1, refused="one", warnings=["page"]),
-        "Not accepted: --strict treats warnings as faults (page); all faults that were found are "
-        "declared as warnings."),
-    "--strict names each kind of warning once": (
-        Facts(WARNED, 2, warnings=["page", "page", "pause"]), "Not accepted: --strict treats "
-        "warnings as faults (page, pause); everything that was received is right."),
-    "all are late, and another fault": (
-        Facts(REFUSED, 1234, first=parse_fault_line("refused 72 Content frame 10:00:00:00"),
-              faults=2, delay=50, counts=[FaultCount(72, "Content", 1), FaultCount(73, "Gap", 1)]),
-        "Refused: all 1,234 subtitles appeared 50 frames late; also 73 Gap."),
-    "the only one is early": (
-        Facts(REFUSED, 1, first=parse_fault_line("refused 63 Early frame 10:00:00:00"), faults=1,
-              delay=-1), "Refused: the subtitle appeared 1 frame early."),
-    "a delay does not explain a gap": (
-        Facts(REFUSED, 2, first=GAP, faults=1, hint="no header", delay=50),
-        "Refused: from 10:00:00:00 on, no header."),
-    "relative": (Facts(RELATIVE, 40), f"All 40 subtitles match relative to each other. {NO_CLOCK}"),
-    "relative, with pictures": (
-        Facts(RELATIVE, 40, has_picture=True), "All 40 subtitles match relative to each other. No "
-        "clock was given, so a delay that they all share was not checked: add --origin PTS, "
-        "--start tcp, or --start TIME (the time code of the recording's first picture on the "
-        "subtitle file's clock)."),
-    "relative with a tolerance": (
-        Facts(RELATIVE, 2, within=1),
-        f"All 2 subtitles match relative to each other within 1 frame. {NO_CLOCK}"),
-    "relative parts": (
-        Facts(RELATIVE, 6, parts=2), "All 6 subtitles match relative to the others in their part. "
-        f"No clock was given, so a delay that all subtitles in a part share {NOT_CHECKED}."),
-    "one relative subtitle": (Facts(RELATIVE, 1), "The subtitle has the right text and duration. "
-                              f"No clock was given, so its delay {NOT_CHECKED}."),
-    "relative and waived": (
-        Facts(RELATIVE, 2, first=GAP, faults=1, hint="no header"), "Waived, since these faults are "
-        "declared as warnings: from 10:00:00:00 on, no header. No clock was given, so a delay that "
-        f"all subtitles share {NOT_CHECKED}."),
-    "PTS that go back are named once": (
-        Facts(REFUSED, 2, first=parse_fault_line("refused 62 Order pes 7"), faults=1,
-              step_back="the PTS go back"), "Refused: the PTS go back."),
-    "two losses and a gap": (
-        Facts(REFUSED, 2, first=parse_fault_line("refused 45 Lost pes 7"), faults=3, lost=[
-            "a", "b"], counts=[FaultCount(45, "Lost", 2), FaultCount(73, "Gap", 1)]),
-        "Refused: a, and in 1 more place; also 73 Gap; record that part again.")}
-
-
 class Sentences(Case):
     def test_describes_each_verdict(self) -> None:
-        self.assertTrue(NOT_CHECKED.endswith("add --origin PTS (the PTS of the subtitle file's "
-                                             "00:00:00:00)"), NOT_CHECKED)
-        for name, (seen, expected) in SENTENCES.items():
-            self.check(name, write_sentence(seen), expected)
+        for row in read_vectors("sentences.tsv"):
+            more: dict[str, Any] = json.loads(row["other facts"])
+            more["first"] = parse_fault_line(more.get("first", ""))
+            more["counts"] = [FaultCount(*count) for count in more.get("counts", ())]
+            facts = Facts(row["verdict"], int(row["subtitles"]), **more)
+            self.check(row["name"], write_sentence(facts), row["sentence"])
 
     def test_has_a_sentence_for_each_fault_number_in_the_manual(self) -> None:
         self.assertEqual(set(FAULT_CLAUSES), FAULT_NUMBERS - PACKET_FAULTS_ONLY)
@@ -159,6 +94,24 @@ class Sentences(Case):
                     self.assertIn(f" {predicates[len(several) - 1]}", words)
                     self.assertRegex(words, VERB)
                     self.assertRegex(words, r"^(subtitle 3 at \d\d:\d\d:\d\d:\d\d,? |2 of )")
+
+    def test_no_clause_advises_an_option_that_accepts_its_fault(self) -> None:
+        for number, clause in FAULT_CLAUSES.items():
+            if number != SILENT:
+                self.check(f"{number}", [item for item in ADVICE_OPTIONS if item in clause], [])
+
+    def test_names_the_subtitle_of_a_refused_character_or_line(self) -> None:
+        long_line = b"A line of thirty-eight letters and a b"
+        # The second of three subtitles, whose SN is 8, the fault, and the text in the sentence
+        for name, (text, fault, shown) in {
+                "a letter": (b"To \xe6 morrow\x8a\x8anow", "the national option lacks",
+                             "To \u0132 morrow / now"),
+                "a long line": (long_line, "a line has more than 40 cells", long_line.decode()),
+                "an accent": (b"\xc2e\xe6", "the national option lacks", "\u00e9\u0132")}.items():
+            stl = write_subtitle_file(
+                self, [(100, 150, b"One"), (200, 250, text), (300, 350, b"Three")], first=7)
+            sentence = f'Refused: in subtitle 2 (SN 8) at 00:00:08:00, "{shown}" (block 2), {fault}'
+            self.check(name, judge_files(self, stl).verdict.sentence[:len(sentence)], sentence)
 
 
 BEGIN = 900_000
@@ -241,22 +194,18 @@ class NamedPlaces(ProgrammeCase):
 
     cues, qc_args = TIMES, ("--origin", "0", "--option", "german")
 
-    def judge_with_header(self, frame: int, header: bytes) -> JudgedPair:
-        self.stl = write_programme(self, TIMES, text=b"Number %d, \xc8Osl")
-        sent = schedule_pages(self, self.stl, *self.qc_args[2:])
-        changed = [(pts, [header, *some[1:]] if pts == frame * TICKS % CLOCK else some)
-                   for pts, some in sent]
-        self.must(f"{frame}: changed", changed != sent)
-        return self.judge(changed)
-
     def test_names_the_subtitle_of_a_wrong_header(self) -> None:
+        self.stl = write_programme(self, TIMES, text=b"Number %d, \xc8Osl")
+        sent = schedule_pages(self, self.stl, "--option", "german")
         begin, end = TIMES[2]
         pages = {begin: '10:00:04:00, subtitle 3, "Number 3, Ösl",',
                  end: "10:00:05:15, the page after subtitle 3"}
         for (values, effect), (frame, page) in itertools.product(HEADERS.items(), pages.items()):
             header = make_header(**{name: int(value) for name, _, value in (
                 word.partition("=") for word in values.split())})
-            sentence = self.judge_with_header(frame, header).sentence
+            sentence = self.judge([
+                (pts, [header, *some[1:]] if pts == frame * TICKS % CLOCK else some)
+                for pts, some in sent]).sentence
             expected = f"Refused: at {page} {effect}"
             self.check(f"{values} at {frame}", sentence[:len(expected)], expected)
 
@@ -412,7 +361,6 @@ class InvisibleRows(Case):
 
 
 JPEG_2000 = 0x21  # stream_type of a video format that is not supported
-ADVICE_OPTIONS = ("--within", "--keeping", "--no-complete", "--allow-lost", "--severity", "--pace")
 
 
 class OffFramePts(ProgrammeCase):
@@ -496,25 +444,3 @@ class NoClock(ProgrammeCase):
             self.check(f"{name}: verdict", judged.verdict.word, "relative")
             self.check(f"{name}: --start, --origin", ("--start" in advice, "--origin" in advice),
                        (is_start, True))
-
-
-class Blocks(Case):
-    def test_names_the_subtitle_of_a_refused_character_or_line(self) -> None:
-        long_line = b"A line of thirty-eight letters and a b"
-        # The second of three subtitles, whose SN is 8, the fault, and the text in the sentence
-        for name, (text, fault, shown) in {
-                "a letter": (b"To \xe6 morrow\x8a\x8anow", "the national option lacks",
-                             "To \u0132 morrow / now"),
-                "a long line": (long_line, "a line has more than 40 cells", long_line.decode()),
-                "an accent": (b"\xc2e\xe6", "the national option lacks", "\u00e9\u0132")}.items():
-            stl = write_subtitle_file(
-                self, [(100, 150, b"One"), (200, 250, text), (300, 350, b"Three")], first=7)
-            sentence = f'Refused: in subtitle 2 (SN 8) at 00:00:08:00, "{shown}" (block 2), {fault}'
-            self.check(name, judge_files(self, stl).verdict.sentence[:len(sentence)], sentence)
-
-
-class Advice(Case):
-    def test_no_clause_advises_an_option_that_accepts_its_fault(self) -> None:
-        for number, clause in FAULT_CLAUSES.items():
-            if number != SILENT:
-                self.check(f"{number}", [item for item in ADVICE_OPTIONS if item in clause], [])
