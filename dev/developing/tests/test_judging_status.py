@@ -25,35 +25,7 @@ from .bench import Case
 from .parts import make_answer, make_part
 from .stories import read_vectors
 
-ERROR, WARNING = 72, 67  # fault numbers; `ONE_WARNING` makes 67 a warning
 ENDS_READING = (*range(10, 16), 17, *range(22, 26), 30, 31, 32, 44)
-# What a finished `check` may print about a part, by the verdict on it.
-ONE_ERROR = CheckSummary(1, fault_count=1, printed_total=1, fault_numbers={ERROR})
-RIGHT = {
-    "accepted": CheckSummary(0, is_accepted=True),
-    "refused": CheckSummary(1, fault_count=3, printed_total=3,
-                            fault_numbers=(WARNING, ERROR, WARNING)),
-    "waived": CheckSummary(1, fault_count=2, printed_total=2, fault_numbers={WARNING}),
-    "accepted, not read": CheckSummary(0, is_accepted=True, is_read=False),
-    "waived, not read": ONE_ERROR._replace(fault_numbers={WARNING}, is_read=False),
-    "refused, not read": ONE_ERROR._replace(is_read=False)}
-# What no finished `check` prints: its output is incomplete, or does not match its exit status.
-WRONG = {
-    "silent": CheckSummary(0),
-    "not ended": CheckSummary(None, is_accepted=True),
-    "not ended, refused": ONE_ERROR._replace(exit_status=None),
-    "killed": CheckSummary(-9, is_accepted=True),
-    "killed in its list": CheckSummary(-15, fault_count=2, printed_total=2,
-                                       fault_numbers={WARNING}),
-    "accepted, status 1": CheckSummary(1, is_accepted=True),
-    "accepted, status 2": CheckSummary(2, is_accepted=True),
-    "accepted with a number alone": CheckSummary(0, is_accepted=True, fault_numbers={WARNING}),
-    "accepted with a count alone": CheckSummary(0, is_accepted=True, fault_count=1),
-    "refused, status 0": ONE_ERROR._replace(exit_status=0),
-    "refused, status 2": ONE_ERROR._replace(exit_status=2),
-    "a list without an end": ONE_ERROR._replace(fault_count=2, printed_total=None),
-    "a list that lacks a line": ONE_ERROR._replace(printed_total=2, fault_numbers={WARNING}),
-    "no fault, counted": CheckSummary(1, fault_count=0, printed_total=0)}
 # Whether judged frames have lost packets, for each loss.
 LOSSES: Sequence[Sequence[bool]] = (
     (), (False,), (True,), (True, False, False), (False, True), (False, False, True), (True, True))
@@ -77,6 +49,18 @@ def make_severity(*lines: str, is_loss_allowed: bool = False) -> Severity:
         return Severity(file.name, is_loss_allowed)
 
 
+def read_summaries(is_complete: str) -> dict[str, CheckSummary]:
+    """Return the outputs of `check` that are complete (`yes`), or those that are not (`no`)."""
+    return {row["name"]: CheckSummary(
+        int(row["exit status"]) if row["exit status"] else None, row["accepted"] == "yes",
+        int(row["faults"]), int(row["printed total"]) if row["printed total"] else None,
+        [*map(int, row["fault numbers"].split())], row["read"] == "yes")
+        for row in read_vectors("check-summaries.tsv") if row["complete"] == is_complete}
+
+
+RIGHT, WRONG = read_summaries("yes"), read_summaries("no")
+
+
 def decide_by_clock(word: str, clock: dict[str, Any]) -> tuple[str, int]:
     """Return the expected verdict and exit status. `word` is the verdict if a clock is known."""
     if clock["has_clock"] or word not in (ACCEPTED, WAIVED):
@@ -90,12 +74,11 @@ def get_outcome(decision: Decision) -> tuple[str, int]:
     return decision.word, 2 if decision.word == NOT_JUDGED else decision.status
 
 
-ONE_WARNING = make_severity(f"{WARNING} warning")
-NAMES_ARE_WARNINGS = make_severity(f"{WARNING} warning",
-                                   *(f"{name} warning" for name in FAULT_NAMES))
+ONE_WARNING = make_severity("67 warning")
+NAMES_ARE_WARNINGS = make_severity("67 warning", *(f"{name} warning" for name in FAULT_NAMES))
 # Lost packets (45) are also a warning.
-ALLOWING_SEVERITIES = [make_severity(f"{WARNING} warning", is_loss_allowed=True),
-                       make_severity(f"{WARNING} warning", "45 warning")]
+ALLOWING_SEVERITIES = [make_severity("67 warning", is_loss_allowed=True),
+                       make_severity("67 warning", "45 warning")]
 
 
 class Decisions(Case):
@@ -252,6 +235,7 @@ class Severities(Case):
             for item, word in {**expected, **ends}.items():
                 self.check(f"{lines} {is_allowed} {item}", (
                     severity.classify(item), severity.is_error(item)), (word, word == "error"))
+
     def test_with_a_given_pace_missing_pes_packets_are_errors(self) -> None:
         self.assertEqual([Severity(None, is_loss_allowed, is_pace_given=True).classify(number)
                           for is_loss_allowed in (False, True) for number in (45, 79)],
