@@ -8,7 +8,7 @@ from typing import Any, Sequence
 from unittest import mock
 
 from developing.pes import make_pes_packet
-from subtitles.clock.start import Clock, GIVEN, RECORDING, TimedPart
+from subtitles.clock.start import GIVEN, RECORDING
 from subtitles.common.checks import JUMP
 from subtitles.common.files import SummedFile
 from subtitles.common.program import ProgramInfo
@@ -24,8 +24,6 @@ from subtitles.judging.verdict import (
     DELAYING_FAULTS, DelaySpread, FailedOutput, Gap, Unjudged, Verdict, count_fault_numbers,
     find_gaps, make_gaps, summarize_delays)
 from subtitles.recording.notices import Notice
-from subtitles.request.commands import OutputNames
-from subtitles.request.request import Request
 from subtitles.results.schema import ResultSource, list_trusted_frames
 from subtitles.stream.gaps import LossPlace
 from subtitles.stream.packets import PacketRun, Packets
@@ -41,12 +39,8 @@ OTHER_LINES = ("refused 38 UnitLength pes 7", "refused 70 Repeat frame 00:00:09:
 def make_part_verdict(parts: Sequence[Part], severity: Severity | None = None) -> Verdict:
     """Return the verdict on a pair with a given clock and these parts; all faults are errors."""
     severity = severity or Severity(None)
-    return Verdict(make_pair_request(), severity, "now", [
+    return Verdict(make_example_request("one.stl", "one.pes", "--origin", "0"), severity, "now", [
         dataclasses.replace(part, severity=severity) for part in parts])
-
-
-def make_pair_request(*args: str) -> Request:
-    return make_example_request("one.stl", "one.pes", "--origin", "0", *args)
 
 
 def read_lines(case: Case, lines: Sequence[str]) -> CheckOutput:
@@ -59,9 +53,9 @@ def read_lines(case: Case, lines: Sequence[str]) -> CheckOutput:
 
 
 class Verdicts(Case):
-    def make_three_parts(self, *refused: int) -> list[Part]:
+    def make_three_parts(self, *refused: int, origin: int = 5) -> list[Part]:
         """Return three parts of 100 frames each. Those with the indexes `refused` are refused."""
-        return [make_part(100 * at, 100 * at + 99, 5, make_answer(REFUSED if at in refused else
+        return [make_part(100 * at, 100 * at + 99, origin, make_answer(REFUSED if at in refused else
                           ("accepted 10 frames 2 transmissions",)), at + 1) for at in range(3)]
 
     def test_chooses_the_last_line_and_the_leading_fault(self) -> None:
@@ -150,8 +144,7 @@ class Verdicts(Case):
         """Three parts have the frames 0 to 99, 100 to 199 and 200 to 299. Each loss is between two
         consecutive frames. With the second origin the PTS wrap at frame 150."""
         for origin in (0, CLOCK - 150 * TICKS):
-            verdict = make_part_verdict([make_part(100 * at, 100 * at + 99, origin, number=at + 1)
-                                         for at in range(3)])
+            verdict = make_part_verdict(self.make_three_parts(origin=origin))
             # The frames before the losses, and which losses are judged.
             for frames, judged in (([10, 110, 210], [True, True, True]),
                                    ([99, 299, -5], [False, False, False]),
@@ -199,9 +192,8 @@ class Verdicts(Case):
             for origin in (0, CLOCK - 40 * TICKS):  # with the second, the PTS wrap
                 first, second = (None if pts is None else (origin + pts) % CLOCK
                                  for pts in (before, after))
-                place, part = LossPlace(first, second, 3, gap_marker=0), make_part(0, 1, origin)
-                part = dataclasses.replace(part, pes=(0, 0))
-                gap, = make_gaps([place], [part])
+                place = LossPlace(first, second, 3, gap_marker=0)
+                gap, = make_gaps([place], [make_part(0, 1, origin, pes=(0, 0))])
                 self.check(f"{words} {origin}", (gap.format_line(), gap.is_judged, gap.place),
                            (f"{words}: 3 TS packets were lost", True, place))
 
@@ -291,11 +283,8 @@ class PartDecisions(Case):
     def test_decodes_the_pages_of_a_part_once(self) -> None:
         packets = survey_packets(self, b"".join(make_pes_packet(TICKS * at - 5, [
             HEADER, make_numbered_row(20, b"%d" % at), CLOSING]) for at in range(10, 60, 10)))
-        recording: Any = SimpleNamespace(packets=packets)
-        request = make_example_request("a.stl", "a.pes", "--within", "1")
-        part = Part(3, request, OutputNames("a", "", None), make_answer(),
-                    TimedPart(10, 50, Clock(0, GIVEN)),
-                    recording, {4})
+        part = make_part(10, 50, 0, packets=packets,
+                         request=make_example_request("a.stl", "a.pes", "--within", "1"))
         summed = SummedFile("a", 9, "")
         for pes, frames in (((1, 2), [20, 30]), ((0, 3), [10, 20, 30, 40])):
             result = part.add_packets(pes, summed)
@@ -307,10 +296,10 @@ class PartDecisions(Case):
 
     def test_opens_the_subtitle_file_with_the_range_and_the_skipped_subtitles(self) -> None:
         request = make_example_request("a.stl", "a.pes", "--from", "00:00:01:00")
-        part = Part(3, request, OutputNames("a", "", None), make_answer(), None, None, {4})
+        part = make_part(None, None, None, request=request, skipped_positions={4})
         with mock.patch("subtitles.judging.part.SubtitleFile") as file:
             part.open_subtitle_file()
-        file.assert_called_once_with("", request.between, {4})
+        file.assert_called_once_with("a.stl", request.between, {4})
 
     def test_passes_losses_and_range_to_the_causes(self) -> None:
         """The recorded frames are 0 to 250, the judged frames 100 to 199. Packets are lost between
