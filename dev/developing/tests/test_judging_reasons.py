@@ -1,7 +1,7 @@
 """Test the reported reasons for a verdict, and headers that do not erase the page."""
 from __future__ import annotations
 
-from developing.pes import decode_address, decode_header, make_packet, make_pes_packet
+from developing.pes import make_packet, make_pes_packet
 from subtitles.clock.origin import explain_mismatch
 from subtitles.common.times import Span, TICKS, format_frame
 from subtitles.formats.listing import CONTENT
@@ -32,23 +32,10 @@ WORDS = "--every", "100"
 OTHER_PAGE = make_packet(0, 0, [0, 0, 0, 8, 0, 0, 0, 0], b" " * 32)  # header of page 800
 
 
-def set_last_subcode_digit(data: bytes, digit: int) -> bytes:
-    """Return a packet with this digit in its sub-code if it is a header of page 888."""
-    address = decode_address(data)
-    numbers = decode_header(data) if address and address[1] == 0 else None
-    if numbers is None or numbers[:2] != b"\x08\x08":
-        return data
-    return data[:4] + bytes([CODE_WORDS[digit]]) + data[5:]
-
-
-def set_last_subcode_digits(sent: SentPes, digit: int) -> SentPes:
-    return [(pts, [set_last_subcode_digit(item, digit) for item in packets])
-            for pts, packets in sent]
-
-
-# PES_header_data_length and the verdict. A header that is longer than a TS packet is read.
-PES_HEADERS = {0: "not judged", 5: "not judged", 14: "not judged", 0x23: "not judged",
-               0x25: "not judged", 36 + 184: "refused"}
+def set_last_subcode_digit(sent: SentPes, digit: int) -> SentPes:
+    """Return the transmission with this digit in the sub-code of each page's header."""
+    return [(pts, [header[:4] + bytes([CODE_WORDS[digit]]) + header[5:], *rows])
+            for pts, (header, *rows) in sent]
 
 
 class Reasons(ProgrammeCase):
@@ -89,17 +76,18 @@ class Reasons(ProgrammeCase):
                 for item in self.pes]
 
     def test_reports_the_length_of_pes_headers_in_a_stream(self) -> None:
-        for length, word in PES_HEADERS.items():
+        # PES_header_data_length and the verdict. A header that is longer than a TS packet is read.
+        for length, word in {0: "not judged", 5: "not judged", 14: "not judged",
+                             0x23: "not judged", 0x25: "not judged", 36 + 184: "refused"}.items():
             changed = self.set_header_length(length)
             data = make_planned_stream(self.pes, [(0, OLD)], lambda at: [(OLD, changed[at])])
             words = f"has {9 + length} bytes (PES_header_data_length {length:02X}), but " \
                 "EN 300 472 requires 45 (24)"
-            judged = self.judge_stream(data)
-            self.check(f"{length}: verdict", judged.timed_verdict, word)
-            for name, sentence in ((f"{length}: sentence", judged.verdict.sentence), (
-                    f"{length}: a given PID", self.judge_stream(data, "--pid", "0x101")
-                    .verdict.sentence)):
-                self.must(name, f"the PES header of PID 0x101 {words}" in sentence, sentence)
+            for options in ((), ("--pid", "0x101")):
+                judged = self.judge_stream(data, *options)
+                self.check(f"{length} {options}: verdict", judged.timed_verdict, word)
+                self.must(f"{length} {options}: sentence", f"the PES header of PID 0x101 {words}"
+                          in judged.verdict.sentence, judged.verdict.sentence)
             for item in (changed[0], b"\0\0\1\xbe" + changed[0][4:]):
                 self.check(f"{length}: a header", check_pes_header(item, 0),
                            f"the PES header {words}")
@@ -139,11 +127,10 @@ class Reasons(ProgrammeCase):
                 self.must(f"{name} {words}: reason", reason in sentence, sentence)
 
     def test_reports_alternating_sub_pages(self) -> None:
-        other_page = [set_last_subcode_digit(HEADER, 2), make_numbered_row(20, b"Other"), CLOSING]
-        alternate = [item for pts, packets in set_last_subcode_digits(self.sent, 1)
-                     for item in ((pts, packets), (pts + 4 * TICKS, other_page))]
-        once = [*set_last_subcode_digits(self.sent[:20], 1),
-                *set_last_subcode_digits(self.sent[20:], 2)]
+        others = [(pts + 4 * TICKS, [HEADER, make_numbered_row(20, b"Other"), CLOSING])
+                  for pts, _ in self.sent]
+        alternate = sorted(set_last_subcode_digit(self.sent, 1) + set_last_subcode_digit(others, 2))
+        once = set_last_subcode_digit(self.sent[:20], 1) + set_last_subcode_digit(self.sent[20:], 2)
         words = "sub-pages of 888 alternate, with the sub-codes 0001 and 0002"
         blank = [(pts, [HEADER, CLOSING]) for pts, _ in self.sent]
         for name, sent, is_reported in (("alternate", alternate, True),
@@ -418,16 +405,10 @@ class MissingRows(Case):
             self.check(name, (cause.name, cause.details), (name, words))
 
 
-def add_keeping_repeats(sent: SentPes, is_first_empty: bool = False) -> SentPes:
-    """Return the transmission with headers that do not erase the page in all repeated pages.
-
-    If `is_first_empty` is true, the first repeated page has no rows.
-    """
-    repeats = [pts for (pts, some), (_, before) in zip(sent[1:], sent) if some == before]
-    without_rows = repeats[:is_first_empty]
-    return [(pts, some if pts not in repeats else
-             [KEEPING_HEADER, CLOSING] if pts in without_rows else [KEEPING_HEADER, *some[1:]])
-            for pts, some in sent]
+def add_keeping_repeats(sent: SentPes) -> SentPes:
+    """Return the transmission with headers that do not erase the page in all repeated pages."""
+    return [*sent[:1], *((pts, [KEEPING_HEADER, *some[1:]] if some == before else some)
+                         for (pts, some), (_, before) in zip(sent[1:], sent))]
 
 
 class RepeatsWithKeeping(ProgrammeCase):
@@ -453,7 +434,8 @@ class RepeatsWithKeeping(ProgrammeCase):
                    {REPEAT_WITHOUT_ERASE})
 
     def test_names_missing_rows_as_the_cause(self) -> None:
-        judged = self.judge(add_keeping_repeats(self.sent, is_first_empty=True), "--keeping")
+        first, (pts, _), *rest = add_keeping_repeats(self.sent)
+        judged = self.judge([first, (pts, [KEEPING_HEADER, CLOSING]), *rest], "--keeping")
         self.check("faults", (judged.timed_verdict, {
             item["number"] for item in judged.result["faults"]}), ("refused", {CONTENT}))
         self.check("causes", [item["line"] for item in judged.result["causes"]],
