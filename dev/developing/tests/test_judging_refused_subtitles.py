@@ -8,15 +8,13 @@ import re
 import subprocess
 import unittest
 import xml.etree.ElementTree as tree
-from typing import Sequence
 from unittest import mock
 
 from developing.multiplex import PACKET, PAYLOAD, PAYLOAD_START, make_packet_header
 from developing.pes import make_packet
-from developing.stl import make_gsi_block, make_tti_block
 from subtitles.cli.collection import make_pair_row, format_summary
 from subtitles.common.times import TICKS
-from subtitles.formats.stl import NamedSubtitle, Subtitle, SubtitleFile
+from subtitles.formats.stl import GSI, NamedSubtitle, Subtitle, SubtitleFile, TTI
 from subtitles.formats.teletext import OPTIONS, OPTION_BY_WORD, has_characters
 from subtitles.judging import subtitles
 from subtitles.judging.subtitles import (
@@ -29,7 +27,7 @@ from .judged import JudgedPair, judge_files
 from .parts import parse_single_fault
 from .transmissions import (
     ShownSubtitle, join_pes_packets, make_delay, replace_pts, packets, schedule_pages,
-    subtitle_times)
+    subtitle_times, write_programme, write_subtitle_file)
 from .test_judging_pairs import NOT_READ, damage_packet
 from .test_judging_reasons import KEEPING_HEADER, change_numbers
 
@@ -41,18 +39,6 @@ PAGE = 0, 0x88
 TCI_HOURS, TCI_SECONDS = 5, 7  # offsets in a TTI block
 
 
-def make_stl_of_blocks(blocks: Sequence[ShownSubtitle],
-                       changes: dict[int, dict[int, int]] | None = None) -> bytes:
-    """Return a subtitle file; `changes` maps block numbers to bytes changed in the block."""
-    result = []
-    for number, (begin, end, text) in enumerate(blocks, 1):
-        item = bytearray(make_tti_block(number, begin, end, 22, 2, text))
-        for at, byte in (changes or {}).get(number, {}).items():
-            item[at] = byte
-        result.append(bytes(item))
-    return make_gsi_block(b"Beside", len(blocks), len(blocks)) + b"".join(result)
-
-
 class RefusedSubtitles(Case):
     """The subtitles "Number 1" to "Number 10" appear at the frames 100, 200 .. 1000 for 60 frames.
     Their transmission is correct; in the subtitle file, some have the refused text `BAD`."""
@@ -62,15 +48,21 @@ class RefusedSubtitles(Case):
         self.blocks: list[ShownSubtitle] = [
             (begin, end, b"Number %d" % number)
             for number, (begin, end) in enumerate(subtitle_times(10), 1)]
-        self.stl = self.write("good.stl", make_stl_of_blocks(self.blocks))
+        self.stl = write_subtitle_file(self, self.blocks, "good.stl")
         self.sent = schedule_pages(self, self.stl)
         self.pes = self.write("one.pes", join_pes_packets(self.sent))
 
     def write_stl(self, *bad: int) -> str:
         """Write the subtitle file with the refused text in the subtitles with these numbers."""
-        return self.write("bad.stl", make_stl_of_blocks([
+        return write_subtitle_file(self, [
             (begin, end, BAD if number in bad else text)
-            for number, (begin, end, text) in enumerate(self.blocks, 1)]))
+            for number, (begin, end, text) in enumerate(self.blocks, 1)], "bad.stl")
+
+    def write_changed_stl(self, number: int, at: int, byte: int) -> str:
+        """Write the subtitle file with this byte at an offset in the TTI block of a subtitle."""
+        data = bytearray(self.read(self.write_stl()))
+        data[GSI + TTI * (number - 1) + at] = byte
+        return self.write("changed.stl", data)
 
     def write_late_recording(self) -> str:
         """Write a recording in which subtitle 6 appears 5 frames late."""
@@ -133,8 +125,8 @@ class RefusedSubtitles(Case):
             self.check(f"{words}", judge_files(self, *words).result["subtitle_counts"], counts)
 
     def test_does_not_know_a_subtitle_before_one_that_overlaps_it(self) -> None:
-        early = make_stl_of_blocks(self.blocks, {4: {TCI_SECONDS: 14}})  # instead of 16
-        judged = self.judge(self.write("near.stl", early), self.pes)
+        early = self.write_changed_stl(4, TCI_SECONDS, 14)  # instead of 16
+        judged = self.judge(early, self.pes)
         self.check("subtitles 2 to 5", [
             item["verdict"] for item in judged.result["subtitles"]][1:5],
             ["right", "not known", "wrong", "right"])
@@ -144,7 +136,7 @@ class RefusedSubtitles(Case):
         a control code (fault 51)."""
         for number, text in ((4, BAD), (8, b"\x9f")):
             self.blocks[number - 1] = *self.blocks[number - 1][:2], text
-        stl = self.write("three.stl", make_stl_of_blocks(self.blocks, {4: {TCI_SECONDS: 14}}))
+        stl = self.write_changed_stl(4, TCI_SECONDS, 14)
         for lines, words in (
                 (b"", "2 of 10 subtitles have faults: subtitle 4 at 00:00:14:00 has fault 57 "),
                 (b"57 warning", "subtitles have faults: subtitle 4 at 00:00:14:00 has fault 50 "),
@@ -180,7 +172,7 @@ class RefusedSubtitles(Case):
 
     def test_ignores_refused_subtitles_outside_the_range(self) -> None:
         """Subtitle 3, at 00:00:12:00, is refused, or the TCI of subtitle 7 is not a time."""
-        no_time = self.write("99.stl", make_stl_of_blocks(self.blocks, {7: {TCI_HOURS: 99}}))
+        no_time = self.write_changed_stl(7, TCI_HOURS, 99)
         bad = self.write_stl(3)
         for stl, words, verdict, counts in (
                 (no_time, ("--from", "00:00:20:00"), "refused", (5, 1)),
@@ -283,9 +275,9 @@ class RefusedSubtitles(Case):
 
     def test_looks_for_each_character_once(self) -> None:
         bad = range(19, 800, 19)
-        file = SubtitleFile(self.write("many.stl", make_stl_of_blocks([
+        file = SubtitleFile(write_subtitle_file(self, [
             (200 * at, 200 * at + 100, BAD if at in bad else b"Number %d" % at)
-            for at in range(1, 801)])))
+            for at in range(1, 801)]))
         faults = [parse_single_fault(f"refused 50 Character block {at} at 0") for at in bad]
         with mock.patch.object(subtitles, "has_characters", side_effect=has_characters) as search:
             result = find_valid_subtitles(file, faults, "english")
@@ -355,14 +347,10 @@ class LongInputs(Case):
         self.must("its PES packet", len(reported) == 1, lines)
 
     def test_judges_around_a_refused_subtitle_after_twelve(self) -> None:
-        blocks = [(begin, end, b"Number %d" % number)
-                  for number, (begin, end) in enumerate(subtitle_times(14), 1)]
-        self.schedule(self.write("good.stl", make_stl_of_blocks(blocks)), "sent.pes")
-        begin, end, _ = blocks[12]
-        blocks[12] = begin, end, BAD
-        status, lines = self.program("check", self.write("bad.stl", make_stl_of_blocks(blocks)),
-                                     self.path("sent.pes"), "--all")
-        self.check("status", status, 1)
-        self.must("the subtitle", lines[0] == "refused 50 Character block 13 at 0", lines)
-        self.must("the others", [line for line in lines[1:] if line.startswith("refused ")] == [
-            f"refused 78 Undecided frame {when}" for when in ("00:00:50:10",)], lines)
+        self.schedule(write_programme(self, subtitle_times(14)), "sent.pes")
+        padded = b"Number 13".ljust(len(BAD), b"\x8f")
+        stl = self.write("bad.stl", self.read("one.stl").replace(padded, BAD))
+        status, lines = self.program("check", stl, self.path("sent.pes"), "--all")
+        self.check("status and faults", (status, [
+            line for line in lines if line.startswith("refused ")]), (1, [
+                "refused 50 Character block 13 at 0", "refused 78 Undecided frame 00:00:50:10"]))
