@@ -7,7 +7,7 @@ import random
 import re
 import unittest
 from types import SimpleNamespace
-from typing import Any, Iterable, Sequence
+from typing import Any
 from unittest import mock
 
 from developing.pes import make_pes_packet
@@ -29,8 +29,8 @@ from subtitles.judging.timing import (
 from subtitles.judging.unchecked import summarize_pictures
 from subtitles.reading.judge import ReadingJudge
 from subtitles.recording.notices import (
-    Notice, format_presence, format_duration, find_count_notices, find_jump_notices,
-    find_pause_notices, find_pmt_notices, find_repeat_notices)
+    format_presence, format_duration, find_count_notices, find_jump_notices, find_pause_notices,
+    find_pmt_notices, find_repeat_notices)
 from subtitles.recording.recording import is_recording
 from subtitles.request.commands import (
     CommandPaths, ListNames, OutputNames, list_pair_files, make_pair_name, make_part_name,
@@ -46,10 +46,6 @@ from subtitles.stream.survey import Announced, Survey
 from .bench import Case
 from .parts import make_example_request
 from .transmissions import PAGE
-
-
-def list_notices(notices: Iterable[Notice]) -> list[tuple[str, str, str | None]]:
-    return [(item.kind, item.line, item.time) for item in notices]
 
 
 class PartClocks(unittest.TestCase):
@@ -175,13 +171,13 @@ class Notices(Case):
         for pages, words in of_pages:
             listing: Any = SimpleNamespace(find_programmes=lambda pid: [
                 SimpleNamespace(pages={0x101: some, 0x102: [other]}) for some in pages])
-            result = list_notices(find_pmt_notices(listing, 0x101, request))
-            self.assertEqual([kind for kind, *_ in result], ["page"] * bool(words), pages)
-            self.assertTrue(not result or result[0][1].endswith(words), result)
+            result = [*find_pmt_notices(listing, 0x101, request)]
+            self.assertEqual([item.kind for item in result], ["page"] * bool(words), pages)
+            self.assertTrue(not result or result[0].line.endswith(words), result)
 
     def list_count_notices(self, data: bytes) -> list[tuple[str, str]]:
         file = SubtitleFile(self.write("one.stl", data))
-        return [(kind, line) for kind, line, _ in list_notices(find_count_notices(file))]
+        return [(item.kind, item.line) for item in find_count_notices(file)]
 
     def test_warns_of_wrong_counts_of_blocks_and_subtitles_in_the_gsi_block(self) -> None:
         data = b"".join(make_subtitle_blocks(at, 25 * at, 25 * at + 20, 20, 2, b"a")
@@ -210,12 +206,7 @@ class Notices(Case):
                          ["there are 0", "there is 1", "there are 2", "there are 1,234"])
 
     def test_warns_of_pauses_in_a_regular_stream(self) -> None:
-        def pauses(frames: Sequence[int], origin: int = 0) -> list[tuple[str, str | None]]:
-            pts = [(origin + TICKS * frame) % CLOCK for frame in frames]
-            warned = find_pause_notices(pts, make_example_request("one.stl", "one.pes"), origin)
-            return [(item.line.partition(" from ")[0], item.time) for item in warned
-                    if item.kind == "pause"]
-
+        request = make_example_request("one.stl", "one.pes")
         three = [("no PES packet for 3 frames", "00:00:00:20")]
         for origin in (0, CLOCK - 10 * TICKS):
             for frames, expected in (
@@ -225,21 +216,19 @@ class Notices(Case):
                     ([*range(19), 22], [(three[0][0], "00:00:00:19")]),
                     ([*range(20), *range(23, 40), *range(45, 60)],
                      [*three, ("no PES packet for 5 frames", "00:00:01:15")]), ([], []), ([5], [])):
-                self.assertEqual(pauses(frames, origin), expected, frames)
+                pts = [(origin + TICKS * frame) % CLOCK for frame in frames]
+                self.assertEqual([(item.line.partition(" from ")[0], item.time) for item in
+                                  find_pause_notices(pts, request, origin)], expected, frames)
 
     def test_warns_of_a_repeat_limit_that_is_too_long(self) -> None:
-        def warned(step: int, every: int) -> list[str]:
-            headers = [TICKS * frame for frame in range(0, 600, step)]
-            request = make_example_request("one.stl", "one.pes", "--every", str(every))
-            return [repeat_notice.line
-                    for repeat_notice in find_repeat_notices(headers, request, 0, [(0, 599)])]
-
         # The frames between headers, --every, and a part of the warning.
         for step, every, words in ((25, 51, "25 frames: give --every 25 "), (25, 50, ""),
                                    (25, 25, ""), (1, 3, "frame: give --every 1 "), (1, 2, ""),
                                    (2, 5, "2 frames")):
-            result = warned(step, every)
-            self.assertEqual((len(result), words in "".join(result)), (bool(words), True),
+            headers = [TICKS * frame for frame in range(0, 600, step)]
+            request = make_example_request("one.stl", "one.pes", "--every", str(every))
+            lines = [item.line for item in find_repeat_notices(headers, request, 0, [(0, 599)])]
+            self.assertEqual((len(lines), words in "".join(lines)), (bool(words), True),
                              (step, every))
 
 
@@ -260,19 +249,16 @@ class FrameGrids(Case):
     def test_reads_the_start_time_from_tcp_in_the_gsi_block(self) -> None:
         for code, frame in ((b"00000000", 0), (b"10000001", 900_001), (b"23595924", 2_159_999),
                             (b"24000000", None), (b"        ", None), (b"1000000 ", None),
-                            (b"100000\xb90", None), (b"00000025", None)):
-            data = make_gsi_block(b"", 0, 0)
-            stl = self.write("one.stl", data[:256] + code + data[264:])
+                            (b"100000\xb90", None), (b"00000025", None), (b"1000", None)):
+            gsi = make_gsi_block(b"", 0, 0)
+            # The last file ends within the time code.
+            stl = self.write("one.stl", gsi[:256] + code + gsi[264:] * (len(code) == 8))
             request = make_example_request(stl, "one.ts", "--start", "tcp")
             try:
                 result: int | None = read_start_frame(request)
             except Unclear:
                 result = None
             self.assertEqual(result, frame, code)
-
-        short = self.write("two.stl", make_gsi_block(b"", 0, 0)[:260])  # ends within the time code
-        with self.assertRaises(Unclear):
-            read_start_frame(make_example_request(short, "one.ts", "--start", "tcp"))
 
     def test_reads_a_given_start_time(self) -> None:
         request = make_example_request("one.stl", "one.ts", "--start", "10:00:00:01")
@@ -322,6 +308,7 @@ class NamesOfFiles(Case):
                              or re.fullmatch("line [0-9]+(~[0-9]+)?", name)
                              or name[0] == "." or len(os.fsencode(f".{name}.recording.pes")) > 255,
                              name)
+
     def test_numbers_results_of_a_list_with_the_same_name(self) -> None:
         names = ListNames()
         self.check("pairs", [names.name_pair(item) for item in (
