@@ -6,8 +6,8 @@
 
 The programme has a subtitle every 100 frames, which is shown for 60 frames. The first line of a
 table names its columns. Numbers in `sent` are subtitle numbers and frames: `3 late by 7` delays
-subtitle 3 by 7 frames. `CHANGES` lists these changes, which commas separate. `T` in `options`
-stands for the PTS of frame 0. `ANSWERS` lists the columns that are compared with the result.
+subtitle 3 by 7 frames. `CHANGES` lists these changes, which commas separate. `ANSWERS` lists the
+columns that are compared with the result.
 """
 from __future__ import annotations
 
@@ -97,16 +97,12 @@ def describe_part(judged: JudgedPair, index: int) -> str:
 ANSWERS: dict[str, Callable[[JudgedPair], str]] = {
     "verdict": lambda judged: judged.timed_verdict,
     "line": lambda judged: str(judged.result["line"]),
-    "last line": lambda judged: judged.printed[-1],
-    "sentence": lambda judged: judged.verdict.sentence,
     "causes": lambda judged: "; ".join(re.sub(r'subtitle (\d+).* at [\d:]+, ".*?": ', r"\1 ", line)
                                        for line in judged.lines("cause: ")),
     "part verdicts": lambda judged: " ".join(word for word, in judged.parts("verdict")),
     "part 1": lambda judged: describe_part(judged, 0),
     "part 2": lambda judged: describe_part(judged, 1),
     "part 3": lambda judged: describe_part(judged, 2),
-    "losses": lambda judged: "; ".join(f"{loss['gap_marker']} {loss['from']}"
-                                       for loss in judged.result["losses"]),
     "losses judged": lambda judged: " ".join(f"{loss['judged']}"
                                              for loss in judged.result["losses"]),
     "fault numbers": lambda judged: " ".join(
@@ -115,9 +111,6 @@ ANSWERS: dict[str, Callable[[JudgedPair], str]] = {
     "complete after": lambda judged: " ".join(
         "-" if row["complete_after"] is None else str(row["complete_after"])
         for row in judged.result["subtitles"]),
-    "source": lambda judged: " ".join(clock["source"] for clock, in judged.parts("clock")),
-    "delay": lambda judged: " ".join(f"{clock['delay_frames']}"
-                                     for clock, in judged.parts("clock")),
     "pes": lambda judged: " ".join(pes for pes, in judged.parts("pes")),
     "of all": lambda judged: " ".join(f"{judged.result['complete_after'][name]}" for name in (
         "minimum", "median", "maximum", "never_complete"))}
@@ -157,9 +150,8 @@ class StoryCase(ProgrammeCase):
         """Check all rows of a table with more options; `same` has answers that all rows share."""
         for row in read_table(table):
             story = {**row, **same}
-            words = [word.replace("T", f"{ORIGIN}") for word in story.get("options", "").split()]
-            judged = self.judge_changes(story["sent"], *words, *args)
-            self.check_answers(" ".join([story["sent"], *words, *args]), judged, story)
+            words = [story["sent"], *story.get("options", "").split(), *args]
+            self.check_answers(" ".join(words), self.judge_changes(*words), story)
 
     def check_answers(self, name: str, judged: JudgedPair, story: Story, *others: str) -> None:
         """Compare all columns of `ANSWERS`. `others` are the columns that the test reads itself."""
