@@ -273,15 +273,18 @@ class Recordings(Case):
 
     def test_judges_a_subtitle_file_alone(self) -> None:
         valid = "The subtitle file is valid: {}. No recording was judged."
-        for stl, lines in ((STORY, [valid.format("3 subtitles"),
-                                    "valid: 3 subtitles; no recording was judged"]),
-                           (HELLO, [valid.format("1 subtitle"),
-                                    "valid: 1 subtitle; no recording was judged"]),
-                           (ACCENT, ["refused 50 Character block 1 at 6"])):
+        for stl, count, lines in (
+                (STORY, 3, [valid.format("3 subtitles"),
+                            "valid: 3 subtitles; no recording was judged"]),
+                (HELLO, 1, [valid.format("1 subtitle"),
+                            "valid: 1 subtitle; no recording was judged"]),
+                (ACCENT, None, ["refused 50 Character block 1 at 6"])):
             judged = judge_files(self, stl)
             self.check(f"{stl}: last lines", judged.printed[-len(lines):], lines)
             self.check(f"{stl}: part", judged.parts("from", "pes"), [(None, None)])
             self.check(f"{stl}: faults", "1 faults" in judged.printed, stl == ACCENT)
+            self.check(f"{stl}: counts", judged.result["subtitle_counts"],
+                       count and {"judged": count, "refused": 0})
 
     def test_a_subtitle_file_alone_is_never_accepted(self) -> None:
         mild = self.write("mild", b"16 warning\nothers warning\n")

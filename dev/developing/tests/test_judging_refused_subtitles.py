@@ -26,8 +26,8 @@ from .bench import Case, read_example_file
 from .judged import JudgedPair, judge_files
 from .parts import parse_single_fault
 from .transmissions import (
-    ShownSubtitle, join_pes_packets, make_delay, replace_pts, packets, schedule_pages,
-    subtitle_times, write_programme, write_subtitle_file)
+    ShownSubtitle, delay_subtitle, join_pes_packets, packets, schedule_pages, subtitle_times,
+    write_programme, write_subtitle_file)
 from .test_judging_pairs import NOT_READ, damage_packet
 from .test_judging_reasons import KEEPING_HEADER, change_numbers
 
@@ -66,8 +66,7 @@ class RefusedSubtitles(Case):
 
     def write_late_recording(self) -> str:
         """Write a recording in which subtitle 6 appears 5 frames late."""
-        late = make_delay(by=5, first=TICKS * 600, last=TICKS * 650)
-        return self.write("late.pes", join_pes_packets(late(self.sent)))
+        return self.write("late.pes", join_pes_packets(delay_subtitle(6, by=5)(self.sent)))
 
     def judge(self, stl: str, *args: str) -> JudgedPair:
         return judge_files(self, stl, *args, *WORDS)
@@ -117,12 +116,6 @@ class RefusedSubtitles(Case):
                            ("last lines of a batch", "".join(format_summary([row]))),
                            ("page of a batch", make_pair_row(self.folder, row).source)):
             self.must(name, "8 subtitles judged, 2 refused" in text, text)
-
-    def test_counts_no_judged_subtitles_without_a_recording_if_one_is_refused(self) -> None:
-        for words, counts in (((self.stl, self.pes, *WORDS), {"judged": 10, "refused": 0}),
-                              ((self.stl,), {"judged": 10, "refused": 0}),
-                              ((self.write_stl(3),), None)):
-            self.check(f"{words}", judge_files(self, *words).result["subtitle_counts"], counts)
 
     def test_does_not_know_a_subtitle_before_one_that_overlaps_it(self) -> None:
         early = self.write_changed_stl(4, TCI_SECONDS, 14)  # instead of 16
@@ -216,17 +209,14 @@ class RefusedSubtitles(Case):
         self.blocks = [(begin, end, b"N\xc8umber %d" % number)
                        for number, (begin, end) in enumerate(subtitle_times(14), 1)]
         words = "--layout", "row=-2", "--option", "german"
-        self.schedule(self.write_stl(), "house.pes", "--every", "25", *words)
+        sent = schedule_pages(self, self.write_stl(), *words)
         others = "13 other subtitles were judged: "
         # The refused subtitle, the frames by which subtitle 6 is late, and a part of the sentence.
         for bad, by, sentence in (
                 ((), 0, ""), ((3,), 0, f"{others}all have the right text from the first"),
                 ((3,), 5, f'{others}subtitle 6 at 00:00:24:00, "N\u00fcmber 6", appeared 5 frames '
                           'late')):
-            def delay_subtitle_6(_: int, pts: int, by: int = by) -> int:
-                return pts + TICKS * by * (pts == TICKS * 600)
-
-            path = self.write("one.pes", replace_pts(self.read("house.pes"), delay_subtitle_6))
+            path = self.write("one.pes", join_pes_packets(delay_subtitle(6, by)(sent)))
             judged = self.judge(self.write_stl(*bad), path, *words)
             self.must(f"{bad} {by}", judged.timed_verdict == ("refused" if bad else "accepted") and
                       sentence in judged.verdict.sentence and
