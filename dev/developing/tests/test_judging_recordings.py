@@ -315,11 +315,14 @@ class Recordings(Case):
                       and "Timeline" not in page, page)
             self.check(f"{words}: fault 60", "printed fault 60" in page, verdict == "valid")
 
-    def test_lists_the_texts_of_a_subtitle_file_alone(self) -> None:
-        self.check("texts", [row["expected_text"]
-                             for row in judge_files(self, STORY).result["subtitles"]],
-                   ["Good evening. / Here is the news.", "Thank you, Anne.",
-                    "It costs \u00a35, or $7."])
+    def test_lists_the_expected_and_the_decoded_text_in_the_national_option(self) -> None:
+        stl = write_programme(self, subtitle_times(1), lines=2, text=b"\xc8Ol")
+        self.schedule(stl, "one.pes", "--every", "25", "--option", "german")
+        for recording, decoded in (((), None),
+                                   ((self.path("one.pes"), "--origin", "0"), "\u00d6l / \u00d6l")):
+            row, = judge_files(self, stl, *recording, "--option", "german").result["subtitles"]
+            self.check(f"{recording}", (row["expected_text"], row["decoded_text"]),
+                       ("\u00d6l / \u00d6l", decoded))
 
     def test_does_not_judge_a_file_without_subtitles(self) -> None:
         result = judge_files(self, self.write("none.stl", STL[:GSI])).result
