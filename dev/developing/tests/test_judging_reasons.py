@@ -434,8 +434,8 @@ class RepeatsWithKeeping(ProgrammeCase):
                    {REPEAT_WITHOUT_ERASE})
 
     def test_names_missing_rows_as_the_cause(self) -> None:
-        first, (pts, _), *rest = add_keeping_repeats(self.sent)
-        judged = self.judge([first, (pts, [KEEPING_HEADER, CLOSING]), *rest], "--keeping")
+        first, (repeat_pts, _), *rest = add_keeping_repeats(self.sent)
+        judged = self.judge([first, (repeat_pts, [KEEPING_HEADER, CLOSING]), *rest], "--keeping")
         self.check("faults", (judged.timed_verdict, {
             item["number"] for item in judged.result["faults"]}), ("refused", {CONTENT}))
         self.check("causes", [item["line"] for item in judged.result["causes"]],

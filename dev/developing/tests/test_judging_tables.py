@@ -45,7 +45,7 @@ from subtitles.stream.pictures import Departure
 from subtitles.stream.survey import Announced, Survey
 from .bench import Case
 from .parts import make_example_request
-from .transmissions import PAGE
+from .transmissions import PAGE, write_subtitle_file
 
 
 class PartClocks(unittest.TestCase):
@@ -325,8 +325,7 @@ class NamesOfFiles(Case):
                   "one.txt.1", "one.1.stl", "one.5.json", "one.x.recording.pes", "one.x.1.html",
                   "one.1.txt.1", "one.2.txt.old"]
         for name in [*own, *others]:
-            with open(os.path.join(out, name), "wb"):
-                pass
+            self.write(f"out/{name}", b"")
         possible = ["one.cut.pes", "one.recording.pes", "one.recording.ts", "one.midnight.copy",
                     "one.txt", "one.html", "one.json"]  # listed even if they do not exist
         self.check("own", sorted(os.path.basename(path) for path in list_pair_files(out, "one")),
@@ -464,8 +463,7 @@ class SubtitleBlocks(Case):
             b"\xc8a\xc4o": "estonian, which has all the characters in the file, if receivers are "
             "set to its region"}
         for text, words in rows.items():
-            file = SubtitleFile(self.write("two.stl", make_gsi_block(b"", 1, 1) + make_tti_block(
-                1, 25, 50, 20, 2, text)))
+            file = SubtitleFile(write_subtitle_file(self, [(25, 50, text)]))
             self.check(f"{text!r}", OptionAdvice(file, "english").advise(1, 0),
                        f"use --option {words}")
 
