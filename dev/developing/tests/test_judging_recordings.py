@@ -106,9 +106,11 @@ class Recordings(Case):
         later = make_pes_packet(decode_pts(packets(PES)[-1]) + 100 * TICKS,
                                 [HEADER] * 5)  # this PES packet fills two TS packets
         cut_stream = make_stream_of_pids((TELETEXT_PID, PES + later))[:-188]
-        for data, kinds in ((PES + later[:100], ["cut"]), (cut_stream, ["cut"]), (STREAM, [])):
+        for name, data, kinds in (("a cut file", PES + later[:100], ["cut"]),
+                                  ("a cut stream", cut_stream, ["cut"]),
+                                  ("a complete stream", STREAM, [])):
             judged = judge_files(self, STORY, self.write("cut.rec", data), "--origin", "0")
-            self.check("cut", (judged.timed_verdict, [
+            self.check(name, (judged.timed_verdict, [
                 item["kind"] for item in judged.result["warnings"]]), ("accepted", kinds))
 
     def test_strict_rejects_a_subtitle_file_without_its_last_block(self) -> None:
