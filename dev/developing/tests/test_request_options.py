@@ -2,6 +2,7 @@
 from __future__ import annotations
 
 import argparse
+import dataclasses
 import hashlib
 import itertools
 import os
@@ -14,12 +15,12 @@ from subtitles.common.times import FRAMES_OF_A_DAY
 from subtitles.request.commands import CommandPaths, format_profile, make_command
 from subtitles.request.lines import read_pairs, read_profile, make_line_request
 from subtitles.request.request import (
-    ALONE, JUDGED, LINE, MEASURE, OPTIONS, Option, Request, add_options, keep_stl,
-    make_file_request)
+    ALONE, JUDGED, LINE, MEASURE, OPTIONS, Option, add_options, keep_stl, make_file_request)
 from subtitles.results.schema import REQUEST
 from .bench import Case, get_example_path
 from .judged import judge_files
 from .parts import make_example_request, list_call_arguments, make_default_options
+from .stories import read_vectors
 from .transmissions import write_pipe, write_subtitle_file
 
 
@@ -218,72 +219,27 @@ class ProfileFiles(Case):
 class Overrides(Case):
     """Options of a call of qc, of its profile, and of the line of a list, which override others."""
 
-    def request(self, call: str, line: str | None) -> Request:
-        """Return the request for a pair of the call, or of a line of its list."""
-        if line is None:
-            return make_example_request("a.stl", "a.ts", *call.split())
-        return make_line_request(["a.stl", "a.ts", *line.split()],
-                                 make_default_options(*call.split()), self.folder)
-
-    def test_given_options_override_the_profile(self) -> None:
-        # The call, the line, and the values of --every, --keeping, --within, --late, --complete.
-        house = self.write("house", b"--every 25\n--keeping\n--within 2\n--late 0:1,2:1/0:1\n")
+    def test_options_override_those_of_the_profile_and_of_the_call(self) -> None:
+        """Relative paths of profiles in a line are in the folder of the list."""
+        self.write("house", b"--every 25\n--keeping\n--within 2\n--late 0:1,2:1/0:1\n")
         self.write("other", b"--every 50\n--no-complete\n")
-        shares = Lateness({0: 1, 2: 1}, {0: 1})
-        for call, line, expected in (
-                (f"--profile {house}", None, (25, True, 2, shares, True)),
-                (f"--profile {house} --every 9 --no-keeping", None, (9, False, 2, shares, True)),
-                (f"--profile {house} --every 250 --within 0", None, (250, True, 0, None, True)),
-                (f"--within 3 --profile {house}", None, (25, True, 3, None, True)),
-                (f"--within 2 --late 1:1/1:1 --profile {house}", None,
-                 (25, True, 2, Lateness({1: 1}, {1: 1}), True)),
-                (f"--late 1:1/1:1 --within 3 --profile {house}", None,
-                 (25, True, 3, Lateness({1: 1}, {1: 1}), True)),
-                (f"--profile {house}", "", (25, True, 2, shares, True)),
-                (f"--profile {house}", "--every 9 --no-keeping", (9, False, 2, shares, True)),
-                (f"--profile {house}", "--within 1", (25, True, 1, None, True)),
-                (f"--profile {house}", "--within 3 --late=1:1/1:1",
-                 (25, True, 3, Lateness({1: 1}, {1: 1}), True)),
-                (f"--profile {house} --every 9", "", (9, True, 2, shares, True)),
-                (f"--profile {house} --keeping", "--profile other", (50, True, 0, None, False)),
-                (f"--profile {house}", "--profile other", (50, False, 0, None, False)),
-                (f"--profile {house}", "--profile other --complete --every 8",
-                 (8, False, 0, None, True)),
-                ("--every 9 --keeping", "--profile other", (50, True, 0, None, False)),
-                ("--every 9", "--profile house --within 2", (25, True, 2, shares, True)),
-                ("--every 9", "--profile house --within 3", (25, True, 3, None, True)),
-                ("--within 1 --late 0:1,1:1/0:1", "--within 0", (250, False, 0, None, True))):
-            request = self.request(call, line)
-            self.check(f"{call} | {line}", (request.every, request.may_keep, request.within,
-                                            request.late, request.is_complete), expected)
+        self.write("tcp", b"--start tcp\n")
+        for row in read_vectors("overrides.tsv"):
+            call = row["call"].replace("--profile ", f"--profile {self.folder}/").split()
+            request = make_line_request(
+                row["line"].split(), make_default_options(*call), self.folder) if row["line"] \
+                else make_example_request("a.stl", "a.ts", *call)
+            without = dataclasses.replace(request, profile=None)
+            self.check(row["name"], list_call_arguments(without),
+                       [*row["options"].split(), "--", "a.stl", "a.ts"])
             again = make_example_request("a.stl", "a.ts", *list_call_arguments(request)[:-3])
-            self.check(f"{call} | {line}: parsed again", again, request)
-
-    def test_replaces_one_clock_by_another(self) -> None:
-        """Expected: the values of --origin and --start."""
-        self.write("other", b"--every 50\n")
-        tcp = self.write("tcp", b"--start tcp\n")
-        rows: list[tuple[str, str | None, tuple[int | None, str | None]]] = [
-            (f"--profile {tcp}", None, (None, "tcp")), (f"--profile {tcp}", "", (None, "tcp")),
-            (f"--profile {tcp} --origin 9", None, (9, None)),
-            (f"--profile {tcp}", "--origin 9", (9, None)),
-            (f"--profile {tcp}", "--profile other", (None, None)),
-            ("--origin 9", "--profile tcp", (None, "tcp")),
-            ("--origin 9", "--profile tcp --origin=7", (7, None)),
-            ("--origin 9", "", (9, None)), ("--origin 9", "--profile other", (9, None)),
-            ("--origin 9", "--start tcp", (None, "tcp")), ("--origin 9", "--origin 7", (7, None)),
-            ("--start tcp", "--origin=9", (9, None)), ("--start tcp", "--every 8", (None, "tcp")),
-            ("--origin 9", "--profile other --start tcp", (None, "tcp")),
-            ("--start tcp", "--profile other --origin=0", (0, None))]
-        for call, line, expected in rows:
-            request = self.request(call, line)
-            self.check(f"{call} | {line}", (request.origin, request.start), expected)
+            self.check(f"{row['name']}: parsed again", again, request)
 
     def test_refuses_two_clocks(self) -> None:
         two = self.write("two", b"--start tcp\n--origin 0\n")
         for words in ("--start tcp --origin 0", f"--profile {two}"):
             with self.assertRaisesRegex(Stop, "--start and --origin both give the clock"):
-                self.request(words, None)
+                make_example_request("a.stl", "a.ts", *words.split())
 
     def test_requires_a_tolerance_for_delay_counts(self) -> None:
         for words, delay, within in (("--late 0:1,1:1/0:1", "1 frame", 0),
