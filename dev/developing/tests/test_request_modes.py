@@ -7,10 +7,13 @@ import itertools
 import json
 import os
 import re
+import shlex
+import string
 import tempfile
 import unittest
 import xml.etree.ElementTree as tree
 from types import ModuleType
+from typing import Iterator, NamedTuple
 from unittest import mock
 
 from subtitles.cli import batch, collection, main, measure, single
@@ -27,6 +30,7 @@ from subtitles.request.request import (
 from subtitles.results.files import FORMULA_BEGINNINGS
 from .bench import Case, get_example_path, get_tool_path, is_python
 from .parts import make_default_options
+from .stories import read_vectors
 
 # Arguments that select each mode of tools/qc.
 CALLS: dict[Mode, list[str]] = {
@@ -217,56 +221,26 @@ class PartialCommandLines(unittest.TestCase):
 
 
 STL, PES = get_example_path("hello.stl"), get_example_path("hello.pes")
-# Arguments that are wrong whatever files exist (status 64), or because of a file (status 2).
-WRONG_USAGE: dict[str, list[list[str]]] = {
-    "air": [[], ["rest"], ["record"], ["judge", "schedule", "segments"], ["status"],
-            ["judge", "schedule", "segments", "-o", "out", "--pagee", "888"],
-            ["status", "out", "--max-age", "-1"]],
-    "read": [[], [PES, "--start", "tcp"], [PES, "--start", "10:00:00:00", "--origin", "0"],
-             [PES, "--page", "8FF"],
-             *([PES, option, os.devnull] for option in ("--json", "--csv", "--junit"))],
-    "poke": [[], [STL, "x"], [STL, "1=0"], [STL, "1=@3"], [STL, "-c", "-1"], [STL, "-c", "x"],
-             [STL, "1=00", "--colour"], [STL, "9" * 5000 + "=00"]],
-    "qc": [[], [STL], ["--file-only"], ["--file-only", STL, PES], [STL, PES, PES],
-           [STL, PES, "--page", "8FF"], [STL, PES, "--every", "0"], [STL, PES, "--option", "latin"],
-           [STL, PES, "--layout", "fit,fit"], [STL, PES, "--origin", "x"],
-           [STL, PES, "--pid", "8191"], ["--batch"], [STL, PES, "--jobs", "2"],
-           [STL, PES, "--every", "9" * 5000], ["--batch", TOP, "--jobs", "9" * 5000],
-           ["none.stl", "none.pes", "--start", "tcp", "--origin", "0"],
-           [STL, PES, "--late", "0:1,2:1/0:1", "--within", "1"], ["--watch", TOP],
-           ["--watch", TOP, "-o", "out", "--start", "tcp", "--origin", "0"],
-           [STL, PES, "--profile", "none", "--start", "tcp", "--origin", "0"],
-           ["--batch", "none", "--resume"], ["--batch", "none", "--keep"], [STL, PES, "--keep"]],
-    "pes2ts": [[], [PES], [PES, "0x1fff"], [PES, "0x100"], [PES, "7"], [PES, "0x101", "english"],
-               [PES, "0x101", "--page", "8FF"]],
-    "install": [[], ["-x"], ["--", "-x"], ["--prefix"], [""], ["to", "from"],
-                ["--remove", "-p", STL, "to"], ["--remove", "--systemd", "to"]],
-    "dist": [["--colour"]], "release": [["none"], ["--keep", "--compare"], ["--colour"]],
-    "reading-list": [[], ["Good", "Robust"], ["Good", "--colour"]],
-    "slow-proofs": [[]], "make-examples": [[], ["a", "b"]], "check-tools": [["--jobs", "0"]],
-    "edits": [["--release", "--tests"], ["--applies", "name"]],
-    "check-every-place": [["--count", "x"], ["--recordings", "x"]], "faults": [["-v", "none"]],
-    "../.ci/run": [["--anew", "sub_check"]], "../bench/run": [["a", "b", "c"]],
-    "../bench/count": [["none"], ["-p"]],
-    "../bench/inputs.py": [[], ["none", "99", "a", "b"], ["day", "75", "a", "b"]],
-}
-WRONG_FILES: dict[str, list[list[str]]] = {
-    "air": [["judge", "schedule", "segments", "-o", "out"]],
-    "read": [["none.ts"], [STL, "--origin", "0"]],
-    "poke": [["none.stl"], [STL, "1152=00"], [STL, "0=@1150+3"], [TOP]],
-    "qc": [["--file-only", "none.stl"], [STL, "none.pes"], [STL, PES, "--severity", "none"],
-           [STL, PES, "-p", "none"],
-           ["--batch", "none"], [STL, PES, "--json", "no/folder.json"], [STL, PES, "--csv", TOP],
-           ["--batch", TOP, "--junit", "no/folder.xml"], [STL, PES, "--profile", "none"],
-           ["--watch", "none", "-o", "out"]],
-    "pes2ts": [["none.pes", "0x101"]],
-    "install": [[PES], ["-p", "none", "to"]], "dist": [[PES], ["--deb", PES]],
-    "release": [["--note", "none"]], "reading-list": [["none"]], "slow-proofs": [["none"]],
-    **{name: [["-p", "none"]] for name in (
-        "check-every-place", "check-live", "check-manual", "check-preview", "check-program",
-        "check-survey", "check-tools", "faults", "plant")},
-    "make-examples": [["-p", "none", "."]],
-}
+
+
+class ToolCall(NamedTuple):
+    """A script in tools/ or dev/, its arguments, and the exit status of this call."""
+
+    tool: str
+    words: list[str]
+    status: int
+
+    @property
+    def name(self) -> str:
+        return f"{self.tool} {' '.join(self.words)}"
+
+
+def read_calls() -> Iterator[ToolCall]:
+    """Yield the calls in dev/vectors/calls.tsv, with the values of names that begin with $."""
+    values = {"STL": STL, "PES": PES, "TOP": TOP, "NINES": "9" * 5000}
+    for row in read_vectors("calls.tsv"):
+        yield ToolCall(row["tool"], [string.Template(word).substitute(values) for word
+                                     in shlex.split(row["arguments"])], int(row["status"]))
 
 
 def list_tool_names() -> list[str]:
@@ -275,18 +249,8 @@ def list_tool_names() -> list[str]:
             if os.access(get_tool_path(name), os.X_OK) and os.path.isfile(get_tool_path(name))]
 
 
-# Calls that must end with status 0. Each script has at least one, or stands in `CALLED_ELSEWHERE`.
-VALID: dict[str, list[list[str]]] = {
-    "air": [["judge", "--help"]], "dist": [["to"]], "edits": [["--applies"]],
-    "graph": [["Good"], ["--clauses", "sub_check"]], "install": [["to"]],
-    "pes2ts": [[PES, "0x101"]], "poke": [[STL], [STL, "-c", "4"]],
-    "program": [[]], "qc": [["--file-only", STL], [STL, PES, "--origin", "0"]], "read": [[PES]],
-    "reading-list": [["Good"], ["--lowest-first", "Good"], ["check_all.reported"]],
-    "sizes": [[]], "sources": [[]],
-    "check-every-place": [["--count", "1", "--recordings", "1"]],
-    "check-survey": [["--count", "1"]],
-}
-# Scripts whose valid calls are in the gate, in another test, or need the toolchain.
+# Scripts without valid calls in calls.tsv: these are in the gate, in another test, or need the
+# toolchain.
 CALLED_ELSEWHERE = {
     "tools/check-program": ["check-live", "check-manual", "check-preview", "check-readme",
                             "faults"],
@@ -300,13 +264,14 @@ class ValidArguments(Case):
     """All executable files in tools/ and dev/."""
 
     def test_each_script_has_a_valid_call(self) -> None:
-        self.check("scripts", sorted([*VALID, *itertools.chain(*CALLED_ELSEWHERE.values())]),
+        valid_tools = {call.tool for call in read_calls() if call.status == 0}
+        self.check("scripts", sorted([*valid_tools, *itertools.chain(*CALLED_ELSEWHERE.values())]),
                    list_tool_names())
 
     def test_a_valid_call_ends_with_status_0(self) -> None:
-        for name, calls in VALID.items():
-            for words in calls:
-                self.check(f"{name} {' '.join(words)}", self.tool(name, *words).status, 0)
+        for call in read_calls():
+            if call.status == 0:
+                self.check(call.name, self.tool(call.tool, *call.words).status, 0)
 
     def test_scripts_read_only_arguments_that_they_define(self) -> None:
         shared_options = read(command_line.__file__) or ""
@@ -323,16 +288,16 @@ class WrongArguments(Case):
     """Tools with wrong arguments, files or devices."""
 
     def test_prints_one_line_and_writes_no_file(self) -> None:
-        for name in sorted({*list_tool_names(), *WRONG_USAGE}):
-            usage = [*WRONG_USAGE.get(name, []), ["--colour"], ["---"]]
-            for words, status in [*((words, 64) for words in usage),
-                                  *((words, 2) for words in WRONG_FILES.get(name, []))]:
-                before = sorted(os.listdir(self.folder))
-                process = self.tool(name, *words)
-                self.must(f"{name} {' '.join(words)}", process.status == status and not process.out
-                          and len(process.told) == 1
-                          and process.told[0].startswith(os.path.basename(name) + ": ")
-                          and sorted(os.listdir(self.folder)) == before, process)
+        calls = [call for call in read_calls() if call.status != 0]
+        for tool in sorted({*list_tool_names(), *(call.tool for call in calls)}):
+            calls += [ToolCall(tool, [option], 64) for option in ("--colour", "---")]
+        for call in calls:
+            before = sorted(os.listdir(self.folder))
+            process = self.tool(call.tool, *call.words)
+            self.must(call.name, process.status == call.status and not process.out
+                      and len(process.told) == 1
+                      and process.told[0].startswith(os.path.basename(call.tool) + ": ")
+                      and sorted(os.listdir(self.folder)) == before, process)
 
     def test_writes_one_unjudged_entry_into_each_requested_file(self) -> None:
         """Each call is made twice: it may replace its own earlier files."""
