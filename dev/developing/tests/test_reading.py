@@ -14,7 +14,6 @@ from developing.pes import decode_pts, encode_triplet, make_packet, make_pes_pac
 from subtitles.common.checks import CLOCK as CLOCK_KIND, OPTION, OUTSIDE, PHRASES
 from subtitles.common.times import CLOCK, FRAMES_OF_A_DAY, Span, TICKS
 from subtitles.formats.layout import PLAIN, draw_text, make_page_rows
-from subtitles.formats.listing import NEVER_SENT, SUB_PAGES
 from subtitles.formats.stl_writer import (
     StoredPage, make_gsi_block, make_subtitle_blocks, store_page)
 from subtitles.formats.teletext import (
@@ -34,8 +33,10 @@ from subtitles.results.schema import find_misfit
 from subtitles.stream.packets import PES, PacketRun, Packets
 from subtitles.stream.receiver import BLANK_PAGE, Rows
 from .bench import Case, CompletedCall
+from .stories import read_vectors
 from .streams import Shape, add_pictures, join_packets, make_multiplex, make_stream_of_pids
-from .transmissions import CLOSING, HEADER, make_numbered_row, make_random_stl, packets, replace_pts
+from .transmissions import (
+    CLOSING, HEADER, join_pes_packets, make_numbered_row, make_random_stl, packets, replace_pts)
 
 
 def make_page(rows: dict[int, bytes]) -> Rows:
@@ -247,47 +248,22 @@ class Decisions(Case):
         self.check("subtitles next to it", dict(list_doubts(part, reading)), {2: AFTER, 3: BEFORE})
 
     def test_decides_the_verdict(self) -> None:
-        # `cut` is the answer of `check` about a recording that ends within a subtitle: fault 74.
-        accepted, cut = CheckSummary(0, True), CheckSummary(1, False, 1, 1, {74})
-        grounds = Grounds([accepted], Severity(None), has_clock=True)
-        allowed = grounds._replace(severity=Severity(None, is_loss_allowed=True))
-
-        def refuse(*numbers: int, count: int = 1) -> Grounds:
-            return allowed._replace(parts=[CheckSummary(1, False, count, count, {*numbers})])
-
-        # The grounds, whether the last subtitle is cut, and how many frames are not trusted
-        for name, known, is_cut, untrusted, word in (
-                ("accepted", grounds, False, 0, AS_SHOWN),
-                ("a named fault", grounds._replace(named_faults=[SUB_PAGES]), False, 0,
-                 WITH_FAULTS),
-                ("an error", grounds._replace(error_kinds=["input"]), False, 0, NOT_READ),
-                ("no answer", grounds._replace(parts=[CheckSummary(None)]), False, 0, NOT_READ),
-                ("never sent", grounds._replace(parts=[], named_faults=[NEVER_SENT]), False, 0,
-                 WITH_FAULTS),
-                ("lost", grounds._replace(judged_losses=[True]), False, 0, WITH_FAULTS),
-                ("lost, allowed", allowed._replace(judged_losses=[True]), False, 0, WITH_FAULTS),
-                ("lost with a gap marker, allowed", refuse(45), False, 0, WITH_FAULTS),
-                ("silent, allowed", refuse(79), False, 0, WITH_FAULTS),
-                ("refused", refuse(72), False, 0, WITH_FAULTS),
-                ("required", grounds._replace(missing_kinds=["losses"]), False, 0, NOT_READ),
-                ("cut", grounds._replace(parts=[cut]), True, 0, AS_SHOWN),
-                ("cut, required", grounds._replace(parts=[cut], missing_kinds=["losses"]), True, 0,
-                 NOT_READ),
-                ("cut, lost", grounds._replace(parts=[cut], judged_losses=[True]), True, 0,
-                 WITH_FAULTS),
-                ("cut, lost, allowed", allowed._replace(parts=[cut], judged_losses=[True]), True, 0,
-                 WITH_FAULTS),
-                ("74, but not cut", grounds._replace(parts=[cut]), False, 0, WITH_FAULTS),
-                ("cut, with a frame that is not trusted", grounds._replace(parts=[cut]), True, 1,
-                 WITH_FAULTS),
-                ("cut, with another fault", refuse(74, 73, count=2), True, 0, WITH_FAULTS),
-                ("cut, with a second 74", refuse(74, count=2), True, 0, WITH_FAULTS),
-                ("cut, with a named fault", grounds._replace(
-                    parts=[cut], named_faults=[SUB_PAGES]), True, 0, WITH_FAULTS)):
-            self.check(name, decide_reading(known, is_cut, untrusted).word, word)
+        other_answers: dict[str, list[CheckSummary]] = {
+            "accepted": [CheckSummary(0, True)], "not ended": [CheckSummary(None)], "no part": []}
+        for row in read_vectors("reading-verdicts.tsv"):
+            numbers = [] if row["check"] in other_answers else [*map(int, row["check"].split())]
+            refused = CheckSummary(1, False, len(numbers), len(numbers), {*numbers})
+            grounds = Grounds(
+                other_answers.get(row["check"], [refused]),
+                Severity(None, is_loss_allowed=row["allow lost"] == "yes"),
+                judged_losses=[True] * (row["lost"] == "yes"), error_kinds=row["error"].split(),
+                named_faults=[*filter(None, [row["named fault"]])], has_clock=True,
+                missing_kinds=row["not made"].split())
+            self.check(row["name"], decide_reading(
+                grounds, row["cut"] == "yes", int(row["not trusted"])).word, row["verdict"])
 
 
-OTHER_OPTION = make_packet(0, 0, [8, 8, 0, 8, 0, 8, 1, 8], b" " * 32)  # German
+GERMAN_HEADER = make_packet(0, 0, [8, 8, 0, 8, 0, 8, 1, 8], b" " * 32)
 RESERVED_OPTION = make_packet(0, 0, [8, 8, 0, 8, 0, 8, 1, 14], b" " * 32)
 OTHER_SUBCODE = make_packet(0, 0, [8, 8, 1, 8, 0, 8, 1, 0], b" " * 32)
 NEXT_PAGE = make_packet(0, 0, [9, 8, 0, 8, 0, 8, 1, 0], b" " * 32)
@@ -296,6 +272,19 @@ ROW = make_numbered_row(22, b"Good evening.")
 TEXT, NO_TEXT = [HEADER, ROW, CLOSING], [HEADER, CLOSING]  # page transmissions
 # M/29: region 1, so that receivers above level 1 show other characters
 OTHER_SET = make_packet(0, 29, [0], b"") + encode_triplet(0x400) + encode_triplet(0) * 12
+TRANSMISSIONS = {
+    "text": TEXT, "blank": NO_TEXT, "other": [HEADER, make_numbered_row(21, b"No"), CLOSING],
+    "row 24": [HEADER, make_packet(0, 24, (), b"x" * 40), CLOSING], "no header": [CLOSING],
+    "not closed": [HEADER, ROW], "German text": [GERMAN_HEADER, ROW, CLOSING],
+    "reserved with #": [RESERVED_OPTION, make_numbered_row(22, b"#"), CLOSING],
+    "reserved": [RESERVED_OPTION, CLOSING], "sub-page 1": [OTHER_SUBCODE, ROW, CLOSING],
+    "character set": [OTHER_SET]}
+
+
+def read_transmissions(text: str) -> list[tuple[int, list[bytes]]]:
+    """Return the frames and packets of transmissions in a table, such as `0 text, 25 blank`."""
+    parts = (item.partition(" ") for item in text.split(", "))
+    return [(int(frame), TRANSMISSIONS[name]) for frame, _, name in parts]
 
 
 def schedule_random_programme(case: Case) -> str:
@@ -319,8 +308,8 @@ class WholeCalls(Case):
 
     def send(self, *transmissions: tuple[int, list[bytes]]) -> str:
         """Write PES packets with the given frames and Teletext packets. Return their path."""
-        return self.write("sent.pes", b"".join(make_pes_packet(TICKS * frame, item)
-                                               for frame, item in transmissions))
+        return self.write("sent.pes", join_pes_packets([
+            (TICKS * frame, item) for frame, item in transmissions]))
 
     def test_reads_back_random_programmes(self) -> None:
         for seed in range(4):
@@ -337,10 +326,10 @@ class WholeCalls(Case):
                 row["verdict"] == (NOT_CERTAIN if row["cut"] else CERTAIN) for row in rows), rows)
 
     def test_reports_the_source_of_the_times(self) -> None:
-        sent = [make_pes_packet(90_000 + TICKS * frame, [HEADER, *([ROW] * text), CLOSING])
-                for frame, text in ((0, 0), (25, 1), (50, 0))]
-        self.write("sent.pes", b"".join(sent))
-        self.write("sent.ts", add_pictures(b"".join(sent), 90_000).data)
+        sent = join_pes_packets([(90_000 + TICKS * frame, item) for frame, item in (
+            (0, NO_TEXT), (25, TEXT), (50, NO_TEXT))])
+        self.write("sent.pes", sent)
+        self.write("sent.ts", add_pictures(sent, 90_000).data)
         # The arguments, the source of the clock, the first in-cue, and the last frame
         for args, clock, begin, last in (
                 (("sent.pes",), "first_pes", "00:00:01:00", "00:00:02:00"),
@@ -375,55 +364,19 @@ class WholeCalls(Case):
                                            result["hints"]), (not cuts, []))
 
     def test_reports_why_the_subtitle_file_may_be_wrong(self) -> None:
-        other = [OTHER_OPTION, ROW, CLOSING]
-        jumping = [(100, TEXT), (125, NO_TEXT), (5, TEXT), (30, NO_TEXT)]
-        switching = [(25 * at, [HEADER if at % 2 else OTHER_SUBCODE, ROW, CLOSING])
-                     for at in range(8)]
-        row_24 = [(0, NO_TEXT), (25, [HEADER, make_packet(0, 24, (), b"x" * 40), CLOSING]),
-                  (50, NO_TEXT)]
-        reserved = [(0, [RESERVED_OPTION, make_numbered_row(22, b"#"), CLOSING]),
-                    (25, [RESERVED_OPTION, CLOSING])]
-        back = "time goes back, at 00:00:01:00, where the PTS of PES packet 2 is earlier than " \
-            "the last, so reading ends there. Read the rest with " \
-            f"{os.path.join(TOOLS, 'read')} sent.pes --page 888 --pes 2-"
-        # What is sent in which frames, the arguments, the status, and how the line begins
-        for name, frames, args, status, begin in (
-                ("two options", [(0, TEXT), (25, NO_TEXT), (50, other), (75, NO_TEXT)], (), 1,
-                 "refused 67"),
-                ("reserved bits", reserved, (), 0,
-                 "1 subtitle in 26 frames; not checked: no_video, losses, clock, option"),
-                ("reserved bits, --option", reserved, ("--option", "romanian"), 0,
-                 "1 subtitle in 26 frames; not checked: no_video, losses, clock"),
-                ("another --option", [(0, TEXT), (25, NO_TEXT)], ("--option", "german"), 2,
-                 "--option is german, but C12 to C14 of the headers of the page select english"),
-                ("no such page", [(0, TEXT)], ("--page", "889"), 2, "no header of the page"),
-                ("no header in a range", [(0, TEXT), (25, [CLOSING])], ("--pes", "1-1"), 2,
-                 "no header of the page can be read in this range"),
-                ("outside the day", [(0, TEXT)], ("--origin", "3600"), 2, "no header of the page "
-                 "has a time between 00:00:00:00 and 24:00:00:00 on this clock"),
-                ("row 24", row_24, (), 1, "not in the file, row 24 has text: xxx"),
-                ("PTS go back", jumping, (), 1, f"{back}3"),
-                ("PTS go back in a range", jumping, ("--pes", "0-2"), 1, f"{back}2"),
-                ("its first part", jumping, ("--pes", "0-1"), 0, ""),
-                ("its second part", jumping, ("--pes", "2-3"), 0, ""),
-                ("another character set", [(0, TEXT), (10, [OTHER_SET]), (25, NO_TEXT)], (), 1,
-                 "character set"),
-                ("sub-pages", [*switching, (250, NO_TEXT)], (), 1, "sub-pages"),
-                ("a missing repeat", [(0, TEXT), (300, NO_TEXT)], (), 1, "refused 73"),
-                ("allowed", [(0, TEXT), (300, NO_TEXT)], ("--every", "300"), 0, ""),
-                ("not closed", [(0, [HEADER, ROW]), (1, NO_TEXT)], (), 1, "refused 77"),
-                ("an unmade check", [(0, TEXT), (25, NO_TEXT)], ("--require", "clock"), 2,
-                 "required but not checked: clock")):
-            self.send(*frames)
-            call = self.read_pages("sent.pes", *args)
-            result = self.result(args[1] if "--page" in args else "888")
+        for row in read_vectors("reading-faults.tsv"):
+            self.send(*read_transmissions(row["sent"]))
+            call = self.read_pages("sent.pes", *row["options"].split())
+            result = self.result("889" if "--page 889" in row["options"] else "888")
             line = result["reason"] or result["line"].partition(": ")[2]
+            begin = row["begin"].replace("READ", os.path.join(TOOLS, "read"))
             has_begin = line == begin if "not checked" in begin else line.startswith(begin)
-            self.must(name, call.status == status == result["status"] and has_begin, call)
-            self.check(f"{name}: the option", (PHRASES[OPTION] in result["sentence"], any(
+            self.must(row["name"], call.status == int(row["status"]) == result["status"]
+                      and has_begin, call)
+            self.check(f"{row['name']}: the option", (PHRASES[OPTION] in result["sentence"], any(
                 "not checked: the characters of" in text for text in call.told)),
                 (line.endswith("option"),) * 2)
-            if frames is row_24:
+            if row["name"] == "row 24":
                 self.check("counts", [result["subtitles"], result["subtitle_counts"],
                                       result["reading"]["shown"]],
                            [[], {"judged": 0, "refused": 1}, 1])
@@ -487,8 +440,8 @@ class WholeCalls(Case):
         frames = {at: NO_TEXT for at in range(0, 300, 5)}
         frames |= {at: TEXT for at in (*range(20, 40, 5), *range(60, 100, 5), *range(150, 200, 5),
                                        *range(220, 240, 5))}
-        sent = b"".join(make_pes_packet(TICKS * at + 90_000, item)
-                        for at, item in sorted(frames.items()))
+        sent = join_pes_packets([
+            (TICKS * at + 90_000, item) for at, item in sorted(frames.items())])
         whole = make_stream_of_pids((0x101, sent))
         stream = [whole[at:at + 188] for at in range(0, len(whole), 188)]
         begins = [at for at, packet in enumerate(stream) if packet[1:3] == b"\x41\x01"]
@@ -622,10 +575,9 @@ class WrittenFiles(Case):
 class TwoRecordings(Case):
     """Calls of qc with --reference: two transport streams are compared with each other."""
 
-    def write_stream(self, name: str, frames: list[tuple[int, list[bytes]]], delay: int = 0) -> str:
-        """Write a stream with pictures, and transmissions `delay` frames later."""
-        sent = b"".join(make_pes_packet(TICKS * (frame + delay) + 90_000, item)
-                        for frame, item in frames)
+    def write_stream(self, name: str, frames: list[tuple[int, list[bytes]]]) -> str:
+        """Write a stream with pictures, and the transmissions in the given frames."""
+        sent = join_pes_packets([(TICKS * frame + 90_000, item) for frame, item in frames])
         return self.write(name, add_pictures(sent, 90_000).data)
 
     def compare(self, *args: str) -> tuple[int, str]:
@@ -638,40 +590,11 @@ class TwoRecordings(Case):
         return call.status, lines[-1].partition(":")[0] if lines else ""
 
     def test_compares_what_both_recordings_cover(self) -> None:
-        other = [HEADER, make_numbered_row(21, b"No"), CLOSING]
-        frames = [(0, NO_TEXT), (25, TEXT), (50, NO_TEXT), (75, other), (100, NO_TEXT), (125, TEXT),
-                  (150, NO_TEXT), (175, NO_TEXT)]
-        self.write_stream("a.ts", frames)
-        # What b.ts sends in which frames, by how many frames it is later, and the status
-        for name, sent, delay, status in (
-                ("more packets", sorted([*frames, (160, NO_TEXT)]), 0, 0), ("later", frames, 2, 1),
-                ("one subtitle later", [*frames[:3], (76, other), *frames[4:]], 0, 1),
-                ("one less", [*frames[:3], *frames[5:]], 0, 1),
-                ("one more", [*frames[:7], (160, TEXT), (175, NO_TEXT)], 0, 1),
-                ("another text", [*frames[:3], (75, TEXT), *frames[4:]], 0, 1),
-                ("a later end", [*frames, (200, TEXT), (225, NO_TEXT)], 0, 0),
-                ("an earlier end", frames[:5], 0, 0), ("an end in a subtitle", frames[:4], 0, 0),
-                ("another text at the end", [*frames[:3], (75, TEXT)], 0, 1),
-                ("an earlier beginning", [(-10, TEXT), *frames], 0, 0),
-                ("a later beginning", frames[1:], 0, 0),
-                ("nothing sent for a change at the end", [*frames[:3], (225, NO_TEXT)], 0, 1),
-                ("nothing sent for a change at the beginning", [(-10, NO_TEXT), *frames[4:]], 0, 1),
-                ("no text", [(0, NO_TEXT), (175, NO_TEXT)], 0, 1)):
-            self.write_stream("b.ts", sent, delay)
-            expected = (status, f"{SAME} as a.ts" if status == 0 else DIFFERS)
-            self.check(name, self.compare("a.ts", "b.ts", "--start", "10:00:00:00",
-                                          "--reference-start", "10:00:00:00"), expected)
-        self.write_stream("a.ts", [*frames[:6], (175, TEXT)])
-        self.write_stream("b.ts", [*frames[:6], (225, TEXT)])
-        self.check("nothing sent at the end", self.compare("a.ts", "b.ts", "--same-start"),
-                   (0, f"{SAME} as a.ts"))
-        self.write_stream("a.ts", [*frames[:6], (174, NO_TEXT), (175, NO_TEXT)])
-        self.write_stream("b.ts", [*frames[:6], (176, NO_TEXT)])
-        self.check("a change that --within allows after the end", self.compare(
-            "a.ts", "b.ts", "--same-start", "--within", "2"), (0, f"{SAME} as a.ts"))
-        self.write_stream("a.ts", frames)
-        self.write_stream("b.ts", frames, 2)
-        self.check("no clock", self.compare("a.ts", "b.ts"), (3, "relative, same as a.ts"))
+        for row in read_vectors("compared-recordings.tsv"):
+            for name in ("a.ts", "b.ts"):
+                self.write_stream(name, read_transmissions(row[name]))
+            self.check(row["name"], self.compare("a.ts", "b.ts", *row["arguments"].split()),
+                       (int(row["status"]), row["last line"]))
 
     def test_describes_by_how_much_later_the_pts_are_than_in_the_reference(self) -> None:
         self.check_rows(lambda ticks: ReferenceVerdict.describe_shift(
