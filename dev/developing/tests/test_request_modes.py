@@ -139,14 +139,6 @@ class Modes(Case):
         names = {name for action in make_parser("")._actions for name in action.option_strings}
         self.check("all options", set(OPTION_MODES), names - MODE_OPTIONS)
 
-    def test_finds_the_mode_of_a_call(self) -> None:
-        for mode, line in CALLS.items():
-            self.check(mode.text, find_mode(make_parser("").parse_args(line)), mode)
-        for line in (["--batch", "a", "--collect", "b"], ["--watch", "a", "--batch", "b"],
-                     ["--batch", "a", "b.stl"]):
-            with self.assertRaises(Stop):
-                find_mode(make_parser("").parse_args(line))
-
     def test_a_missing_recording_is_a_usage_error(self) -> None:
         """So a script with an unset variable does not pass."""
         for options in ("", "--strict", "--origin 0", "--profile house", "-o out"):
