@@ -9,8 +9,6 @@ import os
 import re
 import shlex
 import string
-import tempfile
-import unittest
 import xml.etree.ElementTree as tree
 from types import ModuleType
 from typing import Iterator, NamedTuple
@@ -163,7 +161,7 @@ class Modes(Case):
                            (air, subttx))
 
 
-class PartialCommandLines(unittest.TestCase):
+class PartialCommandLines(Case):
     """Wrong arguments, of which qc must understand enough to report them in the output files."""
 
     def test_finds_an_output_file_in_wrong_arguments(self) -> None:
@@ -187,20 +185,17 @@ class PartialCommandLines(unittest.TestCase):
 
     def test_writes_the_reason_into_each_new_file_but_into_no_foreign_file(self) -> None:
         """Each output is a new file, in a missing folder, or a file with other contents."""
-        with tempfile.TemporaryDirectory() as folder:
-            for at, kinds in enumerate(itertools.product(("new", "none", "other"), repeat=3)):
-                paths: dict[str, str | None] = {}
-                for option, kind in zip(main.MAKE_CONTENTS, kinds):
-                    path = os.path.join(folder, "none" * (kind == "none"), f"{at}{option}")
-                    paths[option] = path
-                    if kind == "other":
-                        with open(path, "w", encoding="ascii") as file:
-                            file.write("other")
-                main.write_unjudged("one", paths, Stop("the reason"))
-                for option, kind in zip(main.MAKE_CONTENTS, kinds):
-                    data = read(paths[option] or "") or ""
-                    self.assertEqual(("the reason" in data, data == "other"),
-                                     (kind == "new", kind == "other"), (kinds, option))
+        for at, kinds in enumerate(itertools.product(("new", "none", "other"), repeat=3)):
+            paths: dict[str, str | None] = {}
+            for option, kind in zip(main.MAKE_CONTENTS, kinds):
+                name = f"{at}{option}"
+                paths[option] = self.write(name, b"other") if kind == "other" else self.path(
+                    f"none/{name}" if kind == "none" else name)
+            main.write_unjudged("one", paths, Stop("the reason"))
+            for option, kind in zip(main.MAKE_CONTENTS, kinds):
+                data = read(paths[option] or "") or ""
+                self.check(f"{kinds} {option}", ("the reason" in data, data == "other"),
+                           (kind == "new", kind == "other"))
 
     def test_accepts_numbers_within_their_limits(self) -> None:
         for parse, good, bad in (
