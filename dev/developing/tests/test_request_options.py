@@ -10,12 +10,11 @@ from typing import Any
 
 from subtitles.common.command_line import (
     Lateness, Stop, ToolParser, format_lateness, parse_lateness)
-from subtitles.common.shapes import Flag, Text
 from subtitles.common.times import FRAMES_OF_A_DAY
 from subtitles.request.commands import CommandPaths, format_profile, make_command
 from subtitles.request.lines import read_pairs, read_profile, make_line_request
 from subtitles.request.request import (
-    ALONE, JUDGED, LINE, MEASURE, OPTIONS, Option, add_options, keep_stl, make_file_request)
+    ALONE, JUDGED, LINE, MEASURE, OPTIONS, add_options, keep_stl, make_file_request)
 from subtitles.results.schema import REQUEST
 from .bench import Case, get_example_path
 from .judged import judge_files
@@ -114,15 +113,6 @@ class OptionRows(Case):
                 "24:00:00:00", "00:00:00:25", "00:00:00", "10", "")):
             with self.assertRaises(Stop):
                 make_example_request("a.stl", "a.ts", option, time)
-
-    def test_omits_default_values(self) -> None:
-        number = Option("--n", "N", "", JUDGED, field="n", default=5, shape=Text())
-        flag = Option("--f", None, "", JUDGED, field="f", default=False, shape=Flag())
-        other = Option("--no-f", None, "", JUDGED, field="f", default=True, flag_value=False)
-        for item, value, words in ((number, 5, []), (number, None, []), (number, 0, ["--n", "0"]),
-                                   (flag, False, []), (flag, True, ["--f"]), (other, True, []),
-                                   (other, False, ["--no-f"])):
-            self.check(f"{item.name} {value}", item.format_arguments(value, item.default), words)
 
 
 STORY, RECORDING = get_example_path("story.stl"), get_example_path("recording.ts")
