@@ -74,6 +74,13 @@ def list_places(value: Any) -> Iterator[tuple[Any, Any]]:
         yield from list_places(value[key])
 
 
+def judge_story(case: Case, *args: str) -> dict[str, Any]:
+    """Judge a recording with faults, and return a result with values of all types."""
+    stl = case.write("story.stl", read_example_file("story.stl"))
+    pes = case.write("x.pes", read_example_file("five-faults.pes"))
+    return judge_files(case, stl, pes, *args).result
+
+
 class WrittenResults(Case):
     """JSON results of the story example, whose recording has faults, and their schema."""
 
@@ -87,7 +94,7 @@ class WrittenResults(Case):
         with mock.patch.multiple(ROWS_OF_FAULT, members=(*ROWS_OF_FAULT.members, row),
                                  shapes={**ROWS_OF_FAULT.shapes, "new": row.shape},
                                  needed={*ROWS_OF_FAULT.needed, "new"}):
-            result = self.judge()
+            result = judge_story(self)
             self.check("written", [fault["new"] for fault in result["faults"]], [3] * 4)
             new = schema()["definitions"]["fault"]["properties"]["new"]
             self.check("schema", (new["type"], new["minimum"], new["maximum"]), ("integer", 3, 3))
@@ -95,11 +102,6 @@ class WrittenResults(Case):
                 find_misfit(result), find_misfit(make_result(faults=[FAULT]))),
                 (None, ".faults[0].new"))
         self.check("not in the table", find_misfit(result), ".faults[0].new")
-
-    def judge(self) -> dict[str, Any]:
-        stl = self.write("story.stl", read_example_file("story.stl"))
-        return judge_files(self, stl,
-                           self.write("x.pes", read_example_file("five-faults.pes"))).result
 
     def require_validator(self) -> None:
         if make_validator() is None:
@@ -114,26 +116,26 @@ class WrittenResults(Case):
                        (fits, fits))
 
     def test_omits_and_counts_the_faults_that_exceed_their_maximum(self) -> None:
-        complete = self.judge()
+        complete = judge_story(self)
         self.must("nothing is omitted", not any(complete["omitted"].values()), complete["omitted"])
         faults = next(item for item in LISTS if item.name == "faults").shape
         for most in (0, 1, 3, 4):
             with mock.patch.object(faults, "most", most):
-                known = self.judge()
+                known = judge_story(self)
             self.check(f"at most {most}", (known["faults"], known["omitted"]), (
                 complete["faults"][:most], {**complete["omitted"], "faults": 4 - most}))
 
     def test_omits_the_items_of_all_lists_that_exceed_the_bytes(self) -> None:
-        complete = self.judge()
+        complete = judge_story(self)
         counts = {item.name: len(complete[item.name]) for item in LISTS}
         with mock.patch.object(files, "MAX_BYTES", 0):
-            known = self.judge()
+            known = judge_story(self)
         self.check("0 bytes", (known["omitted"], known["fault_count"]), (counts, 4))
         size = sum(len(json.dumps(item, ensure_ascii=False).encode()) for name in counts
                    for item in complete[name])
         for limit, omitted in ((size, 0), (size - 1, 1)):
             with mock.patch.object(files, "MAX_BYTES", limit):
-                self.check(f"{limit} bytes", self.judge()["omitted"]["subtitles"], omitted)
+                self.check(f"{limit} bytes", judge_story(self)["omitted"]["subtitles"], omitted)
 
     def test_rejects_a_status_or_request_that_contradicts_the_verdict(self) -> None:
         """`accepted` needs a clock, `valid` no recording, `relative` with status 0 --relative."""
@@ -168,19 +170,13 @@ class UntrustedResults(Case):
         chance, valid_count, validator = random.Random(SEED), 0, make_validator()
         if validator is None:
             self.skipTest("changed results, since there is no python3-jsonschema")
-        known = [self.known(), make_unjudged("one", "why", "input")]
+        known = [judge_story(self, "--every", "25"), make_unjudged("one", "why", "input")]
         for number in range(CHANGES):
             result = changed(known[number % 9 == 8], chance)
             is_valid = validator.is_valid(result)
             self.check(f"change {number}", find_misfit(result) is None, is_valid)
             valid_count += is_valid
         self.must("some of each", CHANGES // 20 < valid_count < CHANGES // 2, valid_count)
-
-    def known(self) -> dict[str, Any]:
-        """Judge a recording with faults, and return a result with values of all types."""
-        stl = self.write("story.stl", read_example_file("story.stl"))
-        ts = self.write("x.pes", read_example_file("five-faults.pes"))
-        return judge_files(self, stl, ts, "--every", "25").result
 
     def collect_all(self) -> list[dict[str, Any]]:
         """Read the results in `out` with --collect, --watch and --resume. Return the pairs."""
@@ -204,7 +200,7 @@ class UntrustedResults(Case):
 
     def test_lists_any_changed_result_by_its_name(self) -> None:
         """A result that is not valid any more is an unjudged pair with the name of its file."""
-        chance, known = random.Random(SEED + 1), self.known()
+        chance, known = random.Random(SEED + 1), judge_story(self, "--every", "25")
         os.mkdir(self.path("out"))
         for number in range(CHANGES // 2):
             result = changed(known, chance)
@@ -217,7 +213,7 @@ class UntrustedResults(Case):
             f"{number:03}" for number in range(CHANGES))} for pair in pairs))
 
     def test_refuses_deep_and_invalid_json(self) -> None:
-        self.known()  # writes the files to which the results are compared
+        judge_story(self, "--every", "25")  # writes the files to which the results are compared
         os.mkdir(self.path("out"))
         for number, (text, reason) in enumerate(TEXTS.items()):
             result = read_result(self.write(f"out/{number}.json", text)) or {}
@@ -236,7 +232,7 @@ class UntrustedResults(Case):
                            verdict)
 
     def test_each_list_of_a_result_is_limited(self) -> None:
-        known = self.known()
+        known = judge_story(self, "--every", "25")
         self.check("error, format", (find_misfit(known), known["format"]), (None, FORMAT))
         self.check("lists", {item.name for item in LISTS}, {
             item.name for item in VERDICT.members if isinstance(item.shape, ListOf)})
