@@ -13,19 +13,15 @@ from subtitles.common.program import TOP
 from subtitles.judging.causes import CAUSE_NAMES
 from subtitles.judging.status import ACCEPTED, NOT_JUDGED, STATUSES, VALID
 from subtitles.results.files import Row, make_row
-from subtitles.results.schema import FORMAT, LISTS
+from subtitles.results.schema import FORMAT, LISTS, REQUEST as REQUEST_MEMBERS
 from .bench import BENCH, Case
+from .parts import make_example_request
 
 SCHEMA = os.path.join(TOP, "docs", "verdict.schema.json")
 # Number of items validated at the start of a list. Of the later items, every 50th is validated.
 SAMPLED_ITEMS = 20
-REQUEST = {
-    "stl": "one.stl", "recording": "one.ts", "page": "888", "every": 250, "option": "english",
-    "origin": 0, "complete": True, "pid": None, "allow_lost": False, "severity": None, "breaks": 0,
-    "pes": None, "start": None, "relative": False, "within": 0, "strict": False,
-    "require": [], "from": None, "to": None, "layout": None, "open": False, "keeping": False,
-    "pace": None, "late": None,
-    "profile": None}
+REQUEST: dict[str, Any] = REQUEST_MEMBERS.to_json(
+    make_example_request("one.stl", "one.ts", "--origin", "0"))
 FAULT = {**dict.fromkeys((
     "block", "subtitle", "byte", "character", "text_offset", "pes", "pes_pts", "pes_time", "packet",
     "frame", "time", "row", "column", "expected", "decoded", "last_time", "last_pes", "cause")),
