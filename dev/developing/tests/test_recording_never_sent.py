@@ -6,7 +6,7 @@ import json
 import stat
 import subprocess
 from types import SimpleNamespace
-from typing import Any, Sequence
+from typing import Any, Mapping, Sequence
 from unittest import mock
 
 from developing.pes import decode_pts, make_pes_packet
@@ -149,19 +149,22 @@ class Announcements(Case):
         self.must("no PCR", not is_page_expected(None, subtitles, 0))
         self.must("no subtitle", not is_page_expected((0, CLOCK // 2), [], 0))
 
-    def find_refusal(self, lines: Sequence[str], words: Sequence[str], is_sent: bool) -> str:
-        """Return why a recording of 60 s with these lines of `survey` is refused, or "". A subtitle
-        is expected in frames 100 to 150. `is_sent` says whether some PID carries the page."""
-        survey = read_survey(*lines, "pcr 100 0", f"pcr 100 {60 * SECOND}")
-        request = make_example_request("a.stl", "a.ts", *words)
-        try:
-            if is_sent:
-                refuse_other_pid(request, survey, SECOND, 9 * SECOND)
-            else:
-                refuse_unsent_page(request, survey, [(100, 150)])
-        except NeverSent as reason:
-            return str(reason)
-        return ""
+    def check_refusals(self, rows: Mapping[str, tuple[list[str], list[str], bool]], is_sent: bool
+                       ) -> None:
+        """Check which recordings of 60 s are refused. The rows have lines of `survey`, arguments,
+        and whether the recording is refused. A subtitle is expected in frames 100 to 150. `is_sent`
+        says whether some PID carries the page."""
+        for name, (lines, words, is_refused) in rows.items():
+            survey, reason = read_survey(*lines, "pcr 100 0", f"pcr 100 {60 * SECOND}"), ""
+            request = make_example_request("a.stl", "a.ts", *words)
+            try:
+                if is_sent:
+                    refuse_other_pid(request, survey, SECOND, 9 * SECOND)
+                else:
+                    refuse_unsent_page(request, survey, [(100, 150)])
+            except NeverSent as refused:
+                reason = str(refused)
+            self.check(f"{name}: {reason}", bool(reason), is_refused)
 
     def test_refuses_a_page_that_is_sent_nowhere(self) -> None:
         first, second = make_pmt_lines(1, FIRST_PID), make_pmt_lines(1, SECOND_PID)
@@ -172,7 +175,7 @@ class Announcements(Case):
         # Its first picture has the PTS 90 s.
         picture = [f"stream {THIRD_PID} 2", f"video {THIRD_PID} 0",
                    f"picture {THIRD_PID} {90 * SECOND}"]
-        rows: dict[str, tuple[list[str], list[str], bool]] = {  # lines, arguments, is it refused
+        self.check_refusals({
             "announced on a PID without packets": (first, [], True),
             "announced on the given PID": (second, ["--pid", f"{SECOND_PID}"], True),
             "announced on another PID than the given one": (first, ["--pid", f"{SECOND_PID}"],
@@ -192,10 +195,7 @@ class Announcements(Case):
             "by --start, all subtitles are later": (
                 [*first, *picture], ["--start", "00:00:00:00"], False),
             "by --start, the first picture is after a subtitle": (
-                [*first, *picture], ["--start", "00:01:30:00"], True)}
-        for name, (lines, words, is_refused) in rows.items():
-            reason = self.find_refusal(lines, words, is_sent=False)
-            self.check(f"{name}: {reason}", bool(reason), is_refused)
+                [*first, *picture], ["--start", "00:01:30:00"], True)}, is_sent=False)
 
     def test_the_clock_is_unknown_if_the_subtitle_file_has_no_tcp(self) -> None:
         stl = self.write("none.stl", b" " * 1024)
@@ -207,16 +207,14 @@ class Announcements(Case):
     def test_refuses_a_page_that_is_sent_on_another_pid(self) -> None:
         sent = [f"pes {FIRST_PID} 0 1 {SECOND} 0 h/ 1 0"]
         second = make_pmt_lines(1, SECOND_PID)
-        rows: dict[str, tuple[list[str], list[str], bool]] = {
+        self.check_refusals({
             "announced on a PID without packets": ([*sent, *second], [], True),
             "announced on a PID with other Teletext": ([*sent, READ_SECOND[0], *second], [], True),
             "announced on a scrambled PID": ([*sent, *second, SCRAMBLED_SECOND], [], False),
             "one of the announced PIDs is scrambled": (
                 [*sent, *make_pmt_lines(1, SECOND_PID, THIRD_PID), SCRAMBLED_SECOND], [], False),
-            "the given PID sends it": ([*sent, *second], ["--pid", f"{FIRST_PID}"], False)}
-        for name, (lines, words, is_refused) in rows.items():
-            reason = self.find_refusal(lines, words, is_sent=True)
-            self.check(f"{name}: {reason}", bool(reason), is_refused)
+            "the given PID sends it": ([*sent, *second], ["--pid", f"{FIRST_PID}"], False)},
+            is_sent=True)
 
 
 class JudgedStreams(ProgrammeCase):
