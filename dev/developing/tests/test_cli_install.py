@@ -216,6 +216,11 @@ class Installation(Case):
         for name, sums in (folder, "SHA256SUMS"), (self.folder, f"{path}.sha256"):
             process = self.call(["sha256sum", "--quiet", "-c", sums], folder=name)
             self.check(f"checksums in {sums}", process, (0, b"", []))
+        names = re.findall(r"  (.+)", read(os.path.join(folder, "SHA256SUMS")) or "")
+        paths = {os.path.join(place, name) for place, _, files in os.walk(folder) for name in files}
+        self.check("files in the archive without a sum", {
+            os.path.relpath(item, folder) for item in paths if not os.path.islink(item)}
+            - {*names}, {"SHA256SUMS"})
         names = re.findall(r"  (.+)", read(f"{path}.sha256") or "")
         self.check("files with a sum beside the archive", names,
                    [os.path.basename(path), os.path.basename(f"{path}.PROVED")])

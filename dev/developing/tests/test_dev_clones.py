@@ -432,6 +432,14 @@ class ProvingClones(Case):
             "sub_check", "sub_answer", "sub_headline", "subttx"])
         self.check("all with --anew", sorted(clone.prove("--anew")), sorted(clone.crates))
 
+    def test_proves_a_crate_again_that_could_not_be_proved_anew(self) -> None:
+        clone = BareClone(self)
+        clone.prove()
+        clone.write_prover(fails="sub_answer")
+        clone.prove("--anew")
+        clone.write_prover()
+        self.check("proved again", clone.prove()[0], "sub_answer")
+
     def test_reports_a_source_that_changes_meanwhile(self) -> None:
         clone = BareClone(self, first=f"echo '// changed' >>'{self.path('clone')}/{SOURCE}'")
         process = clone.start()

@@ -18,16 +18,18 @@ from subtitles.common.command_line import Stop
 from subtitles.common.program import read, TOP
 from ..compiled import share_compiled
 from ..shown import find_commands, run_command
-from ..trial import RunResult
+from ..trial import RunResult, Trial
 from .bench import (
     BENCH, Bench, Case, CompletedCall, EXAMPLES, get_example_path, get_tool_path, import_script,
     read_example_file)
 from .failures import MAX_LINES_PRINTED
 from .programmes import wait_until
 from .runner import Counts
+from .stories import read_vectors
 from .test_dev_clones import list_omitted_names
 from .test_dev_gate import COUNT_CASES
 
+VECTORS = os.path.join(TOP, "dev", "vectors")
 GATE = os.path.join(TOP, ".ci", "run")
 # The stages of the gate in their order: the script, and the counts in its last line.
 STAGES = {"dev/edits": "1 passed, 0 failed", "dev/graph": "20 passed, 0 failed",
@@ -226,11 +228,24 @@ class Measurements(Case):
             options = ["--every", script.EVERY[kind], *["--within", "1"] * (kind == "late")]
             self.check(kind, self.program("check", stl, pes, *options)[1], [line])
 
-    def test_counts_the_instructions_for_one_more_frame(self) -> None:
-        script = self.import_from_bench("count")
-        with mock.patch.multiple(script, make=mock.Mock(), instructions=lambda _, words: (
-                250_000 if "-20000." in words[1] else 100_000)):  # frames in the names of files
-            self.check("instructions", script.counted("", "", "late")["check --within 2"], "15")
+    def test_counts_instructions_for_one_more_frame_and_memory_of_long_inputs(self) -> None:
+        script, make, record = self.import_from_bench("count"), mock.Mock(), mock.Mock()
+
+        def count_instructions(_: str, words: list[str]) -> int:
+            """Return 7 for each word and each frame, whose number is in the file's name."""
+            return 7 * len(words) * int(os.path.basename(words[1]).split("-")[1].split(".")[0])
+
+        with mock.patch.multiple(script, make=make, record=record,
+                                 instructions=count_instructions,
+                                 peak=lambda words: f"{len(words)} MB"), \
+                contextlib.redirect_stdout(io.StringIO()) as out:
+            script.main(["-p", "/bin/true", "late", "mixed", "many"])
+        self.check("output", out.getvalue(), read(os.path.join(VECTORS, "bench-count.txt")))
+        self.check("inputs", sorted(call.args[1:3] for call in make.mock_calls), [
+            ("late", 10000), ("late", 20000), ("many", 2000), ("many", 4000), ("many", 99999),
+            ("service", 500), ("service", 1000)])
+        self.check("sizes of frames", [call.args[2] for call in record.mock_calls],
+                   [script.MIXED] * 2)
 
     def test_measures_the_processor_time_of_the_program_and_of_the_system_for_it(self) -> None:
         script = self.import_from_bench("run")
@@ -255,7 +270,8 @@ class Measurements(Case):
         # Percent of the time, seconds, µs for each call, calls, failed calls, name
         self.write_program("strace", "#!/bin/sh\necho ' 60 0.1 5 12 read\n 40 0.1 5 3 1 write\n"
                                      "100 0.2 5 15 1 total' >$3\n")
-        kibibytes = self.write_program("time", "#!/bin/sh\necho 7000 >$4\n")
+        kibibytes = self.write_program("time", "#!/bin/sh\necho 'Command exited with non-zero "
+                                               "status 1' >$4\necho 7000 >>$4\nexit 1\n")
         with mock.patch.object(script, "least", milliseconds), \
                 mock.patch.object(sys.modules["memory"], "GNU_TIME", kibibytes), \
                 mock.patch.dict(os.environ, {"PATH": f"{self.folder}:{os.environ['PATH']}"}), \
@@ -275,8 +291,21 @@ PIPED_TOOLS = {"qc": ([get_example_path("story.stl"), "-"], "story.pes", 3),
 class Signals(Case):
     def test_a_hangup_ends_a_tool_with_status_2_unless_nohup_ignores_it(self) -> None:
         """The tool has read a part of the pipe."""
+        self.check_signal(signal.SIGHUP, ["trap '' HUP; ", ""])
+
+    def test_an_interrupt_ends_a_tool_with_status_2(self) -> None:
+        self.check_signal(signal.SIGINT, [""])
+
+    def test_a_request_to_terminate_ends_a_tool_with_status_2(self) -> None:
+        self.check_signal(signal.SIGTERM, [""])
+
+    def check_signal(self, number: int, setups: list[str]) -> None:
+        """Check the status of each tool if a signal comes when it has read a part of a pipe. Before
+        the call the shell runs a setup, which lets the tool ignore the signal unless it is empty.
+        """
         for name, (words, sent, usual_status) in PIPED_TOOLS.items():
-            for setup, status in (("trap '' HUP; ", usual_status), ("", 2)):
+            for setup in setups:
+                status = usual_status if setup else 2
                 shutil.rmtree(self.path("temporary"), ignore_errors=True)
                 os.mkdir(self.path("temporary"))
                 command = f'{setup}TMPDIR=temporary exec "$@" >output 2>&1'
@@ -287,7 +316,7 @@ class Signals(Case):
                     process.stdin.flush()
                     self.must(f"{name}: begins", wait_until(lambda: any(
                         files for _, _, files in os.walk(self.path("temporary")))))
-                    process.send_signal(signal.SIGHUP)
+                    process.send_signal(number)
                     process.stdin.close()
                 self.check(f"{setup}{name}: status", process.returncode, status)
 
@@ -319,6 +348,21 @@ class FailedChecks(Case):
             self.check(f"{name}: {last}", (process.status, last.endswith(", 0 failed")),
                        (1, False))
 
+    def test_faults_finds_each_faulty_program(self) -> None:
+        script = import_script("faults")
+        for number, row in enumerate(read_vectors("faulty-programs.tsv")):
+            os.makedirs(self.path(f"{number}"))
+            right = shutil.copy(self.bench.program, self.path(f"{number}/right"))
+            trial = Trial(self.path(f"{number}/program"), self.path(f"{number}"))
+            shutil.copy(right, trial.program)
+            script.prepare(trial)
+            command = row["command"].replace("PROGRAM", right)
+            self.write_program(f"{number}/program", f"#!/bin/sh\n{command}\n")
+            faults = [case[2] for task in script.GROUPS[row["group"]](trial) for case in task()]
+            self.check(f"{row['group']}: failed cases, all cases",
+                       (sum(map(bool, faults)), len(faults)), (int(row["failed"]),
+                                                               int(row["cases"])))
+
     def test_check_readme_accepts_only_commands_with_the_status_of_a_verdict(self) -> None:
         for status in (0, 1, 2, 3, 64, 70):
             steps = import_script("check-readme").CloneCommands(self.folder)
@@ -334,9 +378,14 @@ class FailedChecks(Case):
         self.check("passed, failed", (steps.passed, steps.failed), (1, 3))
 
     def test_check_survey_compares_the_status_as_the_last_line(self) -> None:
-        program = self.write_program("other", "#!/bin/sh\nexit 3\n")
         script = import_script("check-survey")
-        self.check("lines", script.printed(program, make_random_recording(1)), ["status 3"])
+        for command, lines in (("exit 0", []), ("exit 3", ["status 3"]),
+                               ("kill -9 $$", ["status -9"])):
+            program = self.write_program("other", f"#!/bin/sh\n{command}\n")
+            self.check(command, script.printed(program, make_random_recording(1)), lines)
+
+    def test_check_survey_compares_a_line_for_each_pes_packet(self) -> None:
+        script = import_script("check-survey")
         self.check("a line for each of two PES packets", script.without_runs(
             ["pes 9 4 2 8589931000 3600 a", "pid 9"]), [
                 "pid 9", "9 4 8589931000 a", "9 5 8 a"])
@@ -418,6 +467,26 @@ class CheckStatuses(Case):
                 status, printed = self.call_main(script, ["-p", "/bin/true", *words.split()],
                                                  **replace_check(name, script, faults))
                 self.check(f"{name} {faults}", (status, printed[-1]), (count, line))
+
+    def test_check_every_place_keeps_each_file_of_a_failed_case(self) -> None:
+        script = import_script("check-every-place")
+        result = script.CheckResult("pair 7", ["wrong"], (b"stl", b"pes"), 1)
+        with contextlib.redirect_stdout(io.StringIO()):
+            script.report(result, self.path("kept"), False)
+        self.check("files", {name: self.read(f"kept/{name}") for name in
+                             os.listdir(self.path("kept"))},
+                   {"pair-7.0": b"stl", "pair-7.1": b"pes"})
+
+    def test_plant_runs_the_quick_tests_of_the_function_or_else_of_the_module(self) -> None:
+        script = import_script("plant")
+        planting = script.Planting([], "", mock.Mock(quick=5))
+        calls = {"a": (3, ["one.py:f", "two.py:g"]), "b": (1, ["one.py:f", "one.py:h"]),
+                 "c": (9, ["one.py:f"]), "d": (0, ["two.py:g"]), "e": (2, ["one.py:C.h"])}
+        planting.calls = {name: {"seconds": seconds, "calls": functions}
+                          for name, (seconds, functions) in calls.items()}
+        for function, tests in (("f", ["b", "a"]), ("h", ["b"]), ("C.h", ["e"]),
+                                ("f.<lambda>", ["b", "a"]), (script.MODULE, ["b", "e", "a"])):
+            self.check(function, planting.list_tests("one.py", function), tests)
 
     def test_check_manual_counts_each_unknown_name_and_wrong_number_in_documents(self) -> None:
         status, lines = self.call_main(
@@ -505,9 +574,6 @@ class ReleasedArchives(Case):
             self.write("PROVED", format_proved(
                 ProvedProgram(None, None, None, CRATE_LINES)).encode())
             self.check("all crates", dist.find_proved_program()[0], program)
-
-
-VECTORS = os.path.join(TOP, "dev", "vectors")
 
 
 class SmallRepository(Case):
