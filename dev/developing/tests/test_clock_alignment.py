@@ -8,9 +8,9 @@ from typing import Callable, Sequence
 
 from developing.multiplex import Multiplex, TENTH_TICKS
 from subtitles.clock.alignment import (
-    Drift, EarlyCues, ExpectedCue, ExpectedSubtitle, MAX_ERASED_FRAMES, MIN_TEXTS, MatchedChange,
-    RARE_SHARE, TimeBase, UNSEEN_SHARE, choose_clock, find_drift, find_expected_cues, find_repeat,
-    find_time_bases, find_usual_delay)
+    Drift, EarlyCues, ExpectedCue, ExpectedSubtitle, MAX_ERASED_FRAMES, MatchedChange, RARE_SHARE,
+    UNSEEN_SHARE, choose_clock, find_drift, find_expected_cues, find_repeat, find_time_bases,
+    find_usual_delay)
 from subtitles.clock.origin import OriginEstimate, OriginSearch, store_first_part
 from subtitles.clock.start import Clock, RECORDING, TimedPart
 from subtitles.clock.stretches import (
@@ -19,12 +19,11 @@ from subtitles.common.command_line import Lateness, parse_lateness
 from subtitles.common.times import CLOCK, FRAMES_OF_A_DAY, Span, TICKS
 from subtitles.judging.part import belongs_to_part, find_lost_spans, find_recorded_span
 from subtitles.stream.gaps import LossPlace
-from subtitles.stream.packets import Packets, PageChange
+from subtitles.stream.packets import Packets
 from .bench import Case
 from .parts import make_part
-from .test_clock_tables import make_sent_packets
-
-ROWS = {b"": (), b"text": ((20, b"text"),), b"other": ((20, b"other"),)}  # of a page with this text
+from .stories import read_vectors
+from .test_clock_tables import changes_at, make_sent_packets, make_time_base
 
 
 class Edges(Case):
@@ -47,8 +46,8 @@ class RepeatedPages(Case):
 
             Changes are given by frame and text; the page is erased for up to `max_erased` frames.
             """
-            return find_repeat([PageChange((origin + frame * TICKS) % CLOCK, text, at, ROWS[text])
-                                for at, (frame, text) in enumerate(changes)], first, max_erased)
+            return find_repeat(changes_at([(frame * TICKS, text) for frame, text in changes],
+                                          origin), first, max_erased)
 
         text, erased, other = b"text", b"", b"other"
         for origin in (0, *(CLOCK - frames * TICKS for frames in (1, 2, 5, 100))):
@@ -67,9 +66,8 @@ class RepeatedPages(Case):
             cues = find_expected_cues([ExpectedSubtitle(100, 130, 1, b"text"),
                                        ExpectedSubtitle(130 + pause, 160, 1, b"text")])
             frames = [100, 110, 110 + erased, 130, 130 + pause, 160]
-            changes = [PageChange(TICKS * frame, text, at, ROWS[text])
-                       for at, (frame, text) in enumerate(zip(frames, (b"text", b"") * 3))]
-            base = TimeBase(cues, changes, 0, 1000 * TICKS, (0, 5), 0)
+            base = make_time_base(cues, [(TICKS * frame, text) for frame, text in zip(
+                frames, (b"text", b"") * 3)], 1000)
             if erased <= min(MAX_ERASED_FRAMES, pause - 1):
                 del frames[1:3]
             self.check(f"{pause} {erased}", [*base.changes], frames)
@@ -103,15 +101,12 @@ def does_first_part_agree(origin: OriginEstimate) -> bool:
     return origin.status == 0 and any(part.matches == part.total for part in origin.parts[:1])
 
 
-def make_random_cues(chance: random.Random, count: int) -> list[ExpectedSubtitle]:
-    frame, result = chance.randrange(FRAMES_OF_A_DAY // 2), []
+def make_random_subtitles(chance: random.Random, count: int) -> list[ExpectedSubtitle]:
+    end, result = chance.randrange(FRAMES_OF_A_DAY // 2), []
     for number in range(count):
-        frame += chance.choice((0, MAX_ERASED_FRAMES + 1,
-                                chance.randrange(MAX_ERASED_FRAMES + 1, 200)))
-        end = frame + chance.randrange(12, 150)
-        text = b"text %d" % (number if chance.random() < 0.9 else 0)
-        result.append(ExpectedSubtitle(frame, end, (number, text), text))
-        frame = end
+        begin = end + chance.choice((30, 36, chance.randrange(36, 230)))
+        end = begin + chance.randrange(12, 150)
+        result.append(ExpectedSubtitle(begin, end, number, b"text %d" % number))
     return result
 
 
@@ -154,8 +149,7 @@ class EstimatedClocks(Case):
         frames = [100 * at + at * at for at in range(1, len(delays) + 1)]
         cues = [ExpectedCue(frame, b"%d" % at, True) for at, frame in enumerate(frames)]
         sent = [(TICKS * (cue.frame + by), cue.letters) for cue, by in zip(cues, delays)]
-        base = find_time_bases([], make_sent_packets(sent), within)[0]
-        base = base.copy_between(cues, -1, 1 << 40)
+        base = make_time_base(cues, sent, within=within)
         fit = base.fit(base.fits[0].start)
         best, early = choose_clock(base, fit, shares)
         return fit.start - best.start, early
@@ -201,9 +195,7 @@ class EstimatedClocks(Case):
     def test_accepts_correct_inserters_or_reports_rare_cues_as_early(self) -> None:
         for (name, (within, inserter)), seed in itertools.product(INSERTERS.items(), range(6)):
             chance = random.Random(seed)
-            subtitles = [item._replace(letters=b"text %d" % at, begin=item.begin + 30 * at,
-                                       end=item.end + 30 * at)
-                         for at, item in enumerate(make_random_cues(chance, (12, 40)[seed % 2]))]
+            subtitles = make_random_subtitles(chance, (12, 40)[seed % 2])
             packets = make_sent_packets([
                 (TICKS * (cue.frame + inserter(chance, cue.is_begin)), cue.letters)
                 for cue in find_expected_cues(subtitles)])
@@ -224,28 +216,9 @@ class Drifts(Case):
             100 * at + by: MatchedChange(0, b"%d" % at, 0) for at, by in enumerate(delays)})
 
     def test_finds_only_a_steady_drift(self) -> None:
-        steady = [at // 3 for at in range(12)]
-        self.check_rows(self.drift, {
-            "a frame later after three texts": ((steady,), Drift(0, 1100, 3)),
-            "a frame earlier after three texts": (([-by for by in steady],), Drift(0, 1100, -3)),
-            "a frame later after four texts": (([at // 4 for at in range(12)],),
-                                               Drift(0, 1100, 2)),
-            "four frames later after each text": (([*range(0, 48, 4)],), Drift(0, 1100, 44)),
-            "one text is far too late": (([*steady[:5], 30, *steady[6:]],), Drift(0, 1100, 3)),
-            "one text is far too early": (([*steady[:5], -30, *steady[6:]],), Drift(0, 1100, 3)),
-            "two texts are far too late": (([*steady[:5], 30, 40, *steady[7:]],), None),
-            "no delay": (([0] * 12,), None), "one delay": (([7] * 12,), None),
-            "the second half is a frame late": (([0] * 6 + [1] * 6,), None),
-            "the second half is two frames late": (([0] * 6 + [2] * 6,), None),
-            "the second half is three frames late": (([0] * 6 + [3] * 6,), None),
-            "the last quarter is late": (([0] * 9 + [3] * 3,), None),
-            "three delays in turn": (([0, 1, 2] * 4,), None),
-            "two delays in turn": (([0, 2] * 6,), None),
-            "two texts late, then two on time": (([0, 0, 2, 2] * 3,), None),
-            "just enough texts": (([2 * at for at in range(MIN_TEXTS)],), Drift(0, 500, 10)),
-            "too few texts": (([2 * at for at in range(MIN_TEXTS - 1)],), None),
-            "no text": (([],), None),
-            "two jumps of five seconds": (([0] * 4 + [130] * 4 + [260] * 4,), None)})
+        for row in read_vectors("drifts.tsv"):
+            drift = Drift(*map(int, row["drift"].split())) if row["drift"] else None
+            self.check(row["name"], self.drift([*map(int, row["delays"].split())]), drift)
 
     def test_measures_a_drift_by_texts_that_are_sent_once(self) -> None:
         # The expected texts. Texts 0 to 11 are sent, each second one a frame later.
@@ -278,9 +251,8 @@ class RepeatedProgrammes(Case):
             "one frame": (([5],), False), "no frame": (([],), True)})
 
     def test_half_of_the_cues_make_a_repeat(self) -> None:
-        base = find_time_bases([], make_sent_packets([(0, b"a")]), 0)[0]
-        base = base.copy_between([ExpectedCue(at, b"%d" % at if at % 2 == 0 else b"", at % 2 == 0)
-                                  for at in range(40)], -1, 1)
+        base = make_time_base([ExpectedCue(at, b"%d" % at if at % 2 == 0 else b"", at % 2 == 0)
+                               for at in range(40)], [])
         quarter = (0, 4, 8, 16, 20)  # a quarter of the texts, over half of the programme
         # The arguments are the cues that match in the first airing, and those that match again.
         # Even cues have a text; odd cues erase it.
@@ -309,30 +281,15 @@ def shift_pts(pts: int, shift: int) -> int:
 
 
 class LossesInParts(unittest.TestCase):
-    # Frames before and after a loss (`None`: unknown), ticks that are added to their PTS, and
-    # whether the loss affects a part that lasts from frame 100 to frame 200
-    PLACES: dict[str, tuple[int | None, int | None, int, bool]] = {
-        "before it": (90, 99, 0, False), "up to its first frame": (90, 100, 0, False),
-        "up to its second frame": (90, 101, 0, True), "at its beginning": (99, 150, 0, True),
-        "within it": (120, 130, 0, True), "at its end": (199, 250, 0, True),
-        "from its last frame on": (200, 210, 0, False), "after it": (201, 210, 0, False),
-        "all of it": (50, 300, 0, True),
-        "from no known frame up to its first": (None, 100, 0, False),
-        "from no known frame up to its second": (None, 101, 0, True),
-        "from its last frame but one on": (199, None, 0, True),
-        "from its last frame up to no known frame": (200, None, 0, False),
-        "between no known frames": (None, None, 0, True),
-        "a tick into its first frame": (90, 100, 1, True),
-        "a tick before its last frame": (200, 210, -1, True)}
-
     def test_finds_the_losses_that_affect_a_part(self) -> None:
-        for shift, name in itertools.product(SHIFTS, self.PLACES):
-            *frames, more, wanted = self.PLACES[name]
-            before, after = (None if frame is None else shift_pts(TICKS * frame + more, shift)
-                             for frame in frames)
-            with self.subTest(name, shift=shift):
+        for row, shift in itertools.product([*read_vectors("losses-in-parts.tsv")], SHIFTS):
+            before, after = (None if frame == "unknown" else shift_pts(
+                TICKS * int(frame) + int(row["ticks"]), shift) for frame in (
+                    row["before"], row["after"]))
+            with self.subTest(row["name"], shift=shift):
                 place = LossPlace(before, after, lost=1)
-                self.assertEqual(belongs_to_part(place, make_part(100, 200, shift)), wanted)
+                self.assertEqual(belongs_to_part(place, make_part(100, 200, shift)),
+                                 row["affects"] == "yes")
 
     def test_finds_losses_in_a_part_of_many_hours(self) -> None:
         hour = 90_000
