@@ -9,19 +9,18 @@ from typing import Any, Sequence
 from developing.pes import decode_pts, get_data_field, get_teletext_packets, make_pes_packet
 from developing.stl import make_box_line
 from subtitles.clock.alignment import (
-    ExpectedCue, ExpectedSubtitle, TimeBase, count_delays, find_expected_cues, find_time_bases)
+    ExpectedCue, ExpectedSubtitle, TimeBase, count_delays, find_expected_cues)
 from subtitles.clock.origin import (
     OriginEstimate, OriginSearch, estimate_origin, read_subtitles_between)
 from subtitles.clock.stretches import Stretch, Track, find_best_stretches, find_stretches
 from subtitles.common.command_line import Lateness, Stop
 from subtitles.common.times import ALL_DAY, CLOCK, FrameRange, TICKS
-from subtitles.stream.packets import PageChange
 from .bench import Case
 from .parts import make_example_request, survey_packets
 from .transmissions import (
     CLOSING, HEADER, ShownSubtitle, make_numbered_row, schedule_pes, write_programme,
     write_subtitle_file)
-from .test_clock_tables import EACH, make_sent_packets
+from .test_clock_tables import EACH, make_sent_packets, make_time_base
 
 FIRST_TCI, COUNT = 1_000_000, 12  # first TCI in frames; number of subtitles
 
@@ -172,11 +171,8 @@ class Tracks(Case):
 
     def base(self, changes: dict[int, bytes], within: int = 0) -> TimeBase:
         """Return a time base of 1000 frames with page changes to these texts, by frame."""
-        return TimeBase(self.cues, self.list_changes(changes), 0, 1000 * TICKS, (0, 999), within)
-
-    def list_changes(self, changes: dict[int, bytes]) -> list[PageChange]:
-        return [PageChange(TICKS * frame, letters, frame, ((20, letters),))
-                for frame, letters in sorted(changes.items())]
+        return make_time_base(self.cues, [(TICKS * frame, letters) for frame, letters
+                                          in sorted(changes.items())], 1000, within)
 
     def test_gives_a_text_more_points_than_an_erased_page(self) -> None:
         # In frame 200 another text is sent, in 250 the page is not erased, and the text of frame
@@ -194,11 +190,11 @@ class Tracks(Case):
 
     def test_two_equal_texts_outweigh_many_equal_times(self) -> None:
         cues = [ExpectedCue(1000 * at, b"%d" % at, True) for at in range(4)]
-        others = {frame + cue.frame: b"other %d" % frame for frame in range(100, 250, 2)
-                  for cue in cues}
+        others = [(TICKS * (frame + cue.frame), b"other %d" % frame)
+                  for cue in cues for frame in range(100, 250, 2)]
         for within in (0, 1):
-            sent = {**others, 51: b"0", 1051 + within: b"1"}
-            base = TimeBase(cues, self.list_changes(sent), 0, 9000 * TICKS, (0, 9000), within)
+            sent = sorted([*others, (TICKS * 51, b"0"), (TICKS * (1051 + within), b"1")])
+            base = make_time_base(cues, sent, 9000, within)
             self.assertEqual((base.fits[0].start, base.fits[0].matches), (-51, 2), within)
 
     def test_needs_five_cues_in_a_row_for_a_track(self) -> None:
@@ -304,8 +300,7 @@ class Delays(unittest.TestCase):
                             not is_end) for at in range(len(late)) for is_end in (False, True)]
         sent = [(TICKS * (cue.frame + by), cue.letters)
                 for cue, by in zip(cues, itertools.chain(*late)) if by is not None]
-        base = find_time_bases([], make_sent_packets(sent), within=3)[0]
-        base = base.copy_between(cues, -1, 1 << 40)
+        base = make_time_base(cues, sent, within=3)
         self.assertEqual(count_delays(base, base.compare(0)), (
             Counter({2: 3, 0: 1, 1: 1}), Counter({0: 3, 1: 1, 2: 1})))
 
