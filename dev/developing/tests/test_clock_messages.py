@@ -6,7 +6,7 @@ import unittest
 from types import SimpleNamespace
 from typing import Any, Sequence
 
-from subtitles.clock.alignment import CueOffset, EarlyCues
+from subtitles.clock.alignment import CueOffset, EarlyCues, OriginFit
 from subtitles.clock.origin import (
     OriginEstimate, OriginSearch, compare_with_known_origin, describe_mismatch, format_breaks,
     format_part, report_sent_pages, shift_lines, store_parts)
@@ -20,6 +20,7 @@ from subtitles.stream.packets import GapMarker, PacketRun, Packets, PageChange
 from subtitles.stream.survey import Survey
 from .streams import HEVC, H_264, MPEG_2
 from .parts import make_example_request, read_survey
+from .test_formats_files import refusal
 
 ORIGIN = CLOCK - 5 * TICKS
 
@@ -30,23 +31,19 @@ def make_part_at(frames: int, begin: int = 0, base: int = 0) -> Any:
 
 
 class OriginLines(unittest.TestCase):
-    def part(self, matches: int, total: int, content_matches: int, cues: int = 20, **more: Any
-             ) -> Any:
+    def part(self, matches: int, total: int, content_matches: int, cues: int = 20,
+             others: Sequence[OriginFit] = (), within: int = 0, early: EarlyCues | None = None,
+             cue_offset: CueOffset | None = None, **more: Any) -> Any:
         """Return a part whose best origin is 9, with `matches` of `total` cues.
 
         `content_matches` of them match the expected page. `more` has other members of the best
-        origin, and `others` (other origins), `within`, `early` and `cue_offset`.
+        origin.
         """
-        best: dict[str, Any] = {"matches": matches, "total": total, "origin": 9, "start": 0,
-                                "content_matches": content_matches, "exact_matches": matches,
-                                "first_unmatched": None, "delays": [0]}
-        best.update({name: more.pop(name) for name in list(more) if name in best})
-        fit = SimpleNamespace(**best, score=lambda is_one=True: best["matches"])
-        base = SimpleNamespace(cues=[None] * cues, within=more.get("within", 0),
-                               find_cue_offset=lambda _: more.get("cue_offset"))
-        return SimpleNamespace(best=fit, others=more.get("others", []), time_base=base,
-                               early=more.get("early"), origin=9, begin=0, end=50, base=0,
-                               overlapping=[])
+        best = OriginFit(9, matches, content_matches, 0, matches, total, None, None, 0, [0])
+        base = SimpleNamespace(cues=[None] * cues, within=within,
+                               find_cue_offset=lambda _: cue_offset)
+        return SimpleNamespace(best=best._replace(**more), others=others, time_base=base,
+                               early=early, origin=9, begin=0, end=50, base=0, overlapping=[])
 
     def store(self, parts: Sequence[Any], bases: Sequence[Any] = (), **options: Any
               ) -> OriginEstimate:
@@ -64,8 +61,7 @@ class OriginLines(unittest.TestCase):
         next_best = "the next best is --origin 0 with 9 cues"
         ambiguous = "ambiguous: --origin 9 fits no better than --origin 0, --origin 1, " \
             "--origin 2, --origin 3, --origin 4"
-        other = [SimpleNamespace(origin=at, matches=9, start=900, text_matches=1,
-                                 score=lambda is_one=True: 9) for at in range(7)]
+        other = [OriginFit(at, 9, 9, 1, 9, 9, None, None, 900) for at in range(7)]
         begins, ends = CueOffset(True, 2, 5, 5), CueOffset(False, -1, 4, 5)
         late: dict[str, Any] = {"within": 3, "delays": [0]}
         rows: dict[str, tuple[Any, list[str]]] = {
@@ -446,11 +442,7 @@ class FirstPictures(unittest.TestCase):
                      f"steps {VIDEO} {TICKS} {number - 5} {11 * TICKS} {number}",
                      f"steps {VIDEO} {TICKS} 40 {TICKS} 40",
                      *(f"lead {TELETEXT} {at} 0 {VIDEO} {at}" for at in (30, 500))]
-            reason = ""
-            try:
-                self.start(lines, [7 * TICKS])
-            except NoFirstPicture as error:
-                reason = str(error)
+            reason = refusal(lambda: self.start(lines, [7 * TICKS]), NoFirstPicture)
             self.assertEqual(reason, "the decoding times of PID 0x200 jump before the first PES "
                              "packet of PID 0x101" if is_refused else "", (skipped, number))
 
