@@ -11,12 +11,13 @@ from unittest import mock
 from developing import pes
 from developing.stl import encode_time_code, make_gsi_block, make_tti_block
 from subtitles.common import times
-from subtitles.common.command_line import decode_page, Stop
+from subtitles.common.command_line import Stop
 from subtitles.common.files import DamagedFile
 from subtitles.formats import listing, stl, teletext
 from subtitles.formats.stl import read_titles, Subtitle, SubtitleFile, SubtitleList
 from subtitles.formats.teletext import decode_text
 from .bench import Case
+from .stories import read_vectors
 from .transmissions import CLOSING, HEADER, make_numbered_row
 
 GSI = 1024
@@ -36,44 +37,19 @@ class Blocks(unittest.TestCase):
                               group)
 
     def test_joins_blocks_into_subtitles(self) -> None:
-        last, user, incomplete = 255, 254, "begins a subtitle, but the one before is incomplete"
-        # TTI blocks with SN, EBN and CF, the numbers and texts of the subtitles, and the message
-        rows: dict[str, tuple[list[tuple[int, int, int]], list[tuple[int, bytes]], str]] = {
-            "no block": ([], [], ""), "one block": ([(1, last, 0)], [(1, b"1")], ""),
-            "a subtitle in each block": ([(1, last, 0), (2, last, 0), (511, last, 0)],
-                                         [(1, b"1"), (2, b"2"), (511, b"511")], ""),
-            "two blocks of one": ([(1, 0, 0), (1, last, 0), (2, last, 0)],
-                                  [(1, b"11"), (2, b"2")], ""),
-            "the greatest EBN": ([(1, 0, 0), (1, 1, 0), (1, 0xEF, 0), (1, last, 0)],
-                                 [(1, b"1111")], ""),
-            "user data and a comment around": (
-                [(9, user, 0), (1, 0, 0), (9, user, 0), (1, last, 0), (9, last, 1)],
-                [(1, b"11")], ""),
-            "an incomplete comment": ([(9, 0, 1), (9, user, 1), (1, last, 0)], [(1, b"1")], ""),
-            "CF 2 is no comment": ([(1, last, 2)], [(1, b"1")], ""),
-            "the least reserved EBN": (
-                [(1, 0xF0, 0)], [], "block 1 has the reserved extension block number F0"),
-            "the greatest reserved EBN": (
-                [(1, last, 0), (2, 0xFD, 0)], [(1, b"1")],
-                "block 2 has the reserved extension block number FD"),
-            "another SN before the last block": ([(1, 0, 0), (2, last, 0)], [],
-                                                 f"block 2 {incomplete}"),
-            "an SN with the same low byte": ([(1, 0, 0), (257, last, 0)], [],
-                                             f"block 2 {incomplete}"),
-            "the file ends before it": ([(1, last, 0), (2, 0, 0)], [(1, b"1")],
-                                        "the subtitle of block 2 has no last block"),
-            "user data is no last block": ([(1, 0, 0), (9, user, 0)], [],
-                                           "the subtitle of block 2 has no last block")}
-        for name, (blocks, expected, words) in rows.items():
-            data = make_gsi_block(b"", 0, 0) + b"".join(self.block(*item) for item in blocks)
+        for row in read_vectors("tti-blocks.tsv"):
+            blocks, words = [item.split("/") for item in row["blocks"].split()], row["message"]
+            data = make_gsi_block(b"", 0, 0) + b"".join(self.block(
+                int(number), int(ebn, 16), int(comment)) for number, ebn, comment in blocks)
             cut = f"block {len(blocks) + 1} is incomplete"
             for rest, reason in ((b"", words), (b"x" * 127, words if words and
                                                 "no last" not in words else cut)):
                 result: list[stl.StoredSubtitle] = []
                 message = refusal(lambda: result.extend(stl.read_stored_subtitles(data + rest)),
                                   DamagedFile)
-                self.assertEqual(([(item.number, item.text) for item in result], message),
-                                 (expected, reason), (name, rest))
+                subtitles = " ".join(f"{item.number}/{item.text.decode()}" for item in result)
+                self.assertEqual((subtitles, message), (row["subtitles"], reason),
+                                 (row["name"], rest))
 
     def test_a_subtitle_has_the_times_and_the_place_of_its_first_block(self) -> None:
         [item] = stl.read_stored_subtitles(make_gsi_block(b"", 0, 0) + b"".join(
@@ -288,7 +264,6 @@ class CodeTable(unittest.TestCase):
 
 
 CLOCK, DAY = 8_589_934_592, 2_160_000
-START = b"\0\0\1\xbd"
 # Hamming 8/4 code words for 0 to 15, last bit first (EN 300 706, 8.2).
 CODES = ["00010101", "00000010", "01001001", "01011110", "01100100", "01110011", "00111000",
          "00101111", "11010000", "11000111", "10001100", "10011011", "10100001", "10110110",
@@ -411,14 +386,9 @@ class Codes(unittest.TestCase):
                 found = [item for item in places if teletext.has_bit(header, item) == is_set]
                 self.assertEqual(found, [bit], (header, is_set))
 
-    def test_reads_names_of_pages(self) -> None:
-        for text, page in (("888", (0, 0x88)), ("100", (1, 0)), ("7fE", (7, 0xFE)),
-                           ("8Ab", (0, 0xAB)), ("200", (2, 0)), ("899", (0, 0x99))):
-            self.assertEqual(decode_page(text), page, (text, page))
-            self.assertEqual(teletext.page_name(*page), text.upper(), (text, page))
-        for text in ("", "88", "8888", "000", "900", "8FF", "1ff", "8 1", "8+1", "8_1", "8g0",
-                     "x88", "8\u0661\u0661"):
-            self.assertIsNone(decode_page(text), text)
+    def test_names_pages_by_three_digits(self) -> None:
+        for name, page in (("888", (0, 0x88)), ("100", (1, 0)), ("7FE", (7, 0xFE))):
+            self.assertEqual(teletext.page_name(*page), name, page)
 
 
 class Packets(unittest.TestCase):
