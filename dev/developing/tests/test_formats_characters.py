@@ -315,13 +315,6 @@ def make_character_set_packet(character_set: int, designation: int = 0,
     return (head + encode_triplet(character_set << 7)).ljust(42, encode_triplet(0)[:1])
 
 
-def flip_bits(data: bytes, *bits: int) -> bytes:
-    result = bytearray(data)
-    for bit in bits:
-        result[bit >> 3] ^= 1 << (bit & 7)
-    return bytes(result)
-
-
 class Warnings(Case):
     """Recordings whose packets M/29 designate a character set for receivers above level 1, judged
     with the option english (000 in region 0000) or another one."""
@@ -329,6 +322,9 @@ class Warnings(Case):
     def test_warns_if_another_character_set_is_designated(self) -> None:
         may = "receivers above level 1 may show other characters"
         english = ", not 000 of region 0000 (English)"
+        unreadable = bytearray(make_character_set_packet(8))
+        unreadable[3] ^= 0x40
+        unreadable[5] ^= 1  # two wrong bits in one triplet
         cases: list[tuple[str, bytes, list[str]]] = [
             ("another region", make_character_set_packet(8),
              [f"packet 8/29/0 names character set 000 of region 0001 (Polish){english}: {may}"]),
@@ -336,7 +332,7 @@ class Warnings(Case):
              [f"packet 8/29/4 names character set 001 of region 0000 (German){english}: {may}"]),
             ("a set without an option", make_character_set_packet(24),
              [f"packet 8/29/0 names character set 000 of region 0011{english}: {may}"]),
-            ("unreadable", flip_bits(make_character_set_packet(8), 30, 40),
+            ("unreadable", bytes(unreadable),
              [f"packet 8/29/0 names an unreadable character set: {may}"]),
             ("the same", make_character_set_packet(0), []),
             ("the same of another region", make_character_set_packet(16), []),
@@ -387,10 +383,9 @@ class Languages(unittest.TestCase):
 
     def test_warns_if_no_announced_language_uses_the_option(self) -> None:
         cases: list[tuple[list[str], str, str]] = [
-            (["eng"], "english", ""), (["eng"], "french", "eng, which uses --option english"),
-            (["fre"], "french", ""), (["fra"], "german", "fra, which uses --option french"),
-            (["hun"], "swedish", ""), (["slo"], "czech", ""), (["por"], "spanish", ""),
-            (["pol"], "english", "pol, which uses --option polish"), (["pol"], "polish", ""),
+            (["eng"], "french", "eng, which uses --option english"),
+            (["fra"], "german", "fra, which uses --option french"),
+            (["pol"], "english", "pol, which uses --option polish"),
             (["gre"], "english", "gre, which uses another region"),
             (["ces", "gre"], "english", "ces and gre, which uses --option czech and another "
              "region"),
