@@ -365,15 +365,10 @@ class Signals(Case):
                     os.rename(name, target)
                 raise KeyboardInterrupt
 
-            error: BaseException | None = None
-            try:
-                with mock.patch("subtitles.common.files.os.replace", replace), \
-                        open_output(path) as file:
-                    file.write(b"new")
-            except (KeyboardInterrupt, OSError) as reason:
-                error = reason
             name = "before the file is replaced" if is_before else "after the file was replaced"
-            self.must(f"{name}: error", isinstance(error, KeyboardInterrupt), error)
+            with self.assertRaises(KeyboardInterrupt, msg=name), mock.patch(
+                    "subtitles.common.files.os.replace", replace), open_output(path) as file:
+                file.write(b"new")
             self.check(f"{name}: file", self.read("file"), b"old" if is_before else b"new")
             self.check(f"{name}: files", os.listdir(self.folder), ["file"])
 
