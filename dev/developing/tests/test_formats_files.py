@@ -40,7 +40,7 @@ class Blocks(unittest.TestCase):
         for row in read_vectors("tti-blocks.tsv"):
             blocks, words = [item.split("/") for item in row["blocks"].split()], row["message"]
             data = make_gsi_block(b"", 0, 0) + b"".join(self.block(
-                int(number), int(ebn, 16), int(comment)) for number, ebn, comment in blocks)
+                int(number), int(ebn, 16), *map(int, others)) for number, ebn, *others in blocks)
             cut = f"block {len(blocks) + 1} is incomplete"
             for rest, reason in ((b"", words), (b"x" * 127, words if words and
                                                 "no last" not in words else cut)):
@@ -56,11 +56,6 @@ class Blocks(unittest.TestCase):
             make_tti_block(1, at, at + 2, 20 + at, at, b"x", ebn)
             for at, ebn in ((0, 0), (1, 255))))
         self.assertEqual((stl.get_subtitle_times(item), item.row, item.justify), ((0, 2), 20, 0))
-
-    def test_blocks_of_another_group_belong_to_another_subtitle(self) -> None:
-        data = make_gsi_block(b"", 0, 0) + self.block(1, 0) + self.block(1, 255, group=1)
-        self.assertEqual(refusal(lambda: list(stl.read_stored_subtitles(data)), DamagedFile),
-                         "block 2 begins a subtitle, but the one before is incomplete")
 
     def test_decodes_only_subtitles_with_a_duration(self) -> None:
         data = make_gsi_block(b"", 0, 0) + b"".join(
