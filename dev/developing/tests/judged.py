@@ -85,19 +85,18 @@ class JudgedPair(NamedTuple):
         return [tuple(part[name] for name in names) for part in self.result["parts"]]
 
 
-def judge_files(case: Case, *args: str, program: str | None = None,
-                recorder: LineRecorder | None = None) -> JudgedPair:
+def judge_files(case: Case, *args: str, program: str | None = None) -> JudgedPair:
     """Run qc on a pair. Check that the printed commands contain only files of this pair."""
-    result = judge_files_with(program or case.bench.program, *args, recorder=recorder)
+    result = judge_files_with(program or case.bench.program, *args)
     case.must("a clock", result.is_timed(), result.printed)
     for line in result.verdict.commands:
         case.must(line, set(list_shown_files(line)) <= result.files, result.files)
     return result
 
 
-def judge_files_with(program: str, *args: str, recorder: LineRecorder | None = None) -> JudgedPair:
+def judge_files_with(program: str, *args: str) -> JudgedPair:
     """Judge a pair with these arguments for qc and with the given program."""
-    recorder = recorder or LineRecorder()
+    recorder = LineRecorder()
     known = read_options(make_parser(""), ["-p", program, *args], {}, {})
     request, command_paths = make_request(known), CommandPaths("tools/qc", program)
     listener = Listener(recorder)
