@@ -26,10 +26,6 @@ CONTENT = "refused 72 Content frame 00:00:05:00 row 20 column 1"
 LENGTH = "refused 38 UnitLength pes 7"
 GOOD = "accepted 10 frames 2 transmissions"
 TRUSTED, TRUSTED_FRAME = "trusted frames 00:00:06:00 00:00:07:00", 6 * 25
-# Lines of `check --all`, its exit status (negative: its signal), the verdict, and the reported line
-OUTPUTS: list[tuple[list[str], int, str, str]] = [
-    (json.loads(row["lines"]), int(row["status"]), row["verdict"], row["reported"])
-    for row in read_vectors("answers.tsv")]
 
 
 class Answers(Case):
@@ -45,13 +41,14 @@ class Answers(Case):
         return check_output, received, ""
 
     def test_gives_the_verdict_or_the_line_that_gives_none_and_stores_all_lines(self) -> None:
-        for lines, status, verdict, reported in OUTPUTS:
+        for row in read_vectors("answers.tsv"):
+            lines, status, verdict = json.loads(row["lines"]), int(row["status"]), row["verdict"]
             check_output, received, error = self.run_check(lines, status)
             printed = [item.replace("\udcff", "\ufffd") for item in lines]
             faults = [item for item in printed if re.match(r"refused \d+( |$)", item, re.ASCII)]
             with self.subTest(lines=lines, status=status):
                 self.assertEqual(error, "" if verdict else
-                                 f"check gave no verdict: {reported}, status {status}")
+                                 f"check gave no verdict: {row['reported']}, status {status}")
                 self.assertEqual("" if error else check_output.verdict, verdict)
                 # Lines are reported while `check` runs; `accepted` only if the verdict is.
                 self.assertEqual(received, [*itertools.takewhile(GOOD.__ne__, printed),
