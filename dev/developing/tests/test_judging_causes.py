@@ -25,8 +25,6 @@ from .transmissions import CLOSING, HEADER, PAGE, SentPes, make_numbered_row
 
 BEGIN = 900_000
 TIMES = [(BEGIN + 100 * at, BEGIN + 100 * at + 50) for at in range(6)]
-
-
 OTHER_ROWS = (make_numbered_row(22, b"Others"),)  # a text that no subtitle has
 
 
@@ -62,10 +60,6 @@ class SenderFaults(ProgrammeCase):
                        [("another text in a pause", number, line)])
             self.check(f"{frame}: line", judged.lines("cause: "), [line])
             self.check(f"{frame}: sentence", judged.sentence, f'Refused: {words}: "Others".')
-
-    def test_counts_the_pauses_with_an_unexpected_text(self) -> None:
-        self.check("sentence", self.judge_pages((60, OTHER_ROWS), (270, OTHER_ROWS)).sentence,
-                   "Refused: another text was sent in 2 pauses, the first at 10:00:02:10.")
 
     def test_counts_an_unexpected_text_while_a_subtitle_is_shown_as_a_wrong_text(self) -> None:
         counts = self.judge_pages((60, OTHER_ROWS), (130, OTHER_ROWS)).result["cause_counts"]
