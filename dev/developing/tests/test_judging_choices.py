@@ -1,32 +1,30 @@
 """Test the values that qc chooses by itself, and the options that --measure proposes."""
 from __future__ import annotations
 
-import contextlib
-import io
 import itertools
 import json
 import os
 from collections import Counter
 from typing import Any, Sequence
 
-from developing.pes import get_data_field, make_pes_packet, decode_pts, get_teletext_packets
+from developing.pes import make_pes_packet
 from subtitles.cli.main import make_parser
 from subtitles.cli.measure import (
-    Delays, MeasuredRecording, explain_omission, make_profile_lines, measure, propose_repeat_limit)
+    Delays, MeasuredRecording, explain_omission, make_profile_lines, propose_repeat_limit)
 from subtitles.common.program import TOP, read
 from subtitles.common.times import TICKS
 from subtitles.judging.status import RELATIVE, STATUSES
-from subtitles.request.lines import read_profile, read_options
+from subtitles.request.lines import read_profile
 from subtitles.request.request import CHOICES, describe_option, make_request
 from subtitles.stream.pace import PAUSED, Pace, REGULAR
 from subtitles.stream.repeats import Repeats
-from .bench import Case, get_example_path
+from .bench import Case, get_example_path, read_example_file
 from .judged import ProgrammeCase, judge_files
 from .streams import OLD, Shape, make_planned_stream, make_multiplex, join_packets
 from .parts import make_example_request
 from .results import list_choice_errors
 from .transmissions import (
-    ORIGIN, add_pauses, write_pipe, join_pes_packets, packets, write_programme, schedule_pages,
+    ORIGIN, add_pauses, write_pipe, join_pes_packets, write_programme, schedule_pages,
     write_subtitle_file, subtitle_times)
 
 TS = get_example_path("story.stl"), get_example_path("recording.ts")
@@ -122,8 +120,7 @@ class Choices(Case):
             self.check(path, request.option, "english")
 
     def test_chooses_the_option_of_the_language_code(self) -> None:
-        with open(TS[0], "rb") as file:
-            data = file.read()
+        data = read_example_file("story.stl")
         for language, (option, why) in LANGUAGES.items():
             path = self.write(
                 "one.stl", b"" if language is None else data[:14] + language + data[16:])
@@ -173,16 +170,15 @@ class Magazines(Case):
             page, other = f"{magazine}88", "188" if magazine == 8 else "888"
             for page_of_texts, page_of_others, verdict in ((page, other, "accepted"),
                                                            (other, page, "refused")):
-                self.schedule(stl, "first.pes", "--page", page_of_texts, "--every", "25")
-                self.schedule(others, "second.pes", "--page", page_of_others, "--every", "25")
-                both = zip(packets(self.read("first.pes")), packets(self.read("second.pes")))
-                path = self.write("both.pes", b"".join(make_pes_packet(decode_pts(first), [
-                    *get_teletext_packets(get_data_field(first)),
-                    *get_teletext_packets(get_data_field(second))]) for first, second in both))
+                texts = schedule_pages(self, stl, "--page", page_of_texts)
+                path = self.write("both.pes", join_pes_packets([
+                    (pts, [*some, *more]) for (pts, some), (_, more) in zip(
+                        texts, schedule_pages(self, others, "--page", page_of_others))]))
                 judged = judge_files(self, stl, path, "--page", page, *WORDS)
                 self.check(f"{page}: {verdict}", (
                     judged.timed_verdict, judged.result["request"]["page"]), (verdict, page))
-            judged = judge_files(self, stl, self.path("first.pes"), "--page", page, *WORDS)
+            path = self.write("other.pes", join_pes_packets(texts))
+            judged = judge_files(self, stl, path, "--page", page, *WORDS)
             self.check(f"{page}: not sent", judged.timed_verdict, "not judged")
 
 
@@ -313,8 +309,8 @@ class Profiles(Case):
     def test_proposes_a_layout_unless_it_is_implausible(self) -> None:
         stl = self.write_stl("one.stl")
         for layout, reason in PROPOSED_LAYOUTS.items():
-            pes = self.write("one.pes", join_pes_packets(schedule_pages(
-                self, stl, *(["--layout", layout] if layout else []))))
+            pes = self.schedule(stl, "one.pes", "--every", "25",
+                                *["--layout", layout] * bool(layout))
             lines = self.measure_profile(stl, pes)
             self.check(f"{layout}: proposed", [line for line in lines
                                                if line.startswith("--layout")],
@@ -395,7 +391,7 @@ class Profiles(Case):
 
     def test_refuses_wrong_arguments(self) -> None:
         stl = self.write_stl("one.stl")
-        pes = self.write("one.pes", join_pes_packets(schedule_pages(self, stl)))
+        pes = self.schedule(stl, "one.pes", "--every", "25")
         for words, printed in (
                 ([stl], f"--measure needs pairs, STL RECORDING: {stl} has no recording"),
                 ([stl, pes, stl, pes, "--origin", "0"], "--origin and --start give the clock of "
@@ -409,13 +405,10 @@ class Profiles(Case):
             self.must(printed, process.status == status and not process.out
                       and len(process.told) == 1 and printed in process.told[0], process)
 
-    def test_prints_the_profile_of_a_pair(self) -> None:
+    def test_prints_the_profile_of_a_pair_after_the_version_of_qc(self) -> None:
         stl = self.write_stl("one.stl")
-        pes = self.write("one.pes", join_pes_packets(schedule_pages(self, stl)))
-        args = read_options(make_parser(""), ["--measure", stl, pes], {}, {})
-        with contextlib.redirect_stdout(io.StringIO()) as out:
-            status = measure(args, "tools/qc")
-        self.check("a right call", (status, out.getvalue()[:5]), (0, "# qc "))
+        lines = self.measure_profile(stl, self.schedule(stl, "one.pes", "--every", "25"))
+        self.check("first line", lines[0][:5], "# qc ")
 
     def test_explains_why_a_layout_is_not_proposed(self) -> None:
         for text, reason in (
