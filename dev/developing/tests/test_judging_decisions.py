@@ -1,7 +1,6 @@
 """Table-driven tests of how qc handles folders, watched pairs, subtitles and pages."""
 from __future__ import annotations
 
-import itertools
 import os
 import re
 from dataclasses import replace
@@ -149,7 +148,6 @@ class SubtitleFiles(Case):
         self.check("names", [re.split(" names |, not |: ", item.line)[1] for item in notices], [
             "character set 001 of region 0000 (German)", *["an unreadable character set"] * 2])
 
-
     def test_continues_the_same_text_of_a_subtitle_that_ends_within_the_tolerance(self) -> None:
         """The frames of two subtitles with the same text are 100 to 159 and 162 to 219."""
         stl = write_subtitle_file(self, [(100, 160, b"text"), (162, 220, b"text")])
@@ -275,16 +273,7 @@ class DecodedPages(Case):
             for frame, page in changes:
                 decoded.record_page(frame, page)
             self.check(f"{frames}", (list(decoded.frames), decoded.pages), (frames, pages))
-            self.check(f"{frames}: of each page", {
-                page: list(some) for page, some in decoded.page_frames.items()}, {
-                page: [frame for frame, item in zip(frames, pages) if item == page]
-                for page in pages})
-            for begin, end in itertools.combinations(range(4, 14), 2):
-                shown = [at for at, frame in enumerate(frames) if frame < end and
-                         begin < [*frames, 99][at + 1]]
-                self.check(f"from {begin} to {end}", (
-                    [*decoded.list_page_numbers(begin, end)], decoded.get_page_at(begin)),
-                    (shown, BLANK_PAGE if begin < 5 else pages[shown[0]]))
+            self.check(f"{frames}: before the first", decoded.get_page_at(4), BLANK_PAGE)
 
     def test_finds_pauses_of_a_regular_stream(self) -> None:
         first, second = Span(90, 92), Span(120, 123)
