@@ -274,28 +274,15 @@ class ParsedWaivers(Case):
             self.check(line, is_waiver(line), expected)
 
     def test_refuses_a_wrong_waiver(self) -> None:
-        form = "line 2: a waiver for one subtitle is a line such as"
-        rows = {  # a line, and the message about it
-            "no file": (LINE.replace(" in news.stl", ""), form),
-            "no day": (LINE.replace(" until 2027-01-31", ""), form),
-            "no name": (LINE.replace('"Ann"', '" "'), form),
-            "no reason": (LINE.partition(":")[0] + ":03:30:17 in a until 2027-01-31 by \"Ann\": ",
-                          form),
-            "error": (LINE.replace("72 warning", "72 error"), "a line is `NUMBER error`"),
-            "all faults": (LINE.replace("72", "others"), "a line is `NUMBER error`"),
-            "frame 25": (LINE.replace(":17", ":25"), "10:03:30:25 is not a time code"),
-            "31 February": (LINE.replace("01-31", "02-31"), "2027-02-31 is not a day"),
-            "a short day": (LINE.replace("01-31", "1-31"), "2027-1-31 is not a day"),
-            "a folder": (LINE.replace("news", "in/news"), "without its folder"),
-            "a short checksum": (LINE.replace("news.stl", "sha256:ab"), "ab is not a SHA-256"),
-            "a long checksum": (LINE.replace("news.stl", f"sha256:{SUM}0"),
-                                f"{SUM}0 is not a SHA-256"),
-            **{f"fault {item}": (LINE.replace("72", f"{item}"),
-                                f"{item} can't be waived for one subtitle")
-               for item in (*range(10, 26), *range(30, 46), *range(60, 64), 74, 76, 79)}}
-        for name, (line, message) in rows.items():
-            with self.subTest(name), self.assertRaisesRegex(Stop, message):
-                make_severity("", line)
+        for row in read_vectors("wrong-waivers.tsv"):
+            with self.subTest(row["name"]), self.assertRaisesRegex(Stop, row["message"]):
+                make_severity("", row["line"])
+
+    def test_refuses_a_waiver_for_a_fault_that_concerns_no_single_subtitle(self) -> None:
+        for number in (*range(10, 26), *range(30, 46), *range(60, 64), 74, 76, 79):
+            with self.subTest(number), self.assertRaisesRegex(
+                    Stop, f"{number} can't be waived for one subtitle"):
+                make_severity("", LINE.replace("72", f"{number}"))
 
     def test_uses_waivers_for_the_file_up_to_their_day(self) -> None:
         waiver = parse_waiver("", 1, LINE)
