@@ -49,13 +49,12 @@ def parse_causes(text: str) -> list[Cause]:
             for number, name, frames, details in found]
 
 
-def make_causes(*several: Cause, count: int = 9, text: bytes = b"text") -> Any:
-    """Return the causes of `count` subtitles, one each second from 00:00:00:00 on, with one text.
-    """
+def make_causes(*several: Cause, text: bytes = b"text") -> Any:
+    """Return the causes of nine subtitles, one each second from 00:00:00:00 on, with one text."""
     subtitles = [SimpleNamespace(begin=25 * at, end=25 * at + 20, name=f"subtitle {at + 1}")
-                 for at in range(count)]
+                 for at in range(9)]
     page = (b" " * 40,) * 19 + (text.ljust(40),) + (b" " * 40,) * 4
-    return SimpleNamespace(expected=SimpleNamespace(subtitles=subtitles, pages=[page] * count),
+    return SimpleNamespace(expected=SimpleNamespace(subtitles=subtitles, pages=[page] * 9),
                            list_causes=lambda: list(several),
                            cause_by_index=dict(enumerate(several)), frames_by_end_fault={},
                            first_wrong_frames={}, delay_of_all=0)
@@ -66,11 +65,6 @@ class Descriptions(Case):
         for row in read_vectors("worst-causes.tsv"):
             causes = make_causes(*parse_causes(row["causes"]))
             self.check(row["name"], describe_causes(causes, "english"), row["sentence"])
-
-    def test_quotes_the_expected_and_the_received_text(self) -> None:
-        wrong = cause(0, WRONG_TEXT)._replace(sent_page=(b" " * 40,) * 23 + (b"texts".ljust(40),))
-        self.check("sentence", describe_causes(make_causes(wrong), "english"), 'subtitle 1 at '
-                   '00:00:00:00 has the wrong text: expected "text", received "texts"')
 
     def test_quotes_texts_in_the_characters_of_the_option(self) -> None:
         wrong = cause(0, WRONG_TEXT)._replace(sent_page=(b"]".ljust(40),) + BLANK_PAGE[1:])
