@@ -1,9 +1,8 @@
 """Test recordings whose pages are not in the default layout, and files with open subtitles."""
 from __future__ import annotations
 
-from typing import Sequence, Tuple
+from typing import Sequence
 
-from developing.stl import make_gsi_block, make_subtitle_blocks
 from subtitles.common.times import TICKS
 from subtitles.formats.layout import (
     TextFault, draw_text, find_layout_fault, make_page_rows, parse_layout)
@@ -14,12 +13,11 @@ from subtitles.stream.layout import find_sent_subtitles
 from .bench import Case
 from .judged import JudgedPair, judge_files
 from .parts import decode_packets
-from .transmissions import CLOSING, HEADER, join_pes_packets, make_numbered_row
+from .transmissions import (
+    CLOSING, HEADER, join_pes_packets, make_numbered_row, write_subtitle_file)
 
 FIRST_TCI, DISTANCE, DURATION = 3000, 60, 45  # first TCI, interval between TCIs, in frames
 CENTRED, VP = 2, 18  # justification code, and vertical position (row)
-DSC = slice(11, 12)  # bytes of the GSI block
-Texts = Sequence[Tuple[bytes, int]]  # text and justification code of each subtitle
 # Values of --layout, and the message about each, or `None` if the value is valid
 FAULTS = [
     ("left=40", "left=40 is not valid: left takes 0 to 39"), ("fit,fit", "fit is given twice"),
@@ -28,20 +26,20 @@ FAULTS = [
     ("up,after=0E", "after=0E is not valid: after takes up to 4 codes 01 to 0D"), ("fit,up", None)]
 
 
-def write_texts(case: Case, texts: Texts, name: str, dsc: bytes = b"1") -> str:
-    blocks = b"".join(make_subtitle_blocks(
-        at, FIRST_TCI + DISTANCE * at, FIRST_TCI + DISTANCE * at + DURATION, VP, justify, text)
-                      for at, (text, justify) in enumerate(texts))
-    gsi = bytearray(make_gsi_block(b"As sent", len(blocks) // 128, len(texts), FIRST_TCI))
-    gsi[DSC] = dsc
-    return case.write(name, bytes(gsi) + blocks)
+def write_texts(case: Case, texts: Sequence[bytes], name: str, dsc: bytes = b"1") -> str:
+    """Write a subtitle file with these texts and this display standard code (DSC)."""
+    write_subtitle_file(case, [
+        (FIRST_TCI + DISTANCE * at, FIRST_TCI + DISTANCE * at + DURATION, text)
+        for at, text in enumerate(texts)], name, first=0, row=VP)
+    data = case.read(name)
+    return case.write(name, data[:11] + dsc + data[12:])
 
 
 class OtherLayouts(Case):
-    TEXTS = [(b"Line one is: %d\x8aline two" % at, CENTRED) for at in range(30)]
+    TEXTS = [b"Line one is: %d\x8aline two" % at for at in range(30)]
 
-    def judge_sent_texts(self, texts: Texts, sent: Texts, layout: Sequence[str],
-                         *args: str) -> JudgedPair:
+    def judge_sent_texts(self, texts: Sequence[bytes], sent: Sequence[bytes],
+                         layout: Sequence[str], *args: str) -> JudgedPair:
         """Judge a file of `texts` with a recording that has the texts `sent` in another layout."""
         pes = self.schedule(write_texts(self, sent, "sent.stl"), "sent.pes", "--every", "20",
                             *layout)
@@ -59,7 +57,7 @@ class OtherLayouts(Case):
         self.must("report", hint.encode() in self.read("out/one.html"))
 
     def test_gives_no_hint_about_a_wrong_letter(self) -> None:
-        expected, sent = ([*self.TEXTS[:7], (text, CENTRED), *self.TEXTS[8:]]
+        expected, sent = ([*self.TEXTS[:7], text, *self.TEXTS[8:]]
                           for text in (b"Hi there", b"Hi thEre"))
         judged = self.judge_sent_texts(expected, sent, layout=[])
         self.check("verdict and hints", (judged.timed_verdict, judged.result["hints"]),
@@ -137,7 +135,7 @@ class LayoutMessages(Case):
 class OpenSubtitles(Case):
     """Files of twelve open subtitles, whose DSC is not 1 or 2."""
 
-    TEXTS = [(b"Number %d\x0a" % at, CENTRED) for at in range(12)]  # 0A may hide text
+    TEXTS = [b"Number %d\x0a" % at for at in range(12)]  # 0A may hide text
 
     def test_a_hint_advises_the_option_open_if_the_dsc_allows_it(self) -> None:
         for dsc, kind in ((b"0", "0 (open subtitles)"), (b" ", "blank"), (b"3", None)):
