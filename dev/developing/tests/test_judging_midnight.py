@@ -147,9 +147,8 @@ class MidnightCase(Case):
             (NOON + begin, NOON + end, text) for begin, end, text in subtitles
             if (begin, end) != TITLE], "noon.stl")
         sent = schedule_pages(self, noon, origin=TICKS * NOON)
-        stl = self.write("film.stl", make_gsi_block(b"", 4, 4) + b"".join(
-            make_subtitle_blocks(number, begin % MIDNIGHT, end % MIDNIGHT, 22, 2, text)
-            for number, (begin, end, text) in enumerate(subtitles, 1)))
+        stl = write_subtitle_file(self, [(begin % MIDNIGHT, end % MIDNIGHT, text)
+                                         for begin, end, text in subtitles], "film.stl")
         return stl, self.write("film.pes", join_pes_packets([
             (pts + ORIGIN, packets) for pts, packets in programme.change(sent)]))
 
