@@ -21,7 +21,7 @@ from subtitles.formats.teletext import Page
 from .air import AirCase, DAY, FAILURE, FakeChecker, MARGIN_SECONDS, SentProgramme, make_outcome
 from .bench import read_example_file
 from .programmes import wait_until
-from .stories import Story, read_table
+from .stories import Story, read_vectors
 from .transmissions import write_subtitle_file
 
 NAME = "20261201T081000Z-one"
@@ -32,57 +32,6 @@ PAGE, OTHER_PAGE = (0, 0x88), (0, 0x89)
 
 ON_TIME = {NAME: SentProgramme(BEGIN, END)}
 NEVER_SENT: dict[str, SentProgramme] = {}
-# When the feed was recorded; when the programme was on air, which is scheduled from 600 to 660, and
-# whether its subtitles were wrong; its verdict, and the seconds from the scheduled end to it
-TRIALS = """
-case                               | recorded        | on air        | verdict    | after
-all is there                       | 0-900           | 600-660       | relative   | 10
-wrong                              | 0-900           | 600-660 wrong | refused    | 10
-it begins late                     | 0-900           | 640-700       | relative   | 40
-it begins late, wrong              | 0-900           | 640-700 wrong | refused    | 70
-it begins early                    | 0-900           | 560-620       | relative   | 10
-it begins at the end of the margin | 0-900           | 660-720       | relative   | 70
-it begins after the margin         | 0-900           | 661-721       | not judged | 70
-it begins long after it            | 0-2000          | 900-960       | not judged | 70
-it begins before the margin        | 0-900           | 530-590       | not judged | 70
-the same, wrong                    | 0-900           | 530-590 wrong | not judged | 70
-with long breaks                   | 0-900           | 610-770       | relative   | 130
-with long breaks, wrong            | 0-900           | 610-770 wrong | refused    | 130
-it never ends                      | 0-2000          | 600-1900      | refused    | 130
-never sent                         | 0-900           |               | not judged | 70
-nothing is recorded                |                 |               | not judged | 70
-a gap in it                        | 0-630, 640-900  | 600-660       | not judged | 70
-a gap before it                    | 0-580, 590-900  | 600-660       | relative   | 10
-a gap before it, wrong             | 0-580, 590-900  | 600-660 wrong | refused    | 10
-a gap in one that begins early     | 0-580, 590-900  | 570-630 wrong | not judged | 70
-a gap after it                     | 0-670, 680-900  | 600-660       | relative   | 10
-a gap after it, wrong              | 0-670, 680-900  | 600-660 wrong | refused    | 10
-a gap as soon as it ends, wrong    | 0-660, 680-900  | 600-660 wrong | not judged | 70
-a gap long before a late one       | 0-610, 620-900  | 640-700       | relative   | 40
-a gap in a late one                | 0-680, 690-900  | 640-700       | not judged | 70
-the feed ends in it                | 0-640           | 600-660       | not judged | 70
-the feed begins in it              | 620-900         | 600-660       | not judged | 70
-the feed begins before it          | 590-900         | 600-660       | relative   | 10
-the feed ends after it             | 0-670           | 600-660       | relative   | 10
-all but its last second            | 600-659         | 600-660       | not judged | 70
-"""
-REASONS = {
-    "it begins after the margin": "it began later",
-    "it begins long after it": "no cue agrees",
-    "it begins before the margin": "its beginning is missing",
-    "it never ends": "refused 74",
-    "never sent": "no cue agrees",
-    "nothing is recorded": "not recorded: 2026-12-01T08:09:00Z to 2026-12-01T08:12:00Z",
-    "a gap in it": "not recorded: 2026-12-01T08:10:30Z to 2026-12-01T08:10:40Z; of the rest: "
-                   "refused 74",
-    "a gap in one that begins early": "not recorded: 2026-12-01T08:09:40Z to 2026-12-01T08:09:50Z; "
-                                      "of the rest: its beginning is missing",
-    "a gap as soon as it ends, wrong": "not recorded: 2026-12-01T08:11:00Z to 2026-12-01T08:11:20Z;"
-                                       " of the rest: refused 74",
-    "all but its last second": "not recorded: 2026-12-01T08:09:00Z to 2026-12-01T08:10:00Z, "
-                               "2026-12-01T08:10:59Z to 2026-12-01T08:12:00Z; of the rest: refused "
-                               "74"}
-
 # Lines of a schedule, each with its time in seconds after DAY, a subtitle file and options; and for
 # each line, how many seconds before and after its time an airing counts for it
 MARGINS = {
@@ -162,19 +111,19 @@ class JudgedProgrammes(AirCase):
                            if begin else NEVER_SENT)
 
     def test_judges_each_programme_as_soon_as_its_result_is_certain(self) -> None:
-        for row in read_table(TRIALS):
-            checker, name = self.put_trial(row), row["case"]
+        for row in read_vectors("air-verdicts.tsv"):
+            checker, name = self.put_trial(row), row["name"]
             with mock.patch.object(judging, "find_segments", self.find_recorded_segments):
                 self.run_judge(checker, until=1500)
             self.check(name, (self.verdicts().get(NAME), self.now - END),
                        (row["verdict"], int(row["after"])))
-            if reason := REASONS.get(name):
-                self.check(f"{name}: reason", self.result(NAME)["reason"], reason)
+            if row["reason"]:
+                self.check(f"{name}: reason", self.result(NAME)["reason"], row["reason"])
 
     def test_a_judge_that_starts_long_after_a_programme_gives_the_same_verdict(self) -> None:
-        for row in read_table(TRIALS):
+        for row in read_vectors("air-verdicts.tsv"):
             self.run_judge(self.put_trial(row), since=1900, until=2000)
-            self.check(row["case"], self.verdicts().get(NAME), row["verdict"])
+            self.check(row["name"], self.verdicts().get(NAME), row["verdict"])
 
     def test_waits_for_a_recorder_that_lags_by_less_than_ten_seconds(self) -> None:
         self.recorder_lag = 9
