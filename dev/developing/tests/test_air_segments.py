@@ -15,7 +15,7 @@ from subtitles.air.segments import (
     make_segment_name, parse_segment_begin)
 from .air import AirCase, DAY, make_tdt
 from .programmes import BEGIN, SECOND
-from .stories import read_table
+from .stories import read_table, read_vectors
 from .streams import change_packet_size, multiplex_frames
 
 # Names of files, and the times at which their segments begin, or `None` if they are no segments
@@ -89,42 +89,6 @@ def make_feeds() -> dict[str, bytes]:
         "back at 900": [*later[:900], *sent[900:]]}.items()}
 
 
-# Segments as begin..end:TDT, the last only if the segment has a TDT, with ! as above; and how many
-# seconds the clock jumped last, and when, if it did after 0. All times are seconds after DAY.
-JUMP_CASES = {
-    "none": ("0..10:0 10..20:10 !30..40:30", ""),
-    "no TDT": ("0..10 !10..20:130", ""),
-    "set back": ("0..10:0 !10..20:130", "-120 at 10"),
-    "set ahead": ("0..10:0 130..140:10", "+120 at 130"),
-    "set ahead and back": ("0..10:0 !20..30:20 130..140:10", "+120 at 20"),
-    "set back between earlier segments": ("0..10:0 10..20:10 !12..22:132 20..30:20 22..32:142 "
-                                          "32..42:152", "-120 at 22"),
-    "the recorder stalls, and catches up": ("0..10:0 50..60:15 60..70:60", ""),
-    "set back and ahead": ("0..10:0 !10..20:130 140..150:140", "+120 at 140"),
-    "set back by 30 seconds": ("0..10:0 !10..20:40", ""),
-    "set back by 31 seconds": ("0..10:0 !10..20:41", "-31 at 10"),
-    "the TDT differs by an hour": ("0..10:3600 !130..140:3730", ""),
-    "the TDT jumps": ("0..10:0 10..20:130", ""),
-    "the TDT jumps in a pause of 5 seconds": ("0..10:0 15..25:130", ""),
-    "in a longer pause": ("0..10:0 16..26:136", ""),
-    "in a longer pause, after which the recorder started": ("0..10:0 !16..26:136", "-120 at 16"),
-    "the clock is set ahead in a pause": ("0..10:0 150..160:30", "+120 at 150"),
-    "the TDT jumps where segments overlap by a second": ("0..10:0 9..19:130", ""),
-    "where they overlap more": ("0..10:0 8..18:128", "-120 at 8"),
-    "the TDT jumps back": ("0..10:600 !20..30:0", ""),
-    "the TDT stands still": ("0..10:0 !100..110:0", ""),
-    "set ahead by two days": ("0..10:0 172820..172830:20", "+172800 at 172820"),
-    "set back by two days": ("0..10:0 !10..20:172810", "-172800 at 10"),
-    "an old recording ends": ("0..10:-86400 !10..20:10", ""),
-    "a recording of the last day ends": ("0..10:-86399 !10..20:10", "-86399 at 10"),
-    "no TDT for two segments": ("0..10:0 10..20 !20..30 30..40:150", "-120 at 20"),
-    "no TDT for eight segments": (
-        "0..10:0 " + " ".join(f"{at}..{at + 10}" for at in range(10, 90, 10)) + " !90..99:210", ""),
-    "before the given time": ("-20..-10:-20 !-10..0:110 0..10:120", ""),
-    "at the given time": ("-10..0:-10 !0..10:120", "-120 at 0"),
-    "set ahead by more than what is given": ("-10..0:-10 5000..5010:0", "+5000 at 5000"),
-}
-
 # The begin and the end of a segment of 100 bytes, a time in seconds, and its offset in bytes
 OFFSETS = {"before it": (10, 20, 5, 0), "its beginning": (10, 20, 10, 0),
            "a tenth": (10, 20, 11, 10), "half": (10, 20, 15, 50), "its end": (10, 20, 20, 100),
@@ -175,17 +139,18 @@ class Segments(AirCase):
         return " ".join(f"{item.begin - DAY:.0f}-{item.end - DAY:.0f}" for item in result)
 
     def test_finds_the_last_jump_of_the_clock_from_the_tdt(self) -> None:
-        for name, (text, expected) in JUMP_CASES.items():
+        for row in read_vectors("clock-jumps.tsv"):
             self.delete_all("segments")
             segments.find_difference.cache_clear()  # as above
-            for word in text.split():
+            for word in row["segments"].split():
                 times, _, tdt = word.strip("!").partition(":")
                 begin, end = map(float, times.split(".."))
                 self.put_segment(begin, end, make_tdt(float(tdt)) if tdt else b"",
                                  is_new=word[0] == "!")
             jumps, _ = find_clock_jumps(self.path("segments"), DAY)
-            self.check(name, [f"{after - before:+.0f} at {begin - DAY:.0f}"
-                              for begin, before, after in jumps][-1:], [expected] * bool(expected))
+            self.check(row["name"], [f"{after - before:+.0f} at {begin - DAY:.0f}"
+                                     for begin, before, after in jumps][-1:],
+                       [*filter(None, [row["jump"]])])
 
     def test_takes_a_tdt_at_its_time_within_a_segment(self) -> None:
         self.put_segment(0, 600, make_tdt(0) * 5 + make_tdt(500))  # the sixth at 5/6 of 600
