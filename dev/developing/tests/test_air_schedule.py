@@ -22,43 +22,8 @@ from subtitles.formats.stl import GSI, TTI
 from subtitles.request.request import Request
 from .air import AirCase, DAY, OLD_MTIME
 from .bench import Case
+from .stories import read_vectors
 
-NO_TIME = "is not an air time: begin the line with a date and a time that ends in Z or an " \
-    "offset, as `2026-11-29T20:15:00Z news.stl`"
-PLACE_OPTION = "line 1: --start and --pes depend on where the programme is in the segments, " \
-    "which is not known: remove them"
-
-# A line of a schedule; and the name of its result, its begin and its end in seconds after DAY
-# (2026-12-01T08:00:00Z), or else its error message.
-LINES = {
-    "in UTC": ("2026-12-01T08:00:00Z news.stl", "20261201T080000Z-news 0 None"),
-    "half a second": ("2026-12-01T08:00:00.5Z news.stl", "20261201T080000Z-news 0.5 None"),
-    "with an offset": ("2026-12-01T09:00:00+01:00 news.stl", "20261201T080000Z-news 0 None"),
-    "with an end": ("2026-12-01T08:00:00Z/2026-12-01T08:30:00Z news.stl",
-                    "20261201T080000Z-news 0 1800"),
-    "a name with a space": ("2026-12-01T08:00:00Z 'late night.stl' --page 889",
-                            "20261201T080000Z-late night-889 0 None"),
-    "a comment": ("# 2026-12-01T08:00:00Z news.stl", ""),
-    "nothing": ("", ""),
-    "no time": ("news.stl", f"line 1: news.stl {NO_TIME}"),
-    "a dash": ("- news.stl", f"line 1: - {NO_TIME}"),
-    "no zone": ("2026-12-01T08:00:00 news.stl", f"line 1: 2026-12-01T08:00:00 {NO_TIME}"),
-    "a date alone": ("2026-12-01 news.stl", f"line 1: 2026-12-01 {NO_TIME}"),
-    "a month 13": ("2026-13-01T08:00:00Z news.stl", f"line 1: 2026-13-01T08:00:00Z {NO_TIME}"),
-    "a year that no clock has": ("0001-01-01T00:00:00+23:00 a.stl",
-                                 f"line 1: 0001-01-01T00:00:00+23:00 {NO_TIME}"),
-    "an end before it": ("2026-12-01T08:00:00Z/2026-12-01T07:00:00Z news.stl", "line 1: "
-                         "2026-12-01T08:00:00Z/2026-12-01T07:00:00Z ends before it begins"),
-    "an end at its begin": ("2026-12-01T08:00:00Z/2026-12-01T08:00:00Z news.stl", "line 1: "
-                            "2026-12-01T08:00:00Z/2026-12-01T08:00:00Z ends before it begins"),
-    "a time alone": ("2026-12-01T08:00:00Z", "line 1: it has no subtitle file: write the air "
-                     "time, then the subtitle file"),
-    "a wrong option": ("2026-12-01T08:00:00Z news.stl --colour",
-                       "line 1: unrecognized arguments: --colour"),
-    "a place in a recording": ("2026-12-01T08:00:00Z news.stl --start 10:00:00:00", PLACE_OPTION),
-    "PES packets of a recording": ("2026-12-01T08:00:00Z news.stl --pes 0-9", PLACE_OPTION),
-    "a quote": ("2026-12-01T08:00:00Z 'news.stl", "line 1: a quote is not closed"),
-}
 # Air times in nights in which the clocks in Berlin change, and the names of their results, in UTC
 NIGHTS = {"2026-10-25T02:30:00+02:00": "20261025T003000Z-a",
           "2026-10-25T02:30:00+01:00": "20261025T013000Z-a",
@@ -98,8 +63,10 @@ class Lines(AirCase):
                   for item in schedule.programmes), *schedule.faults]
 
     def test_reads_each_line(self) -> None:
-        for name, (line, expected) in LINES.items():
-            self.check(name, self.read_lines(line + "\n"), [expected] * bool(expected))
+        for row in read_vectors("schedule-lines.tsv"):
+            fault = f"line 1: {row['fault']}" if row["fault"] else ""
+            self.check(row["name"], self.read_lines(row["line"] + "\n"),
+                       [*filter(None, (row["programme"], fault))])
 
     def test_names_results_by_utc_when_the_clocks_change(self) -> None:
         for air_time, name in NIGHTS.items():
