@@ -19,40 +19,13 @@ from subtitles.common.times import FRAMES_A_SECOND
 from .air import AirCase, DAY
 from .bench import SECONDS, get_tool_path
 from .programmes import BEGIN, LASTS, SECOND, repeat_last_page, make_programme, wait_until
-from .stories import read_table
+from .stories import read_vectors
 from .streams import multiplex_frames
 from .transmissions import packets, write_subtitle_file
 
 LEAD_SECONDS, TAIL_SECONDS = 4, 6  # length of the feed before and after the programme, in seconds
 ALL = LEAD_SECONDS + LASTS + TAIL_SECONDS
 MISSING_PES = slice(4, 6)  # PES packets that a wrong feed lacks
-# In seconds of a feed, which has the programme from 4 to 16 and, if it is repeated, from 26 to 38:
-# what is recorded, the scheduled air time, and how much earlier or later the programme may begin.
-# Then whether the feed lacks MISSING_PES, the verdict, and whether later segments can't change it.
-AIR_CASES = """
-case                            | recorded | air | early | late | feed  | verdict    | is final
-right                           | 0-22     | 0   | 60    | 60   | right | relative   | True
-wrong                           | 0-22     | 0   | 60    | 60   | wrong | refused    | True
-it has not ended                | 0-10     | 0   | 60    | 60   | right | refused    | False
-it has not begun                | 0-3      | 0   | 60    | 60   | right | not judged | False
-its beginning is missing        | 8-22     | 0   | 60    | 60   | right | not judged | False
-it begins within the margin     | 0-22     | 0   | 5     | 5    | right | relative   | True
-it is repeated after the margin | 0-44     | 0   | 5     | 5    | right | relative   | True
-it begins later                 | 0-22     | 0   | 2     | 2    | right | not judged | False
-it may begin earlier, not later | 0-22     | 0   | 60    | 2    | right | not judged | False
-the same, wrong                 | 0-22     | 0   | 2     | 2    | wrong | not judged | False
-it begins earlier               | 0-22     | 8   | 2     | 2    | right | not judged | False
-"""
-NO_BEGINNING = "the first subtitle was expected before the first recorded PES packet of the page"
-LATER = "the programme did not begin within 2 s of 2026-12-01T08:00:00Z, but later"
-LATER_THAN_2 = LATER.replace("2 s of", "60 s before and 2 s after")
-# The beginnings of the reasons
-REASONS = {
-    "right": "relative", "wrong": "refused 72", "it has not ended": "refused",
-    "it has not begun": "has no header of page 888", "its beginning is missing": NO_BEGINNING,
-    "it begins within the margin": "relative", "it is repeated after the margin": "relative",
-    "it begins later": LATER, "it may begin earlier, not later": LATER_THAN_2,
-    "the same, wrong": LATER, "it begins earlier": NO_BEGINNING}
 
 
 def sleep_and_return_7() -> int:
@@ -100,15 +73,15 @@ class Checks(Feeds):
 
     def test_each_recording_gets_its_verdict(self) -> None:
         feeds = {"right": 2 * self.make_feed(), "wrong": 2 * self.make_feed(is_wrong=True)}
-        for row in read_table(AIR_CASES):
-            name, (first, last) = row["case"], map(int, row["recorded"].split("-"))
+        for row in read_vectors("air-recordings.tsv"):
+            name, (first, last) = row["name"], map(int, row["recorded"].split("-"))
             result = self.check_frames(
                 feeds[row["feed"]][first * FRAMES_A_SECOND:last * FRAMES_A_SECOND], first,
                 int(row["air"]), int(row["early"]), int(row["late"]))
             self.check(name, (result.verdict, str(result.is_final)),
                        (row["verdict"], row["is final"]))
             _, _, reason = result.reason.rpartition("/recording.ts ")  # without the path
-            self.must(f"{name}: reason", reason.startswith(REASONS[name]), reason)
+            self.must(f"{name}: reason", reason.startswith(row["reason"]), reason)
 
     def test_a_result_notes_the_margin_of_its_air_time(self) -> None:
         for is_wrong in (False, True):
