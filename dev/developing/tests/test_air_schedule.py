@@ -68,7 +68,10 @@ class Lines(AirCase):
             self.check(row["name"], self.read_lines(row["line"] + "\n"),
                        [*filter(None, (row["programme"], fault))])
 
+    @mock.patch.dict(os.environ, TZ="CET-1CEST,M3.5.0,M10.5.0/3")  # Berlin
     def test_names_results_by_utc_when_the_clocks_change(self) -> None:
+        self.addCleanup(time.tzset)
+        time.tzset()
         for air_time, name in NIGHTS.items():
             line, = self.read_lines(f"{air_time} a.stl\n")
             self.check(air_time, line.split()[0], name)
