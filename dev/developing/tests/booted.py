@@ -9,7 +9,6 @@ import unittest
 from subtitles.common.program import TOP
 from .bench import SECONDS
 
-SYSTEMD = "/lib/systemd/systemd"
 # Starts systemd in a control group of its own. At the end of standard input, also if the test was
 # killed, kills it and removes the group.
 START = r"""
@@ -66,7 +65,7 @@ class BootedSystem:
 
     def __init__(self, folder: str) -> None:
         """Boot systemd with mounts in an empty folder. If that fails, skip the test."""
-        if not os.path.exists(SYSTEMD):
+        if not os.path.exists("/lib/systemd/systemd"):
             raise unittest.SkipTest("running units, since there is no systemd")
         self.folder, self.log = folder, open(os.path.join(folder, "log"), "w+b")
         self.process = subprocess.Popen(

@@ -28,8 +28,7 @@ UNITS = {RECORD_UNIT: "record", JUDGE_UNIT: "-o", WATCH_UNIT: "-o"}
 def read_unit(name: str) -> configparser.ConfigParser:
     unit = configparser.ConfigParser(interpolation=None, strict=False)
     unit.optionxform = str  # type: ignore
-    with open(os.path.join(MANUAL, name), encoding="utf-8") as file:
-        unit.read_string(file.read().replace("\\\n", " "))
+    unit.read_string(pathlib.Path(MANUAL, name).read_text("utf-8").replace("\\\n", " "))
     return unit
 
 
@@ -41,8 +40,7 @@ def split_unit_command(unit: configparser.ConfigParser) -> list[str]:
 
 def read_channel_settings() -> str:
     """Return the manual's example of a channel's settings."""
-    with open(os.path.join(MANUAL, "subttx-channel.conf"), encoding="utf-8") as file:
-        return file.read()
+    return pathlib.Path(MANUAL, "subttx-channel.conf").read_text("utf-8")
 
 
 class Units(Case):
@@ -123,8 +121,7 @@ class RunningUnits(Case):
 
     def put(self, path: str, text: str) -> None:
         """Write a file in the booted system."""
-        with open(self.system.path(path), "w", encoding="utf-8") as file:
-            file.write(text)
+        pathlib.Path(self.system.path(path)).write_text(text, "utf-8")
 
     def install(self) -> None:
         """Install the tools and units without a package, as the manual says."""
