@@ -134,9 +134,8 @@ class AirCase(Case):
     def put_segment(self, begin: float, end: float, data: bytes = b"", is_new: bool = False
                     ) -> str:
         """Put a segment, whose name reports a possible loss before it if `is_new` is true."""
-        path = self.path(f"segments/{make_segment_name(DAY + begin, is_new)}")
-        with open(path, "wb") as file:
-            file.write(data or b"." * max(int(end - begin), 1))
+        path = super().write(f"segments/{make_segment_name(DAY + begin, is_new)}",
+                             data or b"." * max(int(end - begin), 1))
         os.utime(path, (DAY + end, DAY + end))
         return path
 
