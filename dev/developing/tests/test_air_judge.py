@@ -1,13 +1,12 @@
 """Test the judge of tools/air: its verdicts, their times, and its reaction to failures."""
 from __future__ import annotations
 
-import contextlib
 import errno
 import json
 import math
 import os
 import time
-from typing import Any, BinaryIO, Collection, Sequence
+from typing import Any, Collection, Sequence
 from unittest import mock
 
 from subtitles.air import judge as judging
@@ -386,16 +385,11 @@ class JudgedProgrammes(AirCase):
         self.check("reason", self.result(NAME)["reason"], f"{self.path('one.stl')} does not exist")
 
     def test_judges_again_if_the_result_cannot_be_written(self) -> None:
-        errors = [OSError(errno.ENOSPC, "No space left on device")] * 3
-
-        def write(path: str, is_stored: bool) -> contextlib.AbstractContextManager[BinaryIO]:
-            if errors:
-                raise errors.pop()
-            return open_result(path, is_stored)
-
-        with mock.patch.object(judging, "open_result", write):
+        full = OSError(errno.ENOSPC, "No space left on device")
+        with mock.patch.object(judging, "open_result", wraps=open_result,
+                               side_effect=[full, full, full, mock.DEFAULT]) as write:
             self.run_judge(FakeChecker(ON_TIME), until=900)
-        self.check("errors left, results", (errors, self.verdicts()), ([], {NAME: "relative"}))
+        self.check("calls, results", (write.call_count, self.verdicts()), (4, {NAME: "relative"}))
 
     def test_a_damaged_schedule_loses_no_programme(self) -> None:
         checker, complete = FakeChecker(ON_TIME), self.read("schedule")
@@ -468,20 +462,17 @@ class JudgedProgrammes(AirCase):
 
     def test_writes_the_page_and_the_list_before_the_result(self) -> None:
         # Only results of judged programmes have a request.
-        judged, written = make_outcome(NAME, "relative", "relative", request={}), list[str]()
+        judged = make_outcome(NAME, "relative", "relative", request={})
         checker = FakeChecker(NEVER_SENT, lambda _: judged)
         checker.work = self.path("work")
         os.mkdir(checker.work)
         for ending in ("html", "json", "txt"):
             self.write(f"work/{NAME}.{ending}", b'{"verdict": "relative"}')
-
-        def write(path: str, is_stored: bool) -> contextlib.AbstractContextManager[BinaryIO]:
-            written.append(f"{os.path.splitext(path)[1]} {is_stored}")
-            return open_result(path, is_stored)
-
-        with mock.patch.object(judging, "open_result", write):
+        with mock.patch.object(judging, "open_result", wraps=open_result) as write:
             self.run_judge(checker, until=700)
-        self.check("endings, is_stored", written, [".html True", ".txt True", ".json True"])
+        self.check("endings, is_stored", [
+            (os.path.splitext(call.args[0])[1], call.kwargs["is_stored"])
+            for call in write.call_args_list], [(".html", True), (".txt", True), (".json", True)])
 
     def test_calls_the_command_once_for_each_result(self) -> None:
         command = self.write_program(
