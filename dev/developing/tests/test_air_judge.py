@@ -26,7 +26,6 @@ from .transmissions import write_subtitle_file
 NAME = "20261201T081000Z-one"
 BEGIN, END = 600, 660  # scheduled air time in seconds after DAY
 OTHER_NAME = NAME.replace("one", "two")
-PAGE_NAME = f"{OTHER_NAME}-889"
 PAGE, OTHER_PAGE = (0, 0x88), (0, 0x89)
 
 ON_TIME = {NAME: SentProgramme(BEGIN, END)}
@@ -424,15 +423,6 @@ class JudgedProgrammes(AirCase):
         self.write_schedule("2026-12-01T08:10:00Z one.stl")
         judge.look(DAY + 705)
         self.check("alarm if it is there again", judge.monitor.find_alarms()["schedule"], False)
-
-    def test_judges_two_pages_on_the_same_segments(self) -> None:
-        self.write_schedule("2026-12-01T08:10:00Z one.stl",
-                            "2026-12-01T08:10:00Z two.stl --page 889")
-        judge = self.make_judge(FakeChecker({
-            **ON_TIME, PAGE_NAME: SentProgramme(BEGIN, END, is_correct=False)}))
-        while judge.look(DAY + 700):
-            pass
-        self.check("results", self.verdicts(), {NAME: "relative", PAGE_NAME: "refused"})
 
     def test_a_restart_of_the_recorder_is_a_gap(self) -> None:
         for begin in (630, 625):  # the second after the clock was set back
