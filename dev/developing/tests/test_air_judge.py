@@ -178,14 +178,6 @@ class JudgedProgrammes(AirCase):
             judge.look(DAY + now)
             self.check(f"pages on air at {now}", [*judge.monitor.pages_on_air], pages)
 
-    def test_judges_a_programme_once_its_missing_file_is_there(self) -> None:
-        os.rename(self.path("one.stl"), self.path("later.stl"))
-        checker = FakeChecker(ON_TIME)
-        self.run_judge(checker, until=725)
-        os.rename(self.path("later.stl"), self.path("one.stl"))
-        self.run_judge(checker, since=2000, until=2100)
-        self.check("results", self.verdicts(), {NAME: "relative"})
-
     def test_reads_few_segments_while_a_subtitle_file_is_missing(self) -> None:
         self.put_segments(0, 4000)
         os.unlink(self.path("one.stl"))
