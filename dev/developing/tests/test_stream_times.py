@@ -17,7 +17,7 @@ from subtitles.stream.packets import (
 from subtitles.stream.ranges import find_range, is_outside
 from subtitles.stream.survey import Survey
 from .parts import read_survey
-from .stories import read_table
+from .stories import read_vectors
 
 
 PID = 257
@@ -49,78 +49,6 @@ def list_spans(numbers: set[int]) -> list[tuple[int, int]]:
 def text_of(number: int, flags: str) -> Texts:
     """Return the rows decoded after a PES packet: none, the same text (y), or a new text."""
     return () if "b" in flags else ((20, b"same" if flags[-1] == "y" else b"%d" % number),)
-
-
-# PES packets, each with its frame and flags, and the range found for a programme with the first TCI
-# in frame 100 and the last TCO in frame 200. The flags are h (header), e (erase page), b (blank), o
-# (open), c (closed), x (another text) and y (the same text). `m` is a gap marker. `found` has `end`
-# if the last page transmission was found, and `over` if no later PES packet can be in the range.
-# `read` is the number of PES packets that were read.
-RANGES = """
-sent                                   | range | found    | read | where it begins or ends
-100:he 200:he                          | 0-1   | end      | 2    | at the first header
-100:- 101:- 120:he 200:he              | 2-3   | end      | 4    | at a header after rows
-100:- 200:-                            |       |          | 2    | no header
-100:he 300:he 150:- 300:he 200:heb     | 0-4   | end      | 5    | two wrong PTS, each alone
-99:he 201:he 202:he                    |       |          | 3    | headers before and after
-99:heb 100:he 200:heb                  | 1-2   | end      | 3    | not at an earlier blank page
-100:he 200:- 201:he                    | 0-1   | end over | 3    | at the last TCO, without a header
-100:- 201:- 202:-                      |       | over     | 3    | no header, two after the end
-"""
-# A header up to 25 frames before or after also counts.
-RANGES_WITH_REPEATS = """
-sent                                   | range | found    | read | where it begins or ends
-75:heb 80:heb 100:he 200:heb           | 1-3   | end      | 4    | at the last blank page
-74:heb 100:he 200:heb                  | 1-2   | end      | 3    | not 26 frames before
-75:heb 100:he 200:heb                  | 0-2   | end      | 3    | 25 frames before
-80:heb 90:he 100:he 200:heb            | 0-3   | end      | 4    | not at a page with text
-80:hb 100:he 200:heb                   | 0-2   | end      | 3    | at a blank page that keeps
-80:he 90:hb 100:he 200:heb             | 1-3   | end      | 4    | at one that keeps, not erases
-80:heb 90:he 100:hex 200:heb           | 2-3   | end      | 4    | at a new text at the first TCI
-75:he 80:- 100:he 200:heb              | 0-3   | end      | 4    | at the header before a repeat
-80:hebx 90:he 100:he 200:heb           | 0-3   | end      | 4    | before a text that stays
-80:heb 90:he 101:hex 200:heb           | 0-3   | end      | 4    | before a text after the TCI
-80:heb m 100:hex 200:heb               | 0-3   | end      | 4    | at a blank page before a gap
-80:he 80:b 100:he 200:heb              | 2-3   | end      | 4    | not at a second PES packet
-100:he 150:-                           | 0-1   |          | 2    | at the last PES packet
-100:he 150:- 120:-                     | 0-2   |          | 3    | after a PTS that goes back
-100:he 200:heb 201:- 202:-             | 0-1   | end over | 3    | at a header at the last TCO
-100:he 200:heb 200:- 201:-             | 0-2   | end over | 4    | with all of the last frame
-100:he 200:- 210:he 220:he             | 0-2   | end over | 4    | at a later header
-225:he 226:he                          | 0-0   | end over | 2    | at a header 25 frames after
-226:he 227:he                          |       |          | 2    | not 26 frames after
-100:he 225:he 226:he                   | 0-1   | end over | 3    | up to 25 frames after
-100:he 226:he 227:he                   | 0-0   | over     | 3    | not up to 26 frames after
-100:he 900:he 150:he 200:he 201:- 202:- | 0-3  | end over | 5    | one far behind
-100:he 900:he 901:he 200:he            | 0-0   | over     | 3    | two far behind
-100:he 5:he 200:heb                    | 0-2   | end      | 3    | one far before
-100:he m 200:heb m 201:-               | 0-3   | end over | 5    | gap markers between and after
-m 100:he 200:heb                       | 1-2   | end      | 3    | a gap marker before
-80:- m:heb 100:- 200:heb               | 1-3   | end      | 4    | at a header without a PTS
-                                       |       |          | 0    | nothing
-"""
-# Pages may also be two frames late.
-RANGES_OF_LATE_PAGES = """
-sent                                   | range | found    | read | where it begins or ends
-80:hb 90:hb 101:he 200:heb             | 1-3   | end      | 4    | at the last blank page
-80:he 80:b 100:he 200:heb              | 0-3   | end      | 4    | at a frame of two PES packets
-79:he 80:- 80:hb 100:he 200:heb        | 1-4   | end      | 5    | a header in the second of two
-75:hey 80:- 100:he 200:heb             | 0-3   | end      | 4    | at the header before a repeat
-77:hey 102:he 200:heb                  | 0-2   | end      | 3    | before a repeat, two frames late
-75:heb 76:hey 100:hebx 100:oy 200:heb  | 0-4   | end      | 5    | before a repeat, rows apart
-75:heb 76:hey 100:hebx 102:oy 200:heb  | 0-4   | end      | 5    | rows two frames later
-75:heb 76:hey 99:hebx 100:oy 200:heb   | 0-4   | end      | 5    | begun before the first TCI
-75:heb 76:hey 100:hebx 100:ox 200:heb  | 2-4   | end      | 5    | not before another text
-75:heb 76:hey 97:hebx 100:hey 200:heb  | 2-4   | end      | 5    | not if blank for three frames
-100:he 200:he 203:-                    | 0-2   | end      | 3    | not at a page with text
-100:he 200:he 201:heb 202:-            | 0-2   | end over | 4    | at the blank page
-100:heo 200:heob 201:-                 | 0-1   | end over | 3    | at an open page, none was closed
-100:heo 101:c 200:heob 201:cb 202:-    | 0-3   | end over | 5    | at its end, one before was closed
-74.8:heb 99.8:he 199.8:heb 203:-       | 0-2   | end over | 4    | a fifth of a frame early
-80:heo 81:c 100:heox 200:heob 201:- 210:- | 2-3 | end over | 5   | only an earlier one was closed
-100:heo 101:c 200:heob 201:cb 202:heob 225:heob | 0-3 | end over | 5 | before more blank pages
-100:he 201:he 202:he 203:-             | 0-2   | end over | 4    | two frames late
-"""
 
 
 class ClockTables(unittest.TestCase):
@@ -253,10 +181,10 @@ class ClockTables(unittest.TestCase):
             self.assertEqual([(place.before, place.missing) for place in find_loss_places(packets)],
                              expected, (markers, pcr_steps))
 
-    def check_ranges(self, table: str, every: int | None = None, within: int = 0) -> None:
-        """Check the ranges found for frames 100 to 200, and their first and last frames."""
-        low, high = 100 - (every or 0), 200 + (every or 0)
-        for row in read_table(table):
+    def test_finds_the_range_of_a_programme(self) -> None:
+        for row in read_vectors("ranges.tsv"):
+            every, within = int(row["every"]) if row["every"] else None, int(row["within"])
+            low, high = 100 - (every or 0), 200 + (every or 0)
             sent = [item.partition(":")[::2] for item in row["sent"].split()]
             times = [-1.0 if frame == "m" else float(frame) for frame, _ in sent]
             pts = [None if frame < 0 else round(TICKS * frame) for frame in times]
@@ -271,7 +199,7 @@ class ClockTables(unittest.TestCase):
             frames = [round(frame) for frame in times]
             first, last = [int(number) for number in row["range"].split("-")] if row["range"] \
                 else [len(sent), -1]
-            with self.subTest(f"{row['sent']}: {row['where it begins or ends']}"):
+            with self.subTest(f"{row['sent']}: {row['name']}"):
                 self.assertEqual((found, " ".join(["end"] * result.has_end + ["over"] * (
                     result.is_over)), f"{result.read}"), (row["range"], row["found"], row["read"]))
                 self.assertEqual((result.first_packet_frame, result.first, result.last), (
@@ -282,11 +210,6 @@ class ClockTables(unittest.TestCase):
                 self.assertTrue(result.describe().startswith(
                     f"{last - first + 1} of {words}, from 00:00:0" if row["range"] else
                     f"none of {words} at the time of the subtitles contains"))
-
-    def test_finds_the_range_of_a_programme(self) -> None:
-        self.check_ranges(RANGES)
-        self.check_ranges(RANGES_WITH_REPEATS, 25)
-        self.check_ranges(RANGES_OF_LATE_PAGES, 25, 2)
 
     def test_a_part_omits_an_earlier_header_if_the_text_was_expected_before_the_part(self) -> None:
         packets = make_packets_in_frames((75, 100, 200), "he")
