@@ -7,7 +7,8 @@ import io
 import itertools
 import os
 import random
-from typing import Any, Iterable, NamedTuple, Sequence
+import re
+from typing import Any, Iterable
 
 from developing.pes import make_pes_packet
 from subtitles.common.command_line import Stop
@@ -17,9 +18,9 @@ from subtitles.stream.gaps import (
     describe_gap_markers, describe_loss, do_overlap, find_loss_places, find_pts_delay,
     find_recorded_range, LossPlace, MAX_LATE, SECOND)
 from subtitles.stream.pace import (
-    BY_EVERY, compute_pace, count_distances, estimate_packets_per_pes, find_hidden_loss,
-    find_pauses, find_silences, find_usual_distance, IRREGULAR, list_frame_rows, MAX_EXCEPTIONS,
-    PAUSED, Pauses, REGULAR, Silence, TOO_FEW)
+    compute_pace, count_distances, estimate_packets_per_pes, find_hidden_loss, find_pauses,
+    find_silences, find_usual_distance, list_frame_rows, MAX_EXCEPTIONS, PAUSED, Pauses, REGULAR,
+    Silence)
 from subtitles.stream.packets import GapMarker, PacketRun, Packets, PCRStep
 from subtitles.stream.repeats import list_cue_frames
 from subtitles.stream.survey import ProgramMap, Survey
@@ -29,188 +30,47 @@ from ..promises import find_unknown_clauses, list_indexed_clauses
 from .bench import Case, import_script
 from .judged import judge_files, JudgedPair, ProgrammeCase
 from .parts import make_example_request
+from .stories import read_vectors
 from .streams import delete_between, join_packets, make_multiplex, Packet, Shape, TELETEXT_PID
 from .transmissions import schedule_pages, SentPes, write_pipe, write_programme
 
 BEGIN = 900_000  # frame number of the first TCI
-LONG = range(5000)  # in these frames, up to five losses are ignored
-FOUR_HUNDRED_FRAMES = range(400)  # in these frames, up to three losses are ignored
 
 
-class Row(NamedTuple):
-    """A test case of `compute_pace`. `rows` has the frames of the PES packets between two losses,
-    `each` is the number of TS packets of a PES packet, `every` the longest time without a page
-    header, and `pauses` has the frames between subtitles. Expected are the kind of the pace, if it
-    is REGULAR the value `frames` of --pace, and the number `hidden` of places at which a loss
-    leaves no longer interval."""
-
-    name: str
-    rows: Sequence[Sequence[int]]
-    kind: str = REGULAR
-    frames: int = 2
-    each: int = 1
-    every: int = 250
-    pauses: Pauses = ()
-    hidden: int = 0
+def read_frames(text: str) -> list[list[int]]:
+    """Return the frames of the PES packets in each row, as dev/vectors/paces.tsv describes them."""
+    while "*" in text:
+        text = re.sub(r"(?:\(([^()]*)\)|(\d+))\*(\d+)",
+                      lambda match: f"{match[1] or match[2]} " * int(match[3]), text)
+    return [[*itertools.accumulate(int(step) for step in row.split() if step != "-")]
+            for row in text.split("/") if row.strip()]
 
 
-def remove_frames(frames: Sequence[int], *losses: tuple[int, int]) -> list[int]:
-    """Return the frames outside `losses`. A loss (F, N) contains the N frames after frame F."""
-    missing = {frame for first, count in losses for frame in range(first + 1, first + 1 + count)}
-    return [frame for frame in frames if frame not in missing]
-
-
-def list_frames_without(count: int) -> list[int]:
-    """Return the frames of PES packets. Each frame has two, but `count` frames have none."""
-    return [at // 2 for at in range(800) if not 200 <= at // 2 < 200 + count]
-
-
-def repeat_steps(steps: Sequence[int], times: int) -> list[int]:
-    result = [0]
-    for step in [*steps] * times:
-        result.append(result[-1] + step)
-    return result
-
-
-# No PES packet is sent between the frames 999 and 1100, and between 2999 and 3100.
-ONE_SILENCE = remove_frames(LONG, (999, 100))
-TWO_SILENCES = remove_frames(LONG, (999, 100), (2999, 100))
-STREAM_ROWS = [
-    Row("no PES packet is read", [], TOO_FEW), Row("a row without PES packets", [[]], TOO_FEW),
-    Row("one PES packet", [[7]], TOO_FEW), Row("99 intervals, one too few", [range(100)], TOO_FEW),
-    Row("100 intervals", [range(101)]),
-    Row("two PES packets between two others", [sorted({*range(0, 3000, 10), 1003, 1006})],
-        frames=22, hidden=3),
-    Row("nine rows, between eight losses", [range(50 * at, 50 * at + 40) for at in range(9)]),
-    Row("rows of three PES packets", [range(50 * at, 50 * at + 3) for at in range(99)], TOO_FEW),
-    Row("few: 30 frames across two lost ones, --every 30", [range(0, 990, 10)], TOO_FEW, every=30),
-    Row("few: 30 frames across two lost ones, --every 29", [range(0, 990, 10)], BY_EVERY, every=29),
-    Row("few: 3 frames across two lost ones", [[0, 1, 2, 3, 999]], TOO_FEW),
-    Row("four: 300 frames across two lost ones", [[0, 100, 200, 300]], BY_EVERY),
-    # Streams with longer intervals, up to and over the limit.
-    Row("75 frames across two lost ones, --every 75", [repeat_steps([25], 200)], frames=74,
-        every=75),
-    Row("75 frames across two lost ones, --every 74", [repeat_steps([25], 200)], BY_EVERY,
-        every=74),
-    Row("the same, but three steps are short", [repeat_steps([*[25] * 300, 1, 1, 1], 1)],
-        frames=74, every=74, hidden=3),
-    # Streams with two or more PES packets in some frames.
-    Row("all in one frame", [[5] * 400], hidden=397),
-    Row("two in a frame, 24 frames without", [list_frames_without(24)], hidden=746),
-    Row("one frame of 200 without", [repeat_steps([*[0, 1] * 198, 0, 2], 5)], hidden=1979),
-    Row("one frame of 40 without", [repeat_steps([*[0, 1] * 38, 0, 2], 25)], IRREGULAR),
-    # Streams with jitter, with changes between repetitions, or with bursts.
-    Row("jitter", [repeat_steps([1, 1, 2, 0, 1], 100)], frames=3, hidden=398),
-    Row("a frame of three", [repeat_steps([1, 1, 3, 1, 0], 100)], frames=4, each=9, hidden=298),
-    Row("bursts", [repeat_steps([1] * 20 + [100], 50)], IRREGULAR),
-    Row("bursts of two TS packets", [repeat_steps([1] * 10 + [60], 50)], frames=61, each=2,
-        hidden=400),
-    # Streams with few bursts, which are ignored.
-    Row("few bursts", [repeat_steps([*[25] * 300, 1, 1, 1], 1)], frames=74, each=2, hidden=3),
-    Row("one burst of two", [repeat_steps([*[25] * 300, 1, 1, *[25] * 100], 1)], frames=26),
-    Row("one of five", [repeat_steps([*[25] * 100, *[1] * 5, *[25] * 100], 1)], frames=26,
-        hidden=3),
-    Row("one of six", [repeat_steps([*[25] * 100, *[1] * 6, *[25] * 100], 1)], frames=26, hidden=4),
-    # Streams with few losses at different places, up to the allowed number.
-    *(Row(f"{count} frames lost after frame {first}", [remove_frames(LONG, (first, count))])
-      for first in (0, 2500, 4700) for count in (16, 249)),
-    Row("a loss just before the end", [remove_frames(LONG, (4990, 5))]),
-    Row("four losses in 400 frames",
-        [remove_frames(FOUR_HUNDRED_FRAMES, (50, 20), (150, 20), (250, 20), (300, 20))], IRREGULAR),
-    Row("six losses in 6000 frames",
-        [remove_frames(range(6000), *((900 * at, 20) for at in range(6)))], IRREGULAR),
-    # A silence, and pauses of the programme.
-    *(Row(f"a pause to {end}", [ONE_SILENCE], PAUSED, pauses=[(999, end)])
-      for end in (1095, 1105)),
-    *(Row(f"another pause, to {end}", [ONE_SILENCE], pauses=[(999, end)])
-      for end in (1094, 1106)),
-    Row("a pause that began later", [ONE_SILENCE], pauses=[(1000, 1100)]),
-    Row("a pause in the second row", [range(500), ONE_SILENCE], PAUSED, pauses=[(999, 1100)]),
-    Row("after the last subtitle", [ONE_SILENCE], PAUSED, pauses=[(0, 500), (999, None)]),
-    Row("before the last subtitle ends", [ONE_SILENCE], pauses=[(0, 500), (1000, None)]),
-    Row("before the first subtitle", [ONE_SILENCE], PAUSED, pauses=[(None, 1095), (1500, 1600)]),
-    Row("long before the first subtitle", [ONE_SILENCE], PAUSED, pauses=[(None, 3000)]),
-    # Streams with few PES packets in a part of the frames, and streams with two losses.
-    Row("each 100th frame for a while",
-        [[*range(2500), *range(2500, 3000, 100), *range(2900, 5000)]], PAUSED),
-    Row("two, seventeen steps between", [remove_frames(LONG, (999, 100), (1116, 100))]),
-    *(Row(f"two, {steps} steps of {each} TS packets between",
-          [remove_frames(range(800 + steps), (299, 100), (399 + steps, 100))], kind, each=each)
-      for kind, each, steps in (
-          (REGULAR, 1, 17), (REGULAR, 2, 9), (REGULAR, 4, 5), (REGULAR, 9, 3),
-          (PAUSED, 1, 16), (PAUSED, 2, 8), (PAUSED, 4, 4), (PAUSED, 9, 2))),
-    # Streams without PES packets in most pauses of the programme, or only in some of them.
-    Row("in one pause of two that are as long", [ONE_SILENCE], pauses=[(999, 1100), (2999, 3100)]),
-    Row("in both of two pauses", [TWO_SILENCES], PAUSED, pauses=[(999, 1100), (2999, 3100)]),
-    Row("in the longer of two pauses", [ONE_SILENCE], PAUSED, pauses=[(999, 1100), (2999, 3099)]),
-    Row("in two of three pauses that are as long", [remove_frames(LONG, (999, 100), (2999, 50))],
-        PAUSED, pauses=[(999, 1100), (2900, 3050), (3999, 4120)]),
-    Row("in two of four pauses that are as long", [remove_frames(LONG, (999, 100), (2999, 50))],
-        pauses=[(999, 1100), (2900, 3050), (3999, 4120), (4500, 4700)]),
-    Row("one of two is in a pause", [TWO_SILENCES], pauses=[(999, 1100)]),
-    Row("two of three are in a pause", [remove_frames(LONG, (999, 100), (1999, 100), (2999, 100))],
-        PAUSED, pauses=[(999, 1100), (2999, 3100)]),
-    # With a larger `every`, intervals of more than 250 and at most `every` frames are pauses.
-    *(Row(f"{count + 1} frames of {every}", [remove_frames(LONG, (999, count))], PAUSED,
-          every=every)
-      for count, every in ((299, 300), (250, 1500), (1499, 1500))),
-    *(Row(f"{count + 1} frames of {every}, which are none", [remove_frames(LONG, (999, count))],
-          every=every)
-      for count, every in ((249, 1500), (1500, 1500))),
-]
-FILE_ROWS = [
-    Row("each frame", [FOUR_HUNDRED_FRAMES], frames=1),
-    Row("one missing", [remove_frames(FOUR_HUNDRED_FRAMES, (50, 1))], frames=1),
-    Row("three missing", [remove_frames(FOUR_HUNDRED_FRAMES, (50, 1), (150, 1), (250, 1))],
-        frames=1),
-    Row("four missing",
-        [remove_frames(FOUR_HUNDRED_FRAMES, (50, 1), (150, 1), (250, 1), (300, 1))], frames=2,
-        hidden=386),
-    Row("50 frames across a lost one, --every 26", [repeat_steps([25], 200)], frames=25, every=26),
-    Row("--every 25", [repeat_steps([25], 200)], BY_EVERY, every=25),
-    Row("over the bound but for some", [repeat_steps([10, 15, 25], 70)], frames=25, every=25,
-        hidden=70),
-    Row("all over the bound", [repeat_steps([10, 16, 25], 70)], BY_EVERY, every=25),
-    Row("all in one frame", [[5] * 400], frames=2, hidden=398),
-    Row("a timer, one missing",
-        [remove_frames(repeat_steps([25, 25, 12, 25, 7], 60), (94 * 20, 30))], frames=25),
-    Row("two of three frames, three missing",
-        [remove_frames(repeat_steps([1, 2], 200), (59, 3), (149, 3), (239, 3))], frames=2,
-        hidden=0),
-    Row("twelve missing, two together",
-        [remove_frames(FOUR_HUNDRED_FRAMES, (9, 2), *((30 * at, 1) for at in range(1, 11)))],
-        frames=2, hidden=364),
-    Row("thirteen missing, two together",
-        [remove_frames(FOUR_HUNDRED_FRAMES, (9, 2), *((30 * at, 1) for at in range(1, 13)))],
-        IRREGULAR),
-    Row("too few", [range(100)], TOO_FEW),
-    Row("few, up to the bound", [range(0, 990, 10)], TOO_FEW, every=20),
-    Row("few, over the bound", [range(0, 990, 10)], BY_EVERY, every=19),
-]
+def read_pauses(text: str) -> Pauses:
+    ends = [item.split("-") for item in text.split()]
+    return [(int(begin) if begin else None, int(end) if end else None) for begin, end in ends]
 
 
 class PaceDecisions(Case):
     """How far apart PES packets may be (the pace), from the frames in which they come."""
 
-    def check_paces(self, table: Sequence[Row], is_stream: bool) -> None:
-        for row in table:
-            pace = compute_pace(row.rows, row.each, row.every, row.pauses, is_stream)
-            self.check(row.name, (pace.kind, pace.frames, pace.hidden_places),
-                       (row.kind, row.frames if row.kind == REGULAR else None, row.hidden))
-
-    def test_measures_the_pace_of_transport_streams(self) -> None:
-        self.check_paces(STREAM_ROWS, is_stream=True)
-
-    def test_measures_the_pace_of_files_of_pes_packets(self) -> None:
-        self.check_paces(FILE_ROWS, is_stream=False)
+    def test_measures_the_pace_of_streams_and_of_files_of_pes_packets(self) -> None:
+        for row in read_vectors("paces.tsv"):
+            pace = compute_pace(
+                read_frames(row["frames"]), int(row["each"] or 1), int(row["every"] or 250),
+                read_pauses(row["pauses"]), is_stream=row["source"] == "stream")
+            self.check(f"{row['source']}, {row['name']}",
+                       (pace.kind, pace.frames, pace.hidden_places),
+                       (row["kind"], int(row["pace"]) if row["pace"] else None,
+                        int(row["hidden"] or 0)))
 
     def test_returns_the_usual_interval_and_the_shortest_after_a_loss(self) -> None:
         self.check_rows(lambda *arguments: compute_pace(*arguments)[:3], {
-            "regular, one loss": (([remove_frames(LONG, (9, 20))], 2, 250), (REGULAR, 1, 3)),
+            "regular, one loss": (([[*range(10), *range(30, 5000)]], 2, 250), (REGULAR, 1, 3)),
             "a pause of 301 frames": (
-                ([remove_frames(LONG, (9, 300))], 1, 999, [(0, 9)]), (PAUSED, 301, 3)),
+                ([[*range(10), *range(310, 5000)]], 1, 999, [(0, 9)]), (PAUSED, 301, 3)),
             "two pauses, and a loss in a subtitle": (
-                ([remove_frames(LONG, (9, 200), (999, 90), (2999, 94))], 1, 250,
+                ([[*range(10), *range(210, 1000), *range(1090, 3000), *range(3094, 5000)]], 1, 250,
                  [(999, 1090), (2999, 3094)]), (PAUSED, 95, 3))})
 
     def test_ignores_the_three_longest_intervals(self) -> None:
@@ -250,7 +110,7 @@ class PaceDecisions(Case):
                 "three frames are usual": (({1: 1900, 3: 101, 4: 19},), 3)})
 
     def test_finds_the_shortest_loss_that_no_counter_shows(self) -> None:
-        two = list_frames_without(0)
+        two = [at // 2 for at in range(800)]
         self.check_rows(find_hidden_loss, {
             "no PES packet": (([], 1), None), "17, all in one frame": (([[7] * 17], 1), None),
             "18, one a frame": (([[*range(18)]], 1), 17), "two a frame": (([two], 1), 8),
