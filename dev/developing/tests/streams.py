@@ -19,24 +19,23 @@ SLICES = b"\0\0\1\1" + b"slice data " * 9  # slices of an MPEG-2 picture
 PTS_AHEAD = 18_000  # difference between PTS and PCR in ticks
 
 
-def make_mpeg_2_picture(structure: int = 3) -> bytes:
-    """Return an MPEG-2 frame picture, or a field picture if `structure` is 1 or 2."""
-    extension = bytes([0x80, 0, structure, 0, 0])
+def make_mpeg_2_picture() -> bytes:
+    """Return an MPEG-2 frame picture."""
+    extension = bytes([0x80, 0, 3, 0, 0])
     return b"\0\0\1\0\0\0\0\0" + b"\0\0\1\xb5" + extension + SLICES
 
 
 CLOSED_GROUP = b"\0\0\1\xb8\0\x08\0\x40"  # an MPEG-2 GOP header with closed_gop
 
 
-def make_h_264_picture(field: int | None = None) -> bytes:
-    """Return an H.264 frame or field (0 or 1), with a sequence parameter set that allows fields."""
+def make_h_264_picture() -> bytes:
+    """Return an H.264 frame, with a sequence parameter set that allows fields."""
     # Baseline profile, level 3, seq_parameter_set_id 0, frame_num with 4 bits, pic_order_cnt_type
     # 2, one reference frame, width and height of 16 macroblocks, frame_mbs_only_flag 0.
     sequence = convert_bits("01000010 00000000 00011110 1 1 011 010 0 00001111 00001111 0 1 0 0 1")
     # first_mb_in_slice 0, slice_type 2, pic_parameter_set_id 0, frame_num 0, field_pic_flag
-    flags = "0" if field is None else f"1{field}"
     return (b"\0\0\0\1\x09\xf0" + b"\0\0\0\1\x67" + sequence + b"\0\0\1\x65"
-            + convert_bits(f"1 011 1 0000 {flags} 1") + b"\x55" * 40)
+            + convert_bits("1 011 1 0000 0 1") + b"\x55" * 40)
 
 
 def convert_bits(text: str) -> bytes:
@@ -125,9 +124,8 @@ class StreamMaker:
         self.put_packet(self.pcr_pid, 0, b"", field)
 
 
-def make_teletext_descriptor(language: bytes = b"eng", kind: int = 2, page: int = 0x88,
-                             magazine: int = 0) -> bytes:
-    return b"\x56\x05" + language + bytes([kind << 3 | magazine, page])
+def make_teletext_descriptor(language: bytes = b"eng", kind: int = 2, page: int = 0x88) -> bytes:
+    return b"\x56\x05" + language + bytes([kind << 3, page])
 
 
 def make_components(kind: int = MPEG_2, descriptor: bytes = make_teletext_descriptor(),
@@ -136,16 +134,16 @@ def make_components(kind: int = MPEG_2, descriptor: bytes = make_teletext_descri
 
 
 def add_pictures(pes: bytes, first: int, kind: int = MPEG_2, picture: bytes = b"",
-                 passed: int = 3, leading: int = 2) -> StreamMaker:
-    """Make a stream whose first random access picture in display order has the PTS `first`.
-    `passed` pictures precede it. `leading` pictures follow it but are displayed before it. The
-    group is closed, except with H.264."""
+                 leading: int = 2) -> StreamMaker:
+    """Make a stream whose first random access picture in display order has the PTS `first`. Three
+    pictures precede it. `leading` pictures follow it but are displayed before it. The group is
+    closed, except with H.264."""
     maker = StreamMaker(make_components(kind))
     result = picture or {MPEG_2: make_mpeg_2_picture(), H_264: make_h_264_picture(),
                          HEVC: make_hevc_picture()}[kind]
     maker.put_tables()
-    for number in range(passed):
-        maker.put(VIDEO_PID, make_video_packet(first + TICKS * (number - passed), result))
+    for number in range(3):
+        maker.put(VIDEO_PID, make_video_packet(first + TICKS * (number - 3), result))
     group_begin = CLOSED_GROUP if kind == MPEG_2 else b""
     for number in range(2):
         group = first + TICKS * (leading + 12) * number
@@ -197,11 +195,10 @@ def multiplex_programmes(programmes: Sequence[Programme], frames: int) -> Stream
     return maker
 
 
-def multiplex_frames(pes: list[bytes], begin: int, count: int, rounds: int = 66,
-                     page: int = 0x88) -> Iterator[bytes]:
+def multiplex_frames(pes: list[bytes], begin: int, count: int, rounds: int) -> Iterator[bytes]:
     """Yield the frames of a transport stream. Each frame has a PCR, PES packets, and 16 * `rounds`
-    video packets. If `rounds` is 66, the bit rate is 40 Mbit/s."""
-    maker = StreamMaker(make_components(AUDIO, make_teletext_descriptor(page=page)))
+    video packets."""
+    maker = StreamMaker(make_components(AUDIO))
     video, at = b"".join(item.data for item in FILLER_PACKETS[VIDEO_PID]) * rounds, 0
     for frame in range(count):
         now = begin + TICKS * frame

@@ -262,15 +262,13 @@ def read_intended_layout(text: str) -> Layout:
     return result
 
 
-def draw_rows(text: bytes, justify: int, layout: Layout, row: int = 18) -> tuple[bytes, ...]:
-    lines = draw_text(text, row, justify, layout, ENGLISH)
-    assert not isinstance(lines, TextFault), text
-    return make_page_rows(lines)
-
-
 def draw_sent_subtitles(several: Sequence[SentText], layout: Layout = PLAIN) -> list[SentSubtitle]:
-    return [SentSubtitle(item.text, 18, item.justify, draw_rows(item.sent, item.justify, layout))
-            for item in several]
+    result = list[SentSubtitle]()
+    for item in several:
+        lines = draw_text(item.sent, 18, item.justify, layout, ENGLISH)
+        assert not isinstance(lines, TextFault), item
+        result.append(SentSubtitle(item.text, 18, item.justify, make_page_rows(lines)))
+    return result
 
 
 def make_unchanged_texts(count: int) -> list[SentText]:

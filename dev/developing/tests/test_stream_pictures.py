@@ -35,16 +35,16 @@ PID, VIDEO = 0x101, 0x200
 SECOND = 25  # frames in a second
 
 
-def make_video_leads(leads: Sequence[float], steps: Mapping[int, float] = {}, first: int = 0,
-                     each: int = SECOND) -> list[VideoLead]:
-    """Return `lead` lines at intervals of `each` pictures, with these leads in frames. `steps` has
-    indexes of lines, and the frames by which decoding times jump before the line."""
+def make_video_leads(leads: Sequence[float], steps: Mapping[int, float] = {},
+                     first: int = 0) -> list[VideoLead]:
+    """Return `lead` lines at intervals of a second, with these leads in frames. `steps` has indexes
+    of lines, and the frames by which decoding times jump before the line."""
     result, missing = list[VideoLead](), 0.0
     for at, ahead in enumerate(leads):
         missing += steps.get(at, 0)
-        time = first + round(TICKS * (each * at + missing))
+        time = first + round(TICKS * (SECOND * at + missing))
         lead = round(TICKS * ahead)
-        result.append(VideoLead((time + lead) % CLOCK, lead, each * at))
+        result.append(VideoLead((time + lead) % CLOCK, lead, SECOND * at))
     return result
 
 
