@@ -42,6 +42,14 @@ def read_vectors(name: str) -> Iterator[Story]:
         yield from csv.DictReader(lines, delimiter="\t", quoting=csv.QUOTE_NONE, restval="")
 
 
+def repeat_words(text: str) -> str:
+    """Write out the repeated words of a cell: `3*2` as `3 3`, and `(1 2)*2` as `1 2 1 2`."""
+    while "*" in text:
+        text = re.sub(r"(?:\(([^()]*)\)|(\w+))\*(\d+)",
+                      lambda match: f"{match[1] or match[2]} " * int(match[3]), text)
+    return text
+
+
 def get_tci_pts(number: str) -> int:
     return ORIGIN + EACH * int(number) * TICKS
 

@@ -7,7 +7,6 @@ import io
 import itertools
 import os
 import random
-import re
 from typing import Any, Iterable
 
 from developing.pes import make_pes_packet
@@ -30,7 +29,7 @@ from ..promises import find_unknown_clauses, list_indexed_clauses
 from .bench import Case, import_script
 from .judged import judge_files, JudgedPair, ProgrammeCase
 from .parts import make_example_request
-from .stories import read_vectors
+from .stories import read_vectors, repeat_words
 from .streams import delete_between, join_packets, make_multiplex, Packet, Shape, TELETEXT_PID
 from .transmissions import schedule_pages, SentPes, write_pipe, write_programme
 
@@ -39,11 +38,8 @@ BEGIN = 900_000  # frame number of the first TCI
 
 def read_frames(text: str) -> list[list[int]]:
     """Return the frames of the PES packets in each row, as dev/vectors/paces.tsv describes them."""
-    while "*" in text:
-        text = re.sub(r"(?:\(([^()]*)\)|(\d+))\*(\d+)",
-                      lambda match: f"{match[1] or match[2]} " * int(match[3]), text)
     return [[*itertools.accumulate(int(step) for step in row.split() if step != "-")]
-            for row in text.split("/") if row.strip()]
+            for row in repeat_words(text).split("/") if row.strip()]
 
 
 def read_pauses(text: str) -> Pauses:

@@ -3,6 +3,7 @@ from __future__ import annotations
 
 import itertools
 import random
+import re
 from types import SimpleNamespace
 from typing import Any, Mapping, Sequence
 
@@ -25,6 +26,7 @@ from subtitles.stream.survey import Survey
 from .bench import Case
 from .judged import judge_files
 from .parts import read_survey
+from .stories import read_vectors, repeat_words
 from .streams import multiplex_programmes, Programme, TELETEXT_PID
 from .transmissions import schedule_pes, subtitle_times, write_programme
 
@@ -222,36 +224,14 @@ class DepartureFaults(Case):
                 for text in summarize_pictures(unchecked))]
 
     def test_reports_departures_as_early_or_late(self) -> None:
-        middle, end = "00:01:00:00", "00:01:19:24"
-        allowed = f"from {middle} on, subtitles are 2 frames late for viewers: the video's " \
-            "timestamps jump, as --within 2 allows"
-        # Jumps (by how many frames, at which frame), --within, the faults, and the notes
-        rows: dict[str, tuple[Any, ...]] = {
-            "none": ([], 0, [], []),
-            "early": ([(2, 1500)], 0, [(middle, end, "2 frames early")], []),
-            "early is not allowed": ([(2, 1500)], 5, [(middle, end, "2 frames early")], []),
-            "late": ([(-2, 1500)], 0, [(middle, end, "2 frames late")], []),
-            "later than allowed": ([(-2, 1500)], 1, [(middle, end, "2 frames late")], []),
-            "late as allowed": ([(-2, 1500)], 2, [], [allowed]),
-            "half a frame": ([(0.5, 1500)], 0, [(middle, end, "0.5 frames early")], []),
-            "2 frames and a tick": ([(2.0003, 1500)], 0, [(middle, end, "2 frames early")], []),
-            "far": ([(250, 1500)], 0, [(middle, end, "250 frames early")], []),
-            "there and back": ([(2, 1500), (-2, 1600)], 0,
-                               [(middle, "00:01:03:24", "2 frames early")], []),
-            "twice": ([(-1, 1500), (-1, 1600)], 1, [("00:01:04:00", end, "2 frames late")],
-                      [allowed.replace(" 2 frames", " 1 frame").replace("2 allows", "1 allows")
-                       .replace(" on,", " to 00:01:03:24,")]),
-            "after the first line": ([(2, 1001)], 0, [("00:00:41:00", end, "2 frames early")], []),
-            "before the first line": ([(2, 1000)], 0, [], ["unclear"]),
-            "a second before": ([(2, 975)], 0, [], []),
-            "before the last line": ([(2, 1975)], 0, [("00:01:19:00", end, "2 frames early")], []),
-            "after the last line": ([(2, 1976)], 0, [], ["unclear"]),
-            "just after the part, but sent within": ([(2, 2001)], 0, [], ["unclear"]),
-            "a second after the part": ([(2, 2026)], 0, [], [])}
-        for origin, (name, (steps, within, faults, notes)) in itertools.product(
-                (0, CLOCK - 1400 * TICKS), rows.items()):
-            self.check(f"{name} from {origin}",
-                       self.list_faults_and_notes(steps, within, origin=origin), (faults, notes))
+        for row, origin in itertools.product([*read_vectors("departures.tsv")],
+                                             (0, CLOCK - 1400 * TICKS)):
+            jumps = [(float(by), int(frame))
+                     for by, frame in re.findall(r"(\S+) at (\d+)", row["jumps"])]
+            self.check(f"{row['name']}, from {origin}",
+                       self.list_faults_and_notes(jumps, int(row["within"]), origin=origin),
+                       ([(row["from"], row["until"], row["fault"])] * bool(row["fault"]),
+                        [row["note"]] * bool(row["note"])))
 
     def test_counts_jumps_from_the_first_picture_on_if_it_gives_the_clock(self) -> None:
         self.check("the clock comes from a recording", self.list_faults_and_notes(
@@ -492,35 +472,15 @@ class Steps(Case):
                 leads, unusual, 2000, lambda several: True).departures, [])
 
     def test_few_leads_show_that_pictures_moved_by_a_frame(self) -> None:
-        # The leads in frames before a step by one frame, between it and a step back (`None`: there
-        # is no step back), and after that; and whether pictures moved, so that the lead changed
-        rows: dict[str, tuple[list[int], list[int] | None, list[int], bool]] = {
-            "they moved": ([6] * 30, None, [5], True),
-            "a picture was lost": ([6] * 30, None, [6], False),
-            "two frames, a picture was lost": ([6] * 30, None, [4], False),
-            "either lead is usual": ([6, 7] * 15, None, [5], True),
-            "one of them": ([6, 7] * 15, None, [6], False),
-            "few before": ([6] * 5, None, [5], False),
-            "few before and after": ([6] * 5, None, [5] * 2, True),
-            "one before": ([6], None, [5] * 30, True), "none before": ([], None, [5] * 30, False),
-            "another delay since 5 s": ([6] * 25 + [5] * 5, None, [5] * 3, False),
-            "the delay stays for 10 s": ([6] * 10 + [7] * 10 + [6] * 10, None, [5], False),
-            ".. and has no such value": ([6] * 10 + [7] * 10 + [6] * 10, None, [5] * 15, True),
-            "another delay after 7 s": ([6] * 30, None, [6] * 7 + [5] * 23, False),
-            "either delay stays for seconds": (
-                [6] * 10 + [5] * 4 + [6] * 10 + [5] * 3 + [6] * 3, None, [5] * 8, False),
-            "one has another delay, the first": ([9] + [6] * 20, None, [5], True),
-            "leads vary by more": ([0, 3] * 15, None, [-1] * 3, False),
-            "away and back": ([6] * 20, [5], [6] * 20, True),
-            "lost, then sent twice": ([6] * 20, [6], [6] * 20, False),
-            "away and back, no lead between": ([6] * 20, [], [6] * 20, False),
-            "away and back, no lead around": ([], [6], [], False)}
-        for (name, (before, between, after, expected)), ticks in itertools.product(
-                rows.items(), (TICKS, -TICKS)):
-            frames = [*before, *(between or []), *after]
+        for row, ticks in itertools.product([*read_vectors("moved-pictures.tsv")],
+                                            (TICKS, -TICKS)):
+            before, between, after = ([int(lead) for lead in repeat_words(row[column]).split()]
+                                      for column in ("before", "between", "after"))
+            name, expected = row["name"], row["moved"] == "yes"
+            frames = [*before, *between, *after]
             leads = [VideoLead(0, ticks * ahead, 25 * at) for at, ahead in enumerate(frames, 1)]
             steps = [UnusualStep(25 * len(before) + 9, ticks, TICKS)]
-            if between is not None:
+            if row["steps"] == "2":
                 back = steps[0].number + 30 * max(len(between), 1) - 10
                 steps.append(UnusualStep(back, -ticks, TICKS))
             self.check(f"{name}, {ticks}", have_moved(leads, steps, steps), expected)
