@@ -5,13 +5,14 @@ import argparse
 import itertools
 import os
 from types import SimpleNamespace
-from typing import Any, Sequence
+from typing import Any, Iterable, Sequence
 
 from subtitles.cli.main import main
 from subtitles.clock.start import Clock, GIVEN, TimedPart
 from subtitles.common.command_line import ToolParser, run_main
 from subtitles.common.markup import Value, join_markup
 from subtitles.common.program import TOP
+from subtitles.common.times import CLOCK
 from subtitles.formats.listing import FaultLine, Meaning, parse_fault_line
 from subtitles.formats.teletext import Page
 from subtitles.judging.check import CheckOutput
@@ -20,7 +21,7 @@ from subtitles.request.commands import OutputNames
 from subtitles.request.lines import read_options
 from subtitles.request.request import Request, add_options, list_arguments, make_file_request
 from subtitles.stream.gaps import LossPlace
-from subtitles.stream.packets import Packets
+from subtitles.stream.packets import PacketRun, Packets
 from subtitles.stream.receiver import Timeline
 from subtitles.stream.survey import Survey, survey
 from .bench import Case
@@ -75,6 +76,13 @@ def read_survey(*lines: str) -> Survey:
     for line in lines:
         survey.read_line(line)
     return survey
+
+
+def make_packets(pts: Iterable[int | None], flags: str = "h", **more: Any) -> Packets:
+    """Return PES packets with these PTS and flags. `None` stands for a gap marker."""
+    return Packets(0x101, [
+        PacketRun(at, 1, None, 0, "m", "") if item is None else
+        PacketRun(at, 1, item % CLOCK, 0, flags, "") for at, item in enumerate(pts)], **more)
 
 
 def make_example_request(stl: str, recording: str | None, *args: str) -> Request:

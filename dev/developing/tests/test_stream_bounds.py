@@ -21,7 +21,7 @@ from subtitles.stream.packets import GapMarker, PCRStep, PacketRun, Packets, Tex
 from subtitles.stream.receiver import (
     BLANK_PAGE, HIT, OLD, OLD_PAGE, ReceivedPackets, SpanIndex, Timeline, clear_unsent_cells,
     decode_pages_around)
-from .parts import make_example_request
+from .parts import make_example_request, make_packets
 from .test_formats_files import refusal
 from .transmissions import PAGE
 
@@ -106,12 +106,10 @@ class Silences(unittest.TestCase):
         for count, last_line in ((0, ""), (1, ""), (19, ""), (20, ""),
                                  (21, "and at 2 more places"), (22, "and at 3 more places")):
             pts = [SECOND + at * TICKS for at in range(2 * count + 1)]
-            packets = Packets(5, [PacketRun(at, 1, None if at % 2 else item, 0, "", "")
-                                  for at, item in enumerate(pts)])
-            packets.gap_markers = [GapMarker(at, pts[at - 1], 1, 0)
-                                   for at in range(1, 2 * count, 2)]
-            packets.pcr_steps = [PCRStep(TICKS * 90, TICKS * 91, TICKS * 9, 9, 1, 9, "broken")]
-            result = describe_gap_markers(packets)
+            result = describe_gap_markers(make_packets(
+                [None if at % 2 else item for at, item in enumerate(pts)],
+                gap_markers=[GapMarker(at, pts[at - 1], 1, 0) for at in range(1, 2 * count, 2)],
+                pcr_steps=[PCRStep(TICKS * 90, TICKS * 91, TICKS * 9, 9, 1, 9, "broken")]))
             self.assertEqual((len(result), [line for line in result if line.startswith("and at")]),
                              (min(count, 20), [last_line] * bool(last_line)), count)
             times = f"PTS {SECOND} and {SECOND + 2 * TICKS} (00:00:00:00 and 00:00:00:02 after " \
@@ -138,9 +136,8 @@ class FirstPictures(unittest.TestCase):
                 ([early + 1, half, half], half, half),
                 ([-early, half, half], half, TICKS - early),
                 ([-early - 1, half, half], half, half))):
-            packets = Packets(5, [
-                PacketRun(at, 1, (origin + TICKS * (at + 3) + item) % CLOCK, 0, "", "")
-                for at, item in enumerate(ticks)])
+            packets = make_packets([origin + TICKS * (at + 3) + item
+                                    for at, item in enumerate(ticks)])
             result = [find_frame_offset(packets, origin, within) for within in (0, 1)]
             self.assertEqual(result, [most_common, near_frame], (origin, ticks))
 

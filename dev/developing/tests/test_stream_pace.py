@@ -28,7 +28,7 @@ from ..definitions import count_lines_to_read, Definition, Library
 from ..promises import find_unknown_clauses, list_indexed_clauses
 from .bench import Case, import_script
 from .judged import judge_files, JudgedPair, ProgrammeCase
-from .parts import make_example_request
+from .parts import make_example_request, make_packets
 from .stories import read_vectors, repeat_words
 from .streams import delete_between, join_packets, make_multiplex, Packet, Shape, TELETEXT_PID
 from .transmissions import schedule_pages, SentPes, write_pipe, write_programme
@@ -319,10 +319,9 @@ class LossPlaces(Case):
                                                      [(jump, False), (other, True)])}
             for name, (markers, pcr_steps, jumps, expected) in rows.items():
                 missing = {item.number for item in markers}
-                packets = Packets(PID, [
-                    PacketRun(at, 1, None if at in missing else item, 0, "-", "",
-                              fault=45 * (at in missing)) for at, item in enumerate(pts)],
-                                  gap_markers=markers, pcr_steps=pcr_steps)
+                packets = make_packets([None if at in missing else item
+                                        for at, item in enumerate(pts)],
+                                       "-", gap_markers=markers, pcr_steps=pcr_steps)
                 self.check(f"{name}, {wrapped}", [
                     ((item.before, item.after), item.is_announced)
                     for item in find_loss_places(packets, jumps)], expected)
@@ -356,9 +355,10 @@ class LossPlaces(Case):
         # PCRs that are usually a frame apart means that two frames are missing.
         for origin, steps in itertools.product((0, CLOCK - 4 * TICKS), ((2, 3), (3, 2), (3, 3))):
             pts = [pts_of(at, origin) for at in range(9)]
-            runs = [PacketRun(at, 1, None if at == 4 else pts[at], 0, "-", "") for at in range(9)]
-            packets = Packets(PID, runs, gap_markers=[GapMarker(4, pts[3], 2, 0)], pcr_steps=[
-                PCRStep(pts[3], pts[5], frames * TICKS, 9, TICKS, 9, "broken") for frames in steps])
+            packets = make_packets([*pts[:4], None, *pts[5:]], "-", gap_markers=[
+                GapMarker(4, pts[3], 2, 0)], pcr_steps=[
+                    PCRStep(pts[3], pts[5], frames * TICKS, 9, TICKS, 9, "broken")
+                    for frames in steps])
             self.check(f"{origin} {steps}", [item.missing for item in find_loss_places(packets)],
                        [2 * TICKS])
 

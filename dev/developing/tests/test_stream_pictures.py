@@ -16,7 +16,7 @@ from subtitles.judging.desync import find_departures, find_desync, has_own_clock
 from subtitles.judging.timing import find_late_jumps
 from subtitles.judging.unchecked import summarize_pictures
 from subtitles.stream.pace import Pace, REGULAR
-from subtitles.stream.packets import find_announced_jumps, PacketRun, Packets, PCRStep
+from subtitles.stream.packets import find_announced_jumps, PCRStep
 from subtitles.stream.pictures import (
     Departure, find_steady_change, have_moved, locate_changes_of_video, locate_departures,
     mark_pcr_jumps, separate_clock_jumps, VideoLead)
@@ -25,7 +25,7 @@ from subtitles.stream.steps import (
 from subtitles.stream.survey import Survey
 from .bench import Case
 from .judged import judge_files
-from .parts import read_survey
+from .parts import make_packets, read_survey
 from .stories import read_vectors, repeat_words
 from .streams import multiplex_programmes, Programme, TELETEXT_PID
 from .transmissions import schedule_pes, subtitle_times, write_programme
@@ -336,8 +336,7 @@ class AnnouncedJumps(Case):
         counter_jumps = [0, *(frames.index(frame) for frame in (2, 5, 5, 8)), 99]
         for origin, (usual, inside, wanted) in itertools.product((0, CLOCK - 5 * TICKS), rows):
             pts = [pts_of(frame, origin) for frame in frames]
-            packets = Packets(PID, [PacketRun(at, 1, item, 0, "-", "")
-                                    for at, item in enumerate(pts)], counter_jumps=counter_jumps)
+            packets = make_packets(pts, "-", counter_jumps=counter_jumps)
             self.check(f"{origin} {usual} {inside}", find_announced_jumps(packets, inside, usual), [
                 (pts[frames.index(item)], pts[frames.index(other)]) for item, other in wanted])
 
@@ -350,9 +349,8 @@ class AnnouncedJumps(Case):
             (4, [], 3)]
         for origin, (interval, late, others) in itertools.product(
                 (0, *(CLOCK - frame * TICKS for frame in range(14))), rows):
-            packets = Packets(PID, [PacketRun(at, 1, pts_of(frame, origin), 0, "-", "")
-                                    for at, frame in enumerate(frames)],
-                              counter_jumps=[2, 3, 4, 5, 6])
+            packets = make_packets([pts_of(frame, origin) for frame in frames], "-",
+                                   counter_jumps=[2, 3, 4, 5, 6])
             recording: Any = SimpleNamespace(is_stream=True, packets=packets)
             part: Any = SimpleNamespace(judged_recording=(recording, None), pes=(0, 7))
             self.check(f"{origin} {interval}", find_late_jumps(part, Pace(REGULAR, interval)), ([

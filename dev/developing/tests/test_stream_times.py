@@ -5,7 +5,7 @@ import itertools
 import random
 import unittest
 from types import SimpleNamespace
-from typing import Any, Iterable, Sequence
+from typing import Any
 
 from subtitles.clock.stretches import MIN_BREAK_FRAMES, Stretch, split_at_breaks
 from subtitles.common.times import CLOCK, FRAMES_OF_A_DAY, Spans, TICKS, join_spans, subtract_pts
@@ -16,23 +16,11 @@ from subtitles.stream.packets import (
     GapMarker, PCRStep, PacketRun, Packets, PageChange, Texts, parse_headers)
 from subtitles.stream.ranges import find_range, is_outside
 from subtitles.stream.survey import Survey
-from .parts import read_survey
+from .parts import make_packets, read_survey
 from .stories import read_vectors
 
 
 PID = 257
-
-
-def make_packets_with_pts(pts: Sequence[int | None], **more: Any) -> Packets:
-    """Return PES packets with these PTS; `None` stands for a gap marker."""
-    return Packets(PID, [
-        PacketRun(number, 1, None if item is None else item % CLOCK, 0,
-                  "m" if item is None else "h", "") for number, item in enumerate(pts)], **more)
-
-
-def make_packets_in_frames(frames: Iterable[int], flags: str) -> Packets:
-    return Packets(PID, [PacketRun(at, 1, TICKS * frame, 0, flags, "")
-                         for at, frame in enumerate(frames)])
 
 
 def make_pcr_step(before: int, ticks: int, counters: str, packets: int = 100) -> PCRStep:
@@ -114,7 +102,7 @@ class ClockTables(unittest.TestCase):
                 ([-2, -1, 0, 1], [0]), ([1, 2, -SECOND * 2, -SECOND], [0, 2]),
                 ([9, 10, 5, 11], [0]), ([9, 10, 5, 6, 1, 2], [0, 2, 4]),
                 ([0, 1, CLOCK // 2 - 9, CLOCK // 2 - 8], [0])):
-            bases = make_packets_with_pts(pts).split_time_bases()
+            bases = make_packets(pts).split_time_bases()
             self.assertEqual(bases, [range(*pair) for pair in zip(begins, [*begins[1:], len(pts)])],
                              pts)
 
@@ -158,7 +146,7 @@ class ClockTables(unittest.TestCase):
         for begin, (more, expected) in itertools.product((61, -100), rows):
             ahead = [*enumerate([*[30_000] * 3, *[1000] * 6]), *enumerate(more, begin)]
             samples = [(SECOND * (at - 3) % CLOCK, item) for at, item in ahead]
-            result = list(find_pts_anomalies(make_packets_with_pts([], samples=samples)))
+            result = list(find_pts_anomalies(make_packets([], samples=samples)))
             self.assertEqual([(item.kind, item.number, item.worst) for item in result],
                              expected, more)
             self.assertTrue(all(item.total == len(samples) and item.pts in dict(samples[9:])
@@ -176,8 +164,8 @@ class ClockTables(unittest.TestCase):
             ([marker], [make_pcr_step(150, 99_000, "broken")], [(100, 0)]),
             ([], [late._replace(counters="whole"), late._replace(counters="unknown")], [])]
         for markers, pcr_steps, expected in rows:
-            packets = make_packets_with_pts([100, None, 200, 600], pcr_steps=pcr_steps,
-                                            gap_markers=markers)
+            packets = make_packets([100, None, 200, 600], pcr_steps=pcr_steps,
+                                   gap_markers=markers)
             self.assertEqual([(place.before, place.missing) for place in find_loss_places(packets)],
                              expected, (markers, pcr_steps))
 
@@ -212,7 +200,7 @@ class ClockTables(unittest.TestCase):
                     f"none of {words} at the time of the subtitles contains"))
 
     def test_a_part_omits_an_earlier_header_if_the_text_was_expected_before_the_part(self) -> None:
-        packets = make_packets_in_frames((75, 100, 200), "he")
+        packets = make_packets([TICKS * frame for frame in (75, 100, 200)], "he")
         packets.runs[-1] = packets.runs[-1]._replace(flags="heb")
         packets.changes = [PageChange(TICKS * 75, b"", 0, text_of(0, "hey"))]
         for within, is_continued in itertools.product((0, 1), (False, True)):
@@ -220,7 +208,7 @@ class ClockTables(unittest.TestCase):
             self.assertEqual(result.range, (int(is_continued), 2), (within, is_continued))
 
     def test_uses_only_the_given_pes_packets(self) -> None:
-        packets = make_packets_in_frames(range(100, 109), "he")
+        packets = make_packets(range(TICKS * 100, TICKS * 109, TICKS), "he")
         result = find_range(packets, 100, 200, 0, 25, inside=(3, 5))
         self.assertEqual((result.range, result.first_packet_frame, result.read), ((3, 5), 103, 7))
 
@@ -241,7 +229,7 @@ class ClockTables(unittest.TestCase):
                 ([0, 50, None], (0, 2)), ([0, 50, 75, None], (0, 1)), ([None, 0, 50, 75], (1, 2)),
                 ([0, None, 50, 75], (0, 2))):
             pts = [None if frame is None else TICKS * frame for frame in frames]
-            result = find_range(make_packets_with_pts(pts), 0, 50, 0, 25).range
+            result = find_range(make_packets(pts), 0, 50, 0, 25).range
             self.assertEqual(result, expected, frames)
 
     def test_finds_all_of_a_long_programme(self) -> None:
@@ -274,7 +262,8 @@ class ClockTables(unittest.TestCase):
     def test_extends_a_range_by_the_longer_limit(self) -> None:
         for (every, within), more in itertools.product(((25, 2), (25, 40), (2, 40)), (0, 1)):
             last = 100 + max(every, within) + more
-            packets = make_packets_in_frames((*range(80), last, last + 1, last + 2), "heo")
+            packets = make_packets([TICKS * frame for frame in (
+                *range(80), last, last + 1, last + 2)], "heo")
             result = find_range(packets, 0, 100, 0, every, within)
             self.assertEqual((result.range, result.has_end), ((0, 80 - more), not more),
                              (every, within, more))
@@ -287,7 +276,7 @@ class ClockTables(unittest.TestCase):
                 (make_pcr_step(5, 99_000, "whole", packets=109), [ClockJump(5, 90_000)]),
                 (make_pcr_step(5, 99_000, "whole", packets=110), []),
                 (make_pcr_step(5, -99_000, "whole"), [ClockJump(5, -108_000)])):
-            self.assertEqual(list(find_clock_jumps(make_packets_with_pts([], pcr_steps=[item]))),
+            self.assertEqual(list(find_clock_jumps(make_packets([], pcr_steps=[item]))),
                              expected, item)
 
     def test_describes_losses(self) -> None:
