@@ -42,6 +42,15 @@ def read_vectors(name: str) -> Iterator[Story]:
         yield from csv.DictReader(lines, delimiter="\t", quoting=csv.QUOTE_NONE, restval="")
 
 
+def read_files(name: str) -> Iterator[tuple[str, str]]:
+    """Yield the path and the text of each file in a text file in dev/vectors, in which a line
+    `=== PATH` precedes the text."""
+    with open(os.path.join(DEV, "vectors", name), encoding="utf-8") as file:
+        for section in file.read().split("\n=== ")[1:]:
+            path, _, text = section.partition("\n")
+            yield path, text.rstrip("\n") + "\n"
+
+
 def repeat_words(text: str) -> str:
     """Write out the repeated words of a cell: `3*2` as `3 3`, and `(1 2)*2` as `1 2 1 2`."""
     while "*" in text:

@@ -14,8 +14,8 @@ from subtitles.common.command_line import Stop
 from subtitles.common.times import CLOCK, pts_of, TICKS
 from subtitles.results.schema import REQUEST
 from subtitles.stream.gaps import (
-    describe_gap_markers, describe_loss, do_overlap, find_loss_places, find_pts_delay,
-    find_recorded_range, LossPlace, MAX_LATE, SECOND)
+    describe_gap_markers, do_overlap, find_loss_places, find_pts_delay, find_recorded_range,
+    LossPlace, MAX_LATE, SECOND)
 from subtitles.stream.pace import (
     compute_pace, count_distances, estimate_packets_per_pes, find_hidden_loss, find_pauses,
     find_silences, find_usual_distance, list_frame_rows, MAX_EXCEPTIONS, PAUSED, Pauses, REGULAR,
@@ -29,7 +29,7 @@ from ..promises import find_unknown_clauses, list_indexed_clauses
 from .bench import Case, import_script
 from .judged import judge_files, JudgedPair, ProgrammeCase
 from .parts import make_example_request, make_packets
-from .stories import read_vectors, repeat_words
+from .stories import read_files, read_vectors, repeat_words
 from .streams import delete_between, join_packets, make_multiplex, Packet, Shape, TELETEXT_PID
 from .transmissions import schedule_pages, SentPes, write_pipe, write_programme
 
@@ -331,11 +331,6 @@ class LossPlaces(Case):
                     f"before PTS {after}" if before is None else f"after PTS {before}"
                     for (before, after), _ in expected[:len(markers)]])
 
-    def test_describes_a_long_interval_at_an_announced_jump(self) -> None:
-        self.check("text", describe_loss(LossPlace(before=1, after=2, is_announced=True)),
-                   "the interval between PES packets is unusually long, and the stream announces a "
-                   "jump of the continuity counter")
-
     def test_losses_overlap_if_both_may_be_in_one_interval(self) -> None:
         # The frames before and after a loss, or `None` if no PES packet is before or after it
         ends = [None, *range(5)]
@@ -400,71 +395,17 @@ class PaceOptions(Case):
                 make_example_request("one.stl", "one.ts", "--pace", value)
 
 
-# A repository with two crates. `high` uses `pair` and `size` of `low`, and has its own `size`.
-FILES = {
-    "crates.txt": "# name: what it stands on\nlow:\nhigh: low\n",
-    "crates/low/specs/Words.antt": """-- Words.
-use Rattle.std.specs.Prelude.{ℕ, ◌+◌, ◌-◌}
-
--- Two of the size.
-abbrev pub pair : ℕ
-pair = size + size
-
--- The size.
-abbrev pub size : ℕ
--- One.
-size = 1
-""",
-    "crates/high/specs/Things.antt": """-- Things.
-use Rattle.std.specs.Prelude.{ℕ, ◌+◌, ◌≡◌}
-use Rattle.low.specs.Words.{pair}
-use Rattle.low.specs.Words as words
-
--- Another size.
-abbrev pub size : ℕ → ℕ
-size n = n
-
--- A size that is bound here, beside what is none.
-abbrev pub total : ℕ → ℕ
-total size = pair + size
-
--- The other crate's.
-pub record IsSize (n : ℕ) : Type 0 where
-  pub size : n ≡ words.size
-""",
-    "crates/high/src/lib.rt": """ghost use Rattle.std.specs.Prelude.{◌≡◌};
-ghost use Rattle.high.specs.Things.{IsSize, size};
-ghost use Rattle.high.specs.Things.{total};
-
-/// A law, with nothing to do.
-pub fn law()
-    ensures { IsSize (size 1) }
-{}
-
-/// Counts.
-pub fn count(n: u64) -> u64
-    requires { n < u64.MAX }
-    ensures exact { result ≡ record {
-        number = total n;
-    } }
-    ensures other { IsSize (size n) }
-{
-    n
-}
-""",
-}
-
-
 def format_names(definitions: Iterable[Definition]) -> str:
     return " ".join(f"{item.file.crate}.{item.name}" for item in definitions)
 
 
 class ReadingLists(Case):
-    """What somebody has to read in `FILES` to understand a definition or a clause."""
+    """What somebody has to read in the files of dev/vectors/two-crates.txt to understand a
+    definition or a clause."""
 
     def setUp(self) -> None:
         super().setUp()
-        for name, text in FILES.items():
+        for name, text in read_files("two-crates.txt"):
             os.makedirs(os.path.dirname(self.path(name)), exist_ok=True)
             self.write(name, text.encode())
         self.library = Library(self.folder)

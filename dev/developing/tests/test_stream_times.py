@@ -287,7 +287,10 @@ class ClockTables(unittest.TestCase):
                  "2 TS packets were lost, 1 TS packet was scrambled"),
                 (LossPlace(1, 2, missing=225_000),
                  "2.50 s of TS packets are missing according to the PCR and "
-                 "the counters of other PIDs")):
+                 "the counters of other PIDs"),
+                (LossPlace(1, 2, is_announced=True),
+                 "the interval between PES packets is unusually long, and the stream announces a "
+                 "jump of the continuity counter")):
             self.assertEqual(describe_loss(place), words, place)
 
     def test_describes_the_place_of_a_loss(self) -> None:
