@@ -7,7 +7,7 @@ import io
 import itertools
 import os
 import random
-from typing import Any, Iterable
+from typing import Any, Iterable, Sequence
 
 from developing.pes import make_pes_packet
 from subtitles.common.command_line import Stop
@@ -36,10 +36,16 @@ from .transmissions import schedule_pages, SentPes, write_pipe, write_programme
 BEGIN = 900_000  # frame number of the first TCI
 
 
-def read_frames(text: str) -> list[list[int]]:
-    """Return the frames of the PES packets in each row, as dev/vectors/paces.tsv describes them."""
-    return [[*itertools.accumulate(int(step) for step in row.split() if step != "-")]
-            for row in repeat_words(text).split("/") if row.strip()]
+def read_frames(text: str) -> list[Sequence[int]]:
+    """Return the frames of the PES packets in each row, as dev/vectors/paces.tsv describes them. A
+    row with equal steps is a range, as `list_frame_rows` returns one PES packet per frame."""
+    result = list[Sequence[int]]()
+    for row in filter(str.strip, repeat_words(text).split("/")):
+        steps = [int(step) for step in row.split() if step != "-"]
+        frames = [*itertools.accumulate(steps)]
+        is_even = len({*steps[1:]}) == 1 and steps[1] > 0
+        result.append(range(frames[0], frames[-1] + 1, steps[1]) if is_even else frames)
+    return result
 
 
 def read_pauses(text: str) -> Pauses:
