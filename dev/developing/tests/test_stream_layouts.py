@@ -2,7 +2,6 @@
 from __future__ import annotations
 
 import itertools
-import os
 from typing import Iterable, NamedTuple, Sequence
 
 from developing.pes import decode_address
@@ -16,10 +15,10 @@ from subtitles.stream.layout import (
     add_items, choose_layouts, count_misdrawn, draws_as_sent, Evidence, find_questionable_items,
     is_found, ItemEvidence, LayoutChoice, list_items, match_lines, MAX_ITEMS, remove_items,
     SentSubtitle)
-from .. import DEV
 from ..every_place.on_air import find_page_span, Packet, read_rows
 from ..every_place.reading import decode_header, read_packet, split_packets
 from .bench import Case
+from .stories import read_vectors
 
 GERMAN = OPTION_BY_WORD["german"]
 # Invalid values of --layout besides those in dev/vectors/layouts.tsv
@@ -150,42 +149,36 @@ class LayoutSearch(Case):
 
 
 class StoredRows(Case):
-    """The rows of dev/vectors/layouts.tsv: a text, the row of its first line (VP), its
-    justification (JC), a value of --layout (or `-`), and the page (see `format_rows`) or fault."""
-
-    def read_rows(self) -> list[list[str]]:
-        with open(os.path.join(DEV, "vectors", "layouts.tsv"), encoding="utf-8") as file:
-            rows = [line.split("\t") for line in file.read().splitlines()]
-        self.check("number of rows", len(rows), 162)
-        return rows
+    """The rows of dev/vectors/layouts.tsv."""
 
     def test_tools_draw_what_the_program_sends(self) -> None:
-        for text, row, justify, value, expected in self.read_rows():
-            layout = parse_layout(value) if value != "-" else PLAIN
+        for row in read_vectors("layouts.tsv"):
+            name, text = " ".join(row.values()), bytes.fromhex(row["text"])
+            layout = parse_layout(row["layout"]) if row["layout"] != "-" else PLAIN
             if layout is None:
-                self.check(value, expected, "usage 89 Layout")
+                self.check(name, row["page"], "usage 89 Layout")
                 continue
-            lines = draw_text(bytes.fromhex(text), int(row), int(justify), layout, ENGLISH)
-            fault = parse_fault_line(expected)
+            lines = draw_text(text, int(row["row"]), int(row["justify"]), layout, ENGLISH)
+            fault = parse_fault_line(row["page"])
             result: object = lines if isinstance(lines, TextFault) else format_rows(
                 enumerate(make_page_rows(lines), 1))
-            self.check(f"{text} {row} {justify} {value}", result,
-                       TextFault(fault.number, fault.at or 0) if fault else expected)
+            self.check(name, result,
+                       TextFault(fault.number, fault.at or 0) if fault else row["page"])
             if not isinstance(lines, TextFault):
-                self.check(f"characters of {text}", list_page_characters(make_page_rows(lines)),
-                           encode_text_characters(bytes.fromhex(text), ENGLISH))
+                self.check(f"{name}: characters", list_page_characters(make_page_rows(lines)),
+                           encode_text_characters(text, ENGLISH))
 
     def test_the_program_sends_and_accepts_each_row(self) -> None:
-        for number, (text, row, justify, layout, expected) in enumerate(self.read_rows()):
+        for row in read_vectors("layouts.tsv"):
             stl = self.write("one.stl", make_gsi_block(b"One", 1, 1) + make_subtitle_blocks(
-                1, 0, 50, int(row), int(justify), bytes.fromhex(text)))
-            words = [] if layout == "-" else ["--layout", layout]
-            name = f"{number}: {text} {row} {justify} {layout}"
+                1, 0, 50, int(row["row"]), int(row["justify"]), bytes.fromhex(row["text"])))
+            words = [] if row["layout"] == "-" else ["--layout", row["layout"]]
+            name = " ".join(row.values())
             process = self.call([self.bench.program, "schedule", stl, "one.pes", *words])
             if process.status:
-                self.check(name, process.out.decode(), f"{expected}\n")
+                self.check(name, process.out.decode(), f"{row['page']}\n")
                 continue
-            self.check(name, list_sent_rows(self.read("one.pes")), expected)
+            self.check(name, list_sent_rows(self.read("one.pes")), row["page"])
             process = self.call([self.bench.program, "check", stl, "one.pes", *words])
             self.check(f"{name}: check", process.out, b"accepted 51 frames 2 transmissions\n")
 
