@@ -1,7 +1,7 @@
 """Make transport streams with video and Teletext for tests."""
 from __future__ import annotations
 
-from typing import Callable, Collection, Iterable, Iterator, Mapping, NamedTuple, Sequence
+from typing import Callable, Iterable, Iterator, Mapping, NamedTuple, Sequence
 
 from developing.multiplex import (
     ADAPTATION_ALONE, PACKET, PAYLOAD, PAYLOAD_START, make_packet_header, make_section)
@@ -12,7 +12,6 @@ from .transmissions import packets
 
 RANDOM_ACCESS = 0x40
 PMT_PID, VIDEO_PID, AUDIO_PID, TELETEXT_PID = 0x100, 0x200, 0x201, 0x101
-NULL_PID = 0x1FFF
 MPEG_2, H_264, HEVC, PRIVATE = 0x02, 0x1B, 0x24, 0x06
 AUDIO = 0x03  # for streams whose other PIDs have no pictures
 SLICES = b"\0\0\1\1" + b"slice data " * 9  # slices of an MPEG-2 picture
@@ -74,13 +73,13 @@ def program_map(number: int, components: Iterable[Component], pcr_pid: int) -> b
 class StreamMaker:
     """A builder for the TS packets of a transport stream with one programme."""
 
-    def __init__(self, components: list[Component], pcr_pid: int = VIDEO_PID) -> None:
+    def __init__(self, components: list[Component]) -> None:
         self.packets: list[bytes] = []
         self.counters: dict[int, int] = {}
-        self.pcr_pid = pcr_pid
+        self.pcr_pid = VIDEO_PID
         self.tables: Sequence[tuple[int, bytes]] = [
             (0, make_program_association([(1, PMT_PID)])),
-            (PMT_PID, program_map(1, components, pcr_pid))]
+            (PMT_PID, program_map(1, components, VIDEO_PID))]
 
     @property
     def data(self) -> bytes:
@@ -158,14 +157,13 @@ def add_pictures(pes: bytes, first: int, kind: int = MPEG_2, picture: bytes = b"
 
 class Programme(NamedTuple):
     """A programme with one picture per frame. `pes` contains the PES packets of each Teletext PID.
-    The PID `video` carries pictures from the PTS `first` on, and PCRs. Pictures of the frames
-    `flagged` have a random_access_indicator. `later` contains frames, each with the ticks by which
+    The PID `video` carries pictures from the PTS `first` on, and PCRs. The pictures of the frames 0
+    and 12 have a random_access_indicator. `later` contains frames, each with the ticks by which
     pictures from this frame on are delayed, and the PCR too if `is_pcr_late`."""
 
     pes: Mapping[int, Sequence[bytes]]
     first: int
     video: int = VIDEO_PID
-    flagged: Collection[int] = (0, 12)
     later: Sequence[tuple[int, int]] = ()
     is_pcr_late: bool = False
 
@@ -188,7 +186,7 @@ def multiplex_programmes(programmes: Sequence[Programme], frames: int) -> Stream
             maker.pcr_pid = item.video
             maker.put_pcr(now - PTS_AHEAD + later * item.is_pcr_late)
             maker.put(item.video, make_video_packet(now + later, make_mpeg_2_picture()),
-                      frame in item.flagged)
+                      frame in (0, 12))
             for pid, pes in rest.items():
                 while pes and subtract_pts(decode_pts(pes[0]), wrap_pts(now)) >= 0:
                     maker.put(pid, pes.pop(0))
@@ -232,21 +230,15 @@ def filler(pid: int, counters: dict[int, int]) -> Packet:
 
 FILLER_PACKETS = {pid: [Packet(pid, make_packet_header(pid, 0, PAYLOAD | counter)
                                + b"\x55" * (PACKET - 4))
-                        for counter in range(16)] for pid in (VIDEO_PID, AUDIO_PID, NULL_PID)}
+                        for counter in range(16)] for pid in (VIDEO_PID, AUDIO_PID)}
 
 
 class Shape(NamedTuple):
-    """The parameters of a transport stream. The stream has `rate` TS packets per second, and PCRs
-    at intervals of `every` ticks. `has_null` adds null packets. `pause` contains the frames without
-    a PCR. `jump` contains the frame and the ticks of a clock jump, which is announced if
-    `is_announced` is true."""
+    """The parameters of a transport stream. The stream has `rate` TS packets per second. `jump`
+    contains the frame and the ticks of a clock jump."""
 
     rate: int = 1000
-    every: int = 3600
-    has_null: bool = False
-    pause: tuple[int, int] = (0, 0)
     jump: tuple[int, int] = (0, 0)
-    is_announced: bool = False
 
 
 def make_multiplex(pes: list[bytes], shape: Shape) -> list[Packet]:
@@ -261,28 +253,18 @@ def make_multiplex(pes: list[bytes], shape: Shape) -> list[Packet]:
         frame = (now - begin) // TICKS
         later = shape.jump[1] if shape.jump[1] and frame >= shape.jump[0] else 0
         if now >= due:
-            due += shape.every
-            if not shape.pause[0] <= frame < shape.pause[1]:
-                maker.put_pcr(now - PTS_AHEAD + later)
-                result += maker.list_taken_packets(VIDEO_PID)
-                if later and shape.is_announced:
-                    result[-1] = Packet(VIDEO_PID, announce_jump(result[-1].data))
+            due += TICKS
+            maker.put_pcr(now - PTS_AHEAD + later)
+            result += maker.list_taken_packets(VIDEO_PID)
         if waiting and decode_pts(waiting[0]) <= now:
             maker.put(TELETEXT_PID, waiting.pop(0))
             result += maker.list_taken_packets(TELETEXT_PID)
-        pid = NULL_PID if shape.has_null and number % 3 else \
-            AUDIO_PID if number % 9 == 0 else VIDEO_PID
-        result.append(filler(pid, maker.counters))
+        result.append(filler(AUDIO_PID if number % 9 == 0 else VIDEO_PID, maker.counters))
     return result
 
 
 def join_packets(result: Iterable[Packet]) -> bytes:
     return b"".join(item.data for item in result)
-
-
-def announce_jump(data: bytes) -> bytes:
-    """Set the discontinuity_indicator of a TS packet."""
-    return data[:5] + bytes([data[5] | 0x80]) + data[6:]
 
 
 def find_teletext_places(result: Sequence[Packet], pts: int) -> list[int]:
