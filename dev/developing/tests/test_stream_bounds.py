@@ -13,8 +13,7 @@ from subtitles.clock.start import (
 from subtitles.common.times import CLOCK, EARLY_TICKS, FRAMES_A_SECOND, NO_FRAME, Span, TICKS
 from subtitles.recording.recording import Recording
 from subtitles.request.request import Unclear
-from subtitles.stream.gaps import (
-    LossPlace, SECOND, describe_gap_markers, is_within, limit_lines)
+from subtitles.stream.gaps import LossPlace, SECOND, describe_gap_markers, is_within
 from subtitles.stream.pace import DEFAULT_REPEAT_LIMIT, Pauses, Silence, select_idle_silences
 from subtitles.stream.repeats import MAX_CUE_DISTANCE, measure_repeats
 from subtitles.stream.packets import GapMarker, PCRStep, PacketRun, Packets, Texts
@@ -95,12 +94,6 @@ class Silences(unittest.TestCase):
             end = None if last is None else round(origin + TICKS * last) % CLOCK
             repeats = measure_repeats(pts, end, origin, [*zip(cues, cues[1:])])
             self.assertEqual(repeats and (*repeats[:4],), expected, (origin, frames, last, cues))
-
-    def test_limits_a_list_to_twenty_lines_and_counts_the_others(self) -> None:
-        for count, last_line in ((0, ""), (1, ""), (19, ""), (20, ""),
-                                 (21, "and at 1 more place"), (22, "and at 2 more places")):
-            lines = [f"{number}" for number in range(count)]
-            self.assertEqual(limit_lines(lines), lines[:20] + [last_line] * bool(last_line), count)
 
     def test_describes_nineteen_of_more_than_twenty_gap_markers(self) -> None:
         for count, last_line in ((0, ""), (1, ""), (19, ""), (20, ""),

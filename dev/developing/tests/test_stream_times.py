@@ -95,17 +95,6 @@ class ClockTables(unittest.TestCase):
     def test_parses_the_headers_of_a_run(self) -> None:
         self.assertEqual(parse_headers("0808081f+10"), (bytes([0, 8, 0, 8, 0, 8, 1, 15]), b"\1\0"))
 
-    def test_begins_a_time_base_where_two_pts_go_back(self) -> None:
-        # The PTS of PES packets, and the first PES packet of each time base
-        for pts, begins in (
-                ([0, 1, 2, 3], [0]), ([SECOND * 9, SECOND * 10, 0, SECOND], [0, 2]),
-                ([-2, -1, 0, 1], [0]), ([1, 2, -SECOND * 2, -SECOND], [0, 2]),
-                ([9, 10, 5, 11], [0]), ([9, 10, 5, 6, 1, 2], [0, 2, 4]),
-                ([0, 1, CLOCK // 2 - 9, CLOCK // 2 - 8], [0])):
-            bases = make_packets(pts).split_time_bases()
-            self.assertEqual(bases, [range(*pair) for pair in zip(begins, [*begins[1:], len(pts)])],
-                             pts)
-
     def test_splits_a_programme_at_breaks(self) -> None:
         five = MIN_BREAK_FRAMES
         # For each stretch of nine page changes: its time base, and its origin as a frame. Expected
