@@ -24,7 +24,7 @@ from .bench import Case
 from .judged import judge_files
 from .parts import make_example_request
 from .inserters import INSERTERS, BLANK_FRAMES, Inserter, Programme
-from .stories import read_table
+from .stories import read_vectors
 from .transmissions import (
     ORIGIN, PAGE, add_pauses, join_pes_packets, write_programme, schedule_pages, subtitle_times)
 from .test_judging_reasons import KEEPING_HEADER
@@ -32,6 +32,8 @@ from .test_judging_reasons import KEEPING_HEADER
 ENGLISH = OPTION_BY_WORD["english"]
 GERMAN_HEADER = make_packet(0, 0, bytes([8, 8, 0, 8, 0, 8, 1, 8]), b" " * 32)
 GERMAN_KEEPING = make_packet(0, 0, bytes([8, 8, 0, 0, 0, 8, 1, 8]), b" " * 32)
+
+
 def make_timeline_with(pages: dict[int, str], first: int, last: int) -> Timeline:
     """Return a timeline in which the page changes to one character or to blank at these frames."""
     decoded = Timeline(Packets(0), PAGE, 0)
@@ -43,93 +45,23 @@ def make_timeline_with(pages: dict[int, str], first: int, last: int) -> Timeline
 
 
 class Cues(Case):
-    """The delays of a file's cues, measured from the page on air.
-
-    `subtitles` has each text (- if empty) with its TCI and TCO in frames, `on air` the frames at
-    which the page changes to a text or to blank (-), and `received` the first and last received
-    frame. Expected: the delays of in-cues and out-cues in frames, early cues, unsent subtitles.
-    """
-
-    def check_delays(self, table: str) -> None:
-        for row in read_table(table):
+    def test_measures_delays_and_lists_early_cues_and_unsent_subtitles(self) -> None:
+        for row in read_vectors("delays.tsv"):
             subtitles = [Subtitle(at, at, int(begin), int(end), 20, 2, text.strip("-").encode())
                          for at, (text, begin, end) in enumerate(
                              re.findall(r"(\S) (\d+)-(\d+)", row["subtitles"]), 1)]
             pages = {int(frame): text.strip("-")
                      for frame, text in re.findall(r"(\d+) (\S)", row["on air"])}
-            first, last = map(int, row.get("received", "0-999").split("-"))
+            first, last = map(int, (row["received"] or "0-999").split("-"))
             found = measure_delays("x.stl", subtitles, make_timeline_with(pages, first, last),
                                    ENGLISH)
-            name = f"{row['subtitles']}; {row['on air']}"
             for column, delays in ("in-cues", found.begins), ("out-cues", found.ends):
-                self.check(f"{name}: {column}", delays, Counter(map(int, row[column].split())))
-            self.check(f"{name}: early", ", ".join(line.partition(" at 00:00:04:00 ")[2]
-                                                   for line in found.early), row.get("early", ""))
-            self.check(f"{name}: unsent", " ".join(line.split()[2] for line in found.unseen),
-                       row.get("unsent", ""))
-
-    def test_measures_the_delay_of_each_cue(self) -> None:
-        self.check_delays("""
-        subtitles            | on air                     | in-cues | out-cues
-        a 100-150, b 200-250 | 100 a, 150 -, 200 b, 250 - | 0 0     | 0 0
-        a 100-150, b 200-250 | 103 a, 152 -, 201 b, 250 - | 3 1     | 2 0
-        """)
-
-    def test_ignores_cues_at_the_first_or_after_the_last_received_frame(self) -> None:
-        self.check_delays("""
-        subtitles | on air       | received | in-cues | out-cues
-        a 100-150 | 100 a, 150 - | 100-999  |         | 0
-        a 100-150 | 101 a, 150 - | 100-999  | 1       | 0
-        a 100-150 | 100 a        | 0-149    | 0       |
-        a 100-150 | 100 a        | 0-151    | 0       |
-        a 100-150 | 100 a, 151 - | 0-151    | 0       | 1
-        """)
-
-    def test_lists_early_cues_unless_the_page_ended_a_second_before_the_tci(self) -> None:
-        self.check_delays("""
-        subtitles | on air                    | in-cues | out-cues | early
-        a 100-150 | 99 a, 149 -               |    |   | begins 1 frame early, ends 1 frame early
-        a 100-150 | 75 a, 147 -               |    |   | begins 25 frames early, ends 3 frames early
-        a 100-150 | 60 a, 70 -, 100 a, 150 -  | 0  | 0 |
-        a 100-150 | 80 a, 90 -, 100 a, 150 -  |    | 0 | begins 20 frames early
-        a 100-150 | 70 a, 76 -, 100 a, 150 -  |    | 0 | begins 30 frames early
-        a 100-150 | 70 a, 75 -, 100 a, 150 -  | 0  | 0 |
-        """)
-
-    def test_measures_the_in_cue_of_a_repeated_text_only_after_a_pause_of_a_second(self) -> None:
-        self.check_delays("""
-        subtitles            | on air                     | in-cues | out-cues
-        a 100-150, a 176-220 | 100 a, 150 -, 178 a, 220 - | 0 2     | 0 0
-        a 100-150, a 175-220 | 100 a, 150 -, 178 a, 220 - | 0       | 0 0
-        a 100-150, b 160-220 | 100 a, 150 -, 163 b, 220 - | 0 3     | 0 0
-        """)
-
-    def test_measures_no_out_cue_if_the_next_subtitle_adjoins(self) -> None:
-        self.check_delays("""
-        subtitles            | on air                     | in-cues | out-cues
-        a 100-150, b 150-200 | 100 a, 152 b, 200 -        | 0 2     | 0
-        a 100-150, b 151-200 | 100 a, 150 -, 152 b, 200 - | 0 1     | 0 0
-        a 100-150, a 150-200 | 100 a, 201 -               | 0       | 1
-        """)
-
-    def test_the_out_cue_erases_the_text_shown_last_up_to_two_seconds_after_the_tco(self) -> None:
-        self.check_delays("""
-        subtitles            | on air                            | in-cues | out-cues
-        a 100-150            | 100 a, 110 -, 120 a, 150 -        | 0       | 0
-        a 100-150            | 100 a, 200 -                      | 0       | 50
-        a 100-150            | 100 a, 150 -, 200 a, 210 -        | 0       | 60
-        a 100-150            | 100 a, 150 -, 201 a, 210 -        | 0       | 0
-        a 100-150, b 180-230 | 100 a, 150 -, 180 a, 182 b, 230 - | 0 2     | 0 0
-        """)
-
-    def test_lists_subtitles_that_were_never_sent_and_ignores_empty_ones(self) -> None:
-        self.check_delays("""
-        subtitles                       | on air                     | in-cues | out-cues | unsent
-        a 100-150, b 200-250            | 100 a, 150 -               | 0       | 0        | 2
-        a 100-150, b 200-250            | 100 a, 150 -, 250 b        | 0       | 0        | 2
-        a 100-150, a 170-220            | 100 a, 150 -               | 0       | 0        | 2
-        a 100-150, - 160-170, b 200-250 | 100 a, 150 -, 200 b, 250 - | 0 0     | 0 0      |
-        """)
+                self.check(f"{row['name']}: {column}", delays,
+                           Counter(map(int, row[column].split())))
+            self.check(f"{row['name']}: early", ", ".join(
+                line.partition(" at 00:00:04:00 ")[2] for line in found.early), row["early"])
+            self.check(f"{row['name']}: unsent", " ".join(
+                line.split()[2] for line in found.unseen), row["unsent"])
 
 
 def join_options(findings: Iterable[Finding]) -> str:
