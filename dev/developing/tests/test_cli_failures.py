@@ -19,11 +19,11 @@ from subtitles.common.program import TOP
 from subtitles.formats.stl import read_stl
 from .bench import Case, get_example_path, get_tool_path
 from .judged import FEW
+from .stories import read_vectors
 
 QC = get_tool_path("qc")
 HELLO = [get_example_path("hello.stl"), get_example_path("hello.pes")]
 ACCEPTED = "accepted 51 frames 2 transmissions"
-CONTROL = "refused 67 Control frame 10:00:00:00 packet 0"
 # A script in place of subttx. The command `check`, which decides about a pair, runs {alone} for a
 # subtitle file without a recording and {said} for a recording. Other commands are those of subttx.
 PROGRAM = r"""#!/bin/sh
@@ -36,28 +36,6 @@ case "$*" in
 esac
 """
 EMPTY = ["refused 60 Empty", "1 faults"]
-# Columns: the output of `check`; the end with which qc takes this output as valid if `check` reads
-# only the subtitle file; the same if it reads the recording. `None` means that no end is valid.
-ANSWERS: dict[str, tuple[list[str], str | None, str | None]] = {
-    "accepted": ([ACCEPTED], None, "exit 0"), "no PES packet": (EMPTY, "exit 1", "exit 1"),
-    "a fault of the subtitle file": (["refused 50 Character block 1 at 0", "1 faults"], "exit 1",
-                                     "exit 1"),
-    "a fault of the recording": ([CONTROL, "1 faults"], None, "exit 1"),
-    "both": ([EMPTY[0], CONTROL, "2 faults"], None, "exit 1"),
-    "a fault that is not counted": ([CONTROL], None, None),
-    "faults that are counted wrongly": ([EMPTY[0], "2 faults"], None, None),
-    "a count alone": (["1 faults"], None, None), "no fault": (["0 faults"], None, None),
-    "a fault before accepted": ([EMPTY[0], ACCEPTED], None, None),
-    "accepted without counts": (["accepted"], None, None),
-    "a text before accepted": (["something else", ACCEPTED], None, None),
-    "an empty line behind it": ([ACCEPTED, ""], None, None),
-    "no number": (["refused x y", "1 faults"], None, None),
-    "a number of packet": (["refused 3 BadAddress", "1 faults"], None, None),
-    "a number of schedule": (["refused 82 NoSubtitle", "1 faults"], None, None),
-    "trusted frames": (["trusted frames 10:00:00:00 10:00:02:00"], None, None),
-    "usage": (["usage 0 Words"], None, None), "a fault of the machine": (["fault 90 Open"], None,
-                                                                         None),
-    "nothing": ([], None, None)}
 # How `check` ends, and the exit status of qc if this is not the valid end (70: a bug of subttx).
 INVALID_ENDS = {"exit 0": 70, "exit 1": 70, "exit 2": 2, "kill -9 $$": 2, "kill -11 $$": 70}
 
@@ -114,16 +92,16 @@ class Programs(CallCase):
     """Runs of qc with a program that prints invalid answers or fails."""
 
     def test_judges_only_by_a_valid_answer_of_check(self) -> None:
-        for (name, (lines, of_file, of_pair)), end in itertools.product(ANSWERS.items(),
-                                                                        INVALID_ENDS):
+        for row, end in itertools.product(read_vectors("check-ends.tsv"), INVALID_ENDS):
+            name, lines = row["name"], json.loads(row["output"])
             alone = self.fake_program(alone=lines, then_alone=end, then="exit 9")
-            status = INVALID_ENDS[end] if end != of_file else 0 if lines == EMPTY else 1
+            status = INVALID_ENDS[end] if end != row["alone"] else 0 if lines == EMPTY else 1
             self.check_judged(f"{name}, {end}, alone", status, self.qc(
                 HELLO[0], "--file-only", "-p", alone, "--json", "one.json"))
-            if end != of_file:
+            if end != row["alone"]:
                 self.check_judged(f"{name}, {end}, with a recording", INVALID_ENDS[end],
                                   self.judge(alone, "--json", "one.json"))
-            status = INVALID_ENDS[end] if end != of_pair else 0 if end == "exit 0" else 1
+            status = INVALID_ENDS[end] if end != row["pair"] else 0 if end == "exit 0" else 1
             self.check_judged(f"{name}, {end}", status, self.judge(
                 self.fake_program(*lines, then=end), "--json", "one.json"))
 
