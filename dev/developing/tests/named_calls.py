@@ -9,12 +9,12 @@ import re
 import shutil
 import sys
 import tempfile
-from typing import Any, Iterator, NamedTuple
+from typing import NamedTuple
 from unittest import mock
 
 from subtitles.cli.main import main
 from subtitles.cli.single import lock_pair
-from subtitles.common.command_line import run
+from subtitles.common.command_line import run_main
 from subtitles.judging import faults, subtitles
 from subtitles.report import page as report
 from .bench import get_example_path
@@ -36,16 +36,6 @@ class CallOutput(NamedTuple):
     status: int
     lines: list[str]
     files: dict[str, str]
-
-
-def call_in_same_process(entry: Any, words: list[str]) -> tuple[int, str, str]:
-    """Run a tool's `main` function. Return its exit status, output and error output."""
-    with mock.patch.object(sys, "argv", words), capture_output() as (out, errors):
-        try:
-            run(entry)
-        except SystemExit as ended:
-            status = int(ended.code or 0)
-    return status, out.getvalue(), errors.getvalue()
 
 
 @functools.lru_cache(maxsize=4)  # several files often have the same text
@@ -76,7 +66,11 @@ NAMED = {
 
 
 def run_named_call(name: str, program: str) -> CallOutput:
-    with use_temporary_folder(), contextlib.ExitStack() as stack:
+    """Run qc. Return its output, with fixed texts instead of dates and fault explanations."""
+    words = NAMED[name].split()
+    with tempfile.TemporaryDirectory() as folder, contextlib.ExitStack() as stack:
+        stack.callback(os.chdir, os.getcwd())
+        os.chdir(folder)
         os.mkdir("in")
         for pair, stl, recording in PAIRS:
             ending = recording.rpartition(".")[2]
@@ -84,41 +78,20 @@ def run_named_call(name: str, program: str) -> CallOutput:
             shutil.copyfile(get_example_path(recording), f"in/{pair}.{ending}")
         if name == "claimed":
             stack.enter_context(lock_pair("out", "b"))
-        printed = run_call(NAMED[name].split(), program)
-    return printed
-
-
-@contextlib.contextmanager
-def use_temporary_folder() -> Iterator[None]:
-    """Return a context manager that changes to a new temporary folder."""
-    back = os.getcwd()
-    with tempfile.TemporaryDirectory() as folder:
-        os.chdir(folder)
-        try:
-            yield
-        finally:
-            os.chdir(back)
-
-
-def run_call(words: list[str], program: str) -> CallOutput:
-    """Run qc. Return its output, with fixed texts instead of dates and fault explanations."""
-    with contextlib.ExitStack() as stack:
+        stack.enter_context(mock.patch.object(sys, "argv", ["tools/qc"]))
         for module in (subtitles, faults, report):
             stack.enter_context(mock.patch.object(module, "read_meanings", lambda: MEANINGS))
-        status, out, reported = call_in_same_process(lambda line: main("", "tools/qc", line), [
-            "tools/qc", *words, "-p", program])
-    files = {}
-    for name in filter(os.path.exists, FILES):
-        with open(name, encoding="utf-8") as file:
-            files[name] = file.read()
-    for text in {text for name, text in files.items() if name.endswith(".json")}:
-        misfits = list_violations(json.loads(text))
-        assert not misfits, (words, misfits)
-    known = json.loads(files.get("one.json", "{}"))
-    errors = [*list_choice_errors(known, (out + reported).splitlines())] if "choices" in known \
-        else []
-    assert not errors, (words, errors)
-    return CallOutput(words, status,
-                      [replace_volatile_text(line, program)
-                       for line in (out + reported).splitlines()],
-                      {name: replace_volatile_text(text, program) for name, text in files.items()})
+        out, reported = stack.enter_context(capture_output())
+        status = run_main(lambda line: main("", "tools/qc", line), [*words, "-p", program])
+        files = {}
+        for path in filter(os.path.exists, FILES):
+            with open(path, encoding="utf-8") as file:
+                files[path] = file.read()
+    lines = (out.getvalue() + reported.getvalue()).splitlines()
+    if "one.json" in files:
+        result = json.loads(files["one.json"])
+        errors = [*list_violations(result),
+                  *(list_choice_errors(result, lines) if "choices" in result else ())]
+        assert not errors, (words, errors)
+    return CallOutput(words, status, [replace_volatile_text(line, program) for line in lines],
+                      {path: replace_volatile_text(text, program) for path, text in files.items()})
