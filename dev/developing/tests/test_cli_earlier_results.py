@@ -28,6 +28,7 @@ from subtitles.results.schema import FORMAT, REQUEST
 from .bench import Case, read_example_file
 from .parts import make_example_request, make_default_options
 from .results import FAULT, capture_output, make_result, make_table_row
+from .stories import read_vectors
 
 PROGRAM = ProgramInfo("1", "ab" * 32, None)
 TIME_WIDTH = len("2026-01-02 03:04:05  ")  # characters before a verdict in a line of --watch
@@ -141,27 +142,16 @@ class StoredResults(Case):
             self.check(name, (row.line, row.is_judged), (line, is_judged))
 
     def test_refuses_results_of_another_format_or_shape(self) -> None:
-        """A valid result with these changes does not match the schema at the second value."""
-        path = self.path("one.json")
-        changes: list[tuple[dict[str, Any], str]] = [
-            ({"format": 3}, ""), ({"format": None}, ".format"), ({"status": 0}, ".verdict"),
-            ({"status": True}, ".status"), ({"verdict": "accepted"}, ".verdict"),
-            ({"verdict": 5}, ".verdict"), ({"line": 5}, ".line"), ({"line": ""}, ".verdict"),
-            ({"line": None}, ".verdict"), ({"reason": 5}, ".reason"), ({"request": []}, ".request"),
-            ({"request": None}, ".request"), ({"faults": {}}, ".faults"),
-            ({"faults": [5]}, ".faults[0]"),
-            ({"faults": [FAULT, {**FAULT, "row": 25}]}, ".faults[1].row"),
-            ({"faults": [{"line": "x"}]}, ".faults[0].block"), ({"hints": {}}, ".hints"),
-            ({"cause_counts": []}, ".cause_counts"), ({"fault_count": 1.5}, ".fault_count"),
-            ({"fault_count": True}, ".fault_count"), ({"seconds": "x"}, ".seconds"),
-            ({"more": 1}, ".more"), ({"date": "2026-01-02T03:04:05Z\n"}, ".date"),
-            ({"verdict": "not judged", "status": 2}, ".verdict")]
-        for change, where in changes:
+        path, misfit = self.path("one.json"), "does not match docs/verdict.schema.json at"
+        changes = [(row["name"], json.loads(row["change"]), f"{misfit} {row['place']}")
+                   for row in read_vectors("misfits.tsv")]
+        changes += [("row 25 of the second fault", {"faults": [FAULT, {**FAULT, "row": 25}]},
+                     f"{misfit} .faults[1].row"),
+                    ("format 3", {"format": 3}, "has format 3, but this version reads format 8")]
+        for name, change, reason in changes:
             write_result_file(path, {**make_result(), **change})
-            reason = f"does not match docs/verdict.schema.json at {where}: judge it again" \
-                if where else "has format 3, but this version reads format 8: judge it again"
-            self.check(f"{change}", read_result(path),
-                       make_unjudged("one", f"its JSON result {reason}", "input"))
+            self.check(name, read_result(path), make_unjudged(
+                "one", f"its JSON result {reason}: judge it again", "input"))
 
     def test_reads_back_valid_results(self) -> None:
         path, changes = self.path("one.json"), list[dict[str, Any]]([
@@ -382,23 +372,7 @@ class WatchedFolders(Case):
             (state["waiting"], state["verdicts"], state["last_result"]) for state in states],
             [(1, {}, ""), (0, {"accepted": 1}, "a: accepted")])
 
-    def test_reports_a_locked_pair_once_and_retries(self) -> None:
-        """The first of five scans finds the pair. The second to fifth begin to judge it."""
-        begun = list[str]()
-
-        def judge_item(runner: PairRunner, item: BatchItem) -> Row:
-            begun.append(item.name)
-            row = runner.start(item)
-            assert row
-            return row
-
-        with lock_pair(self.path("out"), "a"):
-            [line] = self.run_watch(5, judge_item)
-        self.must("message", "another run of qc is writing the files of pair a" in line, line)
-        self.must("no result", not os.path.exists(self.path("out/a.json")))
-        self.check("begun", begun, ["a"] * 4)
-
-    def test_judges_a_locked_pair_once_it_is_free(self) -> None:
+    def test_reports_a_locked_pair_once_and_judges_it_when_it_is_free(self) -> None:
         """The pair is locked until the fourth of eight scans has ended."""
         begun = list[bool]()
 
@@ -412,6 +386,7 @@ class WatchedFolders(Case):
         with lock, mock.patch.object(PairRunner, "start_locked_pair", return_value=None):
             lines = self.run_watch(8, judge_item, lambda scan: lock.close() if scan == 4 else None)
         self.check("begun", begun, [False, False, False, True])
+        self.must("lock", "another run of qc is writing the files of pair a" in lines[0], lines)
         self.check("lines after that about the lock", lines[1:], ["a  accepted"])
 
     def test_judges_a_pair_again_when_it_changes(self) -> None:
