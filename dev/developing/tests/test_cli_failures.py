@@ -205,19 +205,6 @@ class UsageErrors(CallCase):
 class Bugs(CallCase):
     """Errors of the tools themselves: status 70, or 2 before the tool can start."""
 
-    def check_bug_message(self, place: str, error: Exception) -> None:
-        """Check that qc gives no verdict and reports `error` if the function `place` raises it."""
-        self.write("one.json", b"")
-        with mock.patch(f"subtitles.{place}", side_effect=error):
-            process = self.judge(self.fake_program(ACCEPTED), "--json", "one.json")
-        known = self.object()
-        self.assertEqual((process.status, len(process.told)), (70, 1), process)
-        self.assertEqual((known["verdict"], known["status"], known["not_judged_kind"]),
-                         ("not judged", 70, "bug"), known)
-        self.assertIsNone(known.get("line"))
-        self.assertEqual(process.told, [f"qc: {known['reason']}"])
-        self.assertIn(str(error).strip("'"), known["reason"])
-
     def test_reports_a_bug_in_each_step(self) -> None:
         for place in ("judging.pair.PairJudge.judge", "judging.pair.check_file_alone",
                       "judging.timing.estimate_origin", "judging.pair.explain_part",
@@ -225,8 +212,16 @@ class Bugs(CallCase):
                       "cli.main.make_parser", "cli.single.make_request",
                       "cli.single.CommandPaths", "cli.single.describe_inputs",
                       "results.files.make_list_chunks", "cli.single.describe_program"):
-            with self.subTest(place):
-                self.check_bug_message(place, ValueError("odd"))
+            self.write("one.json", b"")
+            with mock.patch(f"subtitles.{place}", side_effect=ValueError("odd")):
+                process = self.judge(self.fake_program(ACCEPTED), "--json", "one.json")
+            known = self.object()
+            self.check(f"{place}: statuses", (process.status, known["status"]), (70, 70))
+            self.check(f"{place}: verdict, line, kind", (
+                known["verdict"], known.get("line"), known["not_judged_kind"]),
+                ("not judged", None, "bug"))
+            self.check(f"{place}: message", process.told, [f"qc: {known['reason']}"])
+            self.must(f"{place}: reason", "odd" in known["reason"], known)
 
     def test_has_status_2_if_a_module_cannot_be_imported(self) -> None:
         for ending, count in (("", 1), ("2>&-", 0), ("2>/dev/full", 0)):
