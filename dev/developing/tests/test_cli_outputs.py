@@ -86,12 +86,6 @@ class Tables(unittest.TestCase):
             self.assertEqual([tuple(row[name] for name in names) for row in rows],
                              [expected] * (1 + 150), counts)
 
-    def test_a_csv_table_has_one_header_row(self) -> None:
-        for order in ((0, 1, 2), (2, 1, 0), (1, 0, 2), (0,), ()):
-            rows_of_each = [row for at in order for row in self.read_csv([RESULTS[at]])]
-            with self.subTest(order=order):
-                self.assertEqual(self.read_csv([RESULTS[at] for at in order]), rows_of_each)
-
     def test_has_columns_for_subtitle_cells_and_cause(self) -> None:
         first_fault, second_fault = self.read_csv(RESULTS[:1])[1:]
         names = ("subtitle_number", "subtitle_begin", "subtitle_end", "expected", "decoded",
