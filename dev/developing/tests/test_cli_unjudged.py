@@ -101,15 +101,6 @@ class UnjudgedPairs(Case):
                 self.must("free again", not runner.running_pairs)
             self.must("no lock is left", ".one.lock" not in os.listdir(self.path("out")))
 
-    def test_does_not_start_a_pair_whose_files_are_locked_or_foreign(self) -> None:
-        runner = self.make_runner()
-        with lock_pair(self.path("out"), "one"):
-            self.must("locked", runner.start(self.item) and runner.names_in_use == {"one"})
-        self.write("out/one.html", b"theirs")
-        row = runner.start(self.item)
-        self.must("foreign", row and "was not written by" in row.line and not runner.names_in_use,
-                  row)
-
     def test_runs_at_most_as_many_pairs_as_requested(self) -> None:
         for jobs, count in itertools.product((1, 2, 3), range(4)):
             runner = self.make_runner()
@@ -159,6 +150,7 @@ class UnjudgedPairs(Case):
                        f"out/{name} exists and was not written by these tools: move it away, or "
                        "give another folder"
                        for name in ("one.7.txt", "two.1.txt", "three.1.html")])
+        self.check("names in use", runner.names_in_use, set())
 
     def test_does_not_list_a_claimed_folder_again(self) -> None:
         """`PartFiles` lists the folder. The process of a pair must not call it."""
