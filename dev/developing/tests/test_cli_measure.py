@@ -29,19 +29,8 @@ from .transmissions import (
     ORIGIN, PAGE, add_pauses, join_pes_packets, write_programme, schedule_pages, subtitle_times)
 from .test_judging_reasons import KEEPING_HEADER
 
-ENGLISH = OPTION_BY_WORD["english"]
 GERMAN_HEADER = make_packet(0, 0, bytes([8, 8, 0, 8, 0, 8, 1, 8]), b" " * 32)
 GERMAN_KEEPING = make_packet(0, 0, bytes([8, 8, 0, 0, 0, 8, 1, 8]), b" " * 32)
-
-
-def make_timeline_with(pages: dict[int, str], first: int, last: int) -> Timeline:
-    """Return a timeline in which the page changes to one character or to blank at these frames."""
-    decoded = Timeline(Packets(0), PAGE, 0)
-    decoded.first, decoded.last = first, last
-    decoded.record_page(first, BLANK_PAGE)
-    for frame, text in pages.items():
-        decoded.record_page(frame, (text.encode().ljust(40), *BLANK_PAGE[1:]))
-    return decoded
 
 
 class Cues(Case):
@@ -50,11 +39,13 @@ class Cues(Case):
             subtitles = [Subtitle(at, at, int(begin), int(end), 20, 2, text.strip("-").encode())
                          for at, (text, begin, end) in enumerate(
                              re.findall(r"(\S) (\d+)-(\d+)", row["subtitles"]), 1)]
-            pages = {int(frame): text.strip("-")
-                     for frame, text in re.findall(r"(\d+) (\S)", row["on air"])}
-            first, last = map(int, (row["received"] or "0-999").split("-"))
-            found = measure_delays("x.stl", subtitles, make_timeline_with(pages, first, last),
-                                   ENGLISH)
+            decoded = Timeline(Packets(0), PAGE, 0)
+            decoded.first, decoded.last = map(int, (row["received"] or "0-999").split("-"))
+            decoded.record_page(decoded.first, BLANK_PAGE)
+            for frame, text in re.findall(r"(\d+) (\S)", row["on air"]):
+                decoded.record_page(int(frame), (text.strip("-").encode().ljust(40),
+                                                 *BLANK_PAGE[1:]))
+            found = measure_delays("x.stl", subtitles, decoded, OPTION_BY_WORD["english"])
             for column, delays in ("in-cues", found.begins), ("out-cues", found.ends):
                 self.check(f"{row['name']}: {column}", delays,
                            Counter(map(int, row[column].split())))
