@@ -33,9 +33,9 @@ def split_output_lines(process: CompletedCall) -> list[str]:
     return process.out.decode().splitlines()
 
 
-def stream(case: Case, name: str, pes: bytes, pid: str = "0x101", page: str = "888") -> bytes:
-    """Return a transport stream with these PES packets, which dev/pes2ts makes."""
-    process = case.tool("pes2ts", case.write(name + ".in.pes", pes), pid, "--page", page)
+def make_stream(case: Case, example: str) -> bytes:
+    """Return a transport stream with the PES packets of an example, which dev/pes2ts makes."""
+    process = case.tool("pes2ts", get_example_path(example), "0x101", "--page", "888")
     assert process.status == 0, process
     return process.out
 
@@ -90,7 +90,7 @@ class PipedRecordings(Case):
 
     def test_reports_a_full_disk_for_a_pipe(self) -> None:
         """The pipe contains more than the 200 KiB that the shell allows qc to write to a file."""
-        data = stream(self, "story", read_example_file("story.pes")) * 400
+        data = make_stream(self, "story.pes") * 400
         command = 'ulimit -f 200; exec "$0" "$1" - --json one.json -p "$2"'
         process = self.call(["bash", "-c", command, get_tool_path("qc"), STORY, self.bench.program],
                             data)
@@ -159,7 +159,7 @@ class Ended(Case):
 
     def test_writes_a_complete_result_if_its_output_is_closed(self) -> None:
         """`head -2` closes the output of qc after two lines. The recording has five faults."""
-        five = self.write("five.ts", stream(self, "five", read_example_file("five-faults.pes")))
+        five = self.write("five.ts", make_stream(self, "five-faults.pes"))
         command = ('cat "$1" | "$2" "$3" "$4" --origin 0 --every 25 --json one.json -p "$5" 2>told '
                    '| head -2; echo ${PIPESTATUS[1]}')
         for name, recording in (("a feed", "-"), ("a file", five)):
