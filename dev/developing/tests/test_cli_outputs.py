@@ -167,11 +167,6 @@ class Statuses(Case):
         with contextlib.redirect_stdout(io.StringIO()), contextlib.redirect_stderr(io.StringIO()):
             return collection.write_collection(args, [self.ROW], [self.path("one.json")], **more)
 
-    def test_is_0_if_all_outputs_are_written(self) -> None:
-        self.check("no output", self.write_outputs({}), 0)
-        self.check("all outputs", self.write_outputs({kind: self.path(f"good.{kind}")
-                                                      for kind in self.KINDS}), 0)
-
     def test_is_2_if_an_output_fails(self) -> None:
         missing_folder = self.path("nowhere/at/all")
         self.check("index page", self.write_outputs({}, folder=missing_folder), 2)
