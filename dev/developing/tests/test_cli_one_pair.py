@@ -454,13 +454,6 @@ class Pages(Case):
         self.check("fault counts", re.findall(r'<td data-name="Faults">(\d)</td>', table),
                    ["0", "2", "0"])
 
-    def test_shows_warnings_beside_the_verdict(self) -> None:
-        verdict = self.verdict()
-        verdict.warnings = [Notice("kind", "strange")]
-        box = markup_text(report_page.make_verdict_box(verdict))
-        self.must("box", box.startswith('<div class="verdict refused">') and verdict.sentence in
-                  box and "strange" in box, box)
-
     def test_lists_losses_and_packets_outside_the_judged_range_as_unchecked(self) -> None:
         verdict = self.verdict()
         for gaps, count in (([make_gap(True), make_gap(False)], 1), ([make_gap(True)], 0)):
