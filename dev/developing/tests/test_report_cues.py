@@ -57,7 +57,7 @@ class ActualCues(Case):
         for name, cause, changes, cues in (
                 ("right", None, [(100, one), (200, two)], (100, 200)),
                 ("late", late, [(107, one), (207, two)], (107, 207)),
-                ("early", late._replace(name=EARLY, frames=60), [(40, one), (140, two)], (40, 140)),
+                ("early", late._replace(name=EARLY, frames=60), [(40, one), (90, two)], (40, 90)),
                 ("late within the limit", None, [(103, one), (203, two)], (103, 203)),
                 ("wrong text", text, [(101, wrong), (199, two)], (101, 199)),
                 ("never sent", never, [(0, blank), (200, two)], (None, None)),
@@ -67,7 +67,8 @@ class ActualCues(Case):
                 ("up to the end", None, [(100, one)], (100, None))):
             delay = None if cues[0] is None else cues[0] - 100
             cue = add_decoded_page(Cue(FIRST, one, cause), 0, ExpectedPages(
-                [FIRST, SECOND], [one, two]), make_timeline_of_pages(*changes), delay or 0)
+                [FIRST, SECOND], [one, two]), make_timeline_of_pages(*changes),
+                0 if cause else delay)
             self.check(name, (cue.begin, cue.end, cue.delay_in), (*cues, delay))
 
     def test_finds_the_cue_between_equal_pages(self) -> None:
