@@ -59,7 +59,8 @@ class Option(NamedTuple):
     default: str
 
     def list_choices(self) -> list[str]:
-        """Return the values that the option accepts, if the option table lists them."""
+        """Return the words in the option table that are no commands of the option, if there are at
+        least three: the values that the option accepts."""
         values = [word for word in re.findall(r"`([a-z0-9]+)`", self.means)
                   if word not in self.commands]
         return values if len(values) > 2 else []

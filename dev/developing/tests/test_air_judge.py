@@ -108,7 +108,7 @@ class JudgedProgrammes(AirCase):
         return FakeChecker({NAME: SentProgramme(int(begin), int(end), "wrong" not in row["on air"])}
                            if begin else NEVER_SENT)
 
-    def test_judges_each_programme_as_soon_as_its_result_is_certain(self) -> None:
+    def test_judges_each_programme_at_the_first_attempt_with_a_certain_result(self) -> None:
         for row in read_vectors("air-verdicts.tsv"):
             checker, name = self.put_trial(row), row["name"]
             with mock.patch.object(judging, "find_segments", self.find_recorded_segments):

@@ -44,7 +44,7 @@ def read_channel_settings() -> str:
 
 
 class Units(Case):
-    """The text of the units in the manual, which systemd does not read here."""
+    """The text and the installation of the units in the manual. systemd does not read them here."""
 
     def setUp(self) -> None:
         super().setUp()

@@ -127,7 +127,7 @@ class LastLines(Case):
     ACCEPTED_AND_REFUSED = [make_part(0, 9, 0), make_part(10, 19, 0, make_answer(REFUSED), 2)]
 
     def test_prints_the_delays_only_if_some_are_allowed(self) -> None:
-        """A line precedes the two last lines if --within is given and subtitles are late."""
+        """A line precedes the two last lines if --within is not 0 and any delay is known."""
         for delays, within, count in (((0, 3), 1, 3), ((), 1, 2), ((0, 3), 0, 2)):
             lines = self.print_lines(self.verdict([make_part(0, 9, 0, delays=delays)],
                                                   "--within", f"{within}"))

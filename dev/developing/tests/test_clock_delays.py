@@ -184,6 +184,7 @@ def compare_with_ffprobe(case: Case, name: str, stl: str, data: bytes, is_closed
     path = case.write("cut.ts", data)
     process = qc(case, stl, path, "--start", "00:00:00:00")
     survey = case.call([case.bench.program, "survey", "--page", "888", "--", path])
+    # `survey` prints `group` for groups of each form. Without it, qc takes the smallest PTS.
     has_least = is_closed or b"\ngroup " not in survey.out
     packets_of = read_ffprobe_rows(case, path, "packet=pts,flags")
     keys = [number for number, row in enumerate(packets_of) if "K" in row[1]]

@@ -113,6 +113,8 @@ class GeneratedParts(Case):
         self.assertRaises(Stop, pages.parse_commands, "usage: none")
 
     def test_a_command_is_no_value_of_an_option(self) -> None:
+        """The values are the words that are no commands of the option, if these are at least three.
+        """
         for cell, values in (("`a`, `b` or `check`", []), ("`a`, `b` or `c`", ["a", "b", "c"])):
             option, = pages.parse_options(f"| `--kind K` | `check` | {cell} | `a` |\n")
             self.check(cell, option.list_choices(), values)

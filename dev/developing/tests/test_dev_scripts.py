@@ -477,13 +477,14 @@ class CheckStatuses(Case):
                              os.listdir(self.path("kept"))},
                    {"pair-7.0": b"stl", "pair-7.1": b"pes"})
 
-    def test_plant_runs_the_quick_tests_of_the_function_or_else_of_the_module(self) -> None:
+    def test_plant_runs_the_quick_tests_that_call_the_function_or_the_module(self) -> None:
         script = import_script("plant")
-        planting = script.Planting([], "", mock.Mock(quick=5))
+        planting = script.Planting([], "", mock.Mock(quick=5))  # tests of less than 5 seconds
         calls = {"a": (3, ["one.py:f", "two.py:g"]), "b": (1, ["one.py:f", "one.py:h"]),
                  "c": (9, ["one.py:f"]), "d": (0, ["two.py:g"]), "e": (2, ["one.py:C.h"])}
         planting.calls = {name: {"seconds": seconds, "calls": functions}
                           for name, (seconds, functions) in calls.items()}
+        # MODULE is the code outside of functions.
         for function, tests in (("f", ["b", "a"]), ("h", ["b"]), ("C.h", ["e"]),
                                 ("f.<lambda>", ["b", "a"]), (script.MODULE, ["b", "e", "a"])):
             self.check(function, planting.list_tests("one.py", function), tests)

@@ -390,8 +390,9 @@ class MissingRows(Case):
                                             (25, [FIRST_ROW, CLOSING]), wrong=25, within=within)
             self.check(f"--within {within}", finder.explain_omitted_rows(25), expected)
 
-    def test_a_header_without_rows_erases_a_page_only_after_it_was_sent(self) -> None:
-        """The subtitle has the frames 25 to 99. A header without rows is sent in frame 0 or 30."""
+    def test_a_header_without_rows_erases_a_page_only_from_its_tci_on(self) -> None:
+        """The subtitle has the frames 25 to 99. An erasing header without rows is sent in frame 0
+        or 30. With --within 1, a page in frame 26 is not late."""
         for bare, page, name, words in (
                 (0, 26, "unknown", "it is missing at 00:00:01:00"),
                 (30, 25, "erased", "by a header without rows, at 00:00:01:05")):

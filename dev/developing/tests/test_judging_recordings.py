@@ -268,7 +268,7 @@ class Recordings(Case):
         self.check("files", sorted(os.listdir(self.path("alone"))),
                    ["one.html", "one.json", "one.txt"])
 
-    def test_reports_that_no_recording_was_read_if_the_subtitle_file_is_refused(self) -> None:
+    def test_reports_that_no_recording_was_read_if_all_subtitles_are_refused(self) -> None:
         judged = judge_files(self, ACCENT, self.write("one.ts", b"x"), "-o", self.path("out"))
         self.check("verdict", judged.timed_verdict, "refused")
         self.must("report", b"one.ts: it was not read" in self.read("out/one.html"))

@@ -72,6 +72,7 @@ class ActualCues(Case):
             self.check(name, (cue.begin, cue.end, cue.delay_in), (*cues, delay))
 
     def test_finds_the_cue_between_equal_pages(self) -> None:
+        """Equal pages are divided at the second subtitle's TCI, whatever the usual delay."""
         decoded = make_timeline_of_pages((100, self.ONE), (300, BLANK_PAGE))
         due = ExpectedPages([FIRST, SECOND], [self.ONE, self.ONE])
         cues = [add_decoded_page(Cue(item, self.ONE, None), place, due, decoded, 0)

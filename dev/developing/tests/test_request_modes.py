@@ -145,7 +145,8 @@ class Modes(Case):
             self.check(options, str(refused.exception), NO_RECORDING)
 
     def test_prints_the_names_of_tools_as_typed(self) -> None:
-        """The names of other tools are like the name of qc: a path, or a command on the PATH."""
+        """The names of other tools are paths like that of qc. Only if qc is installed as subttx-qc,
+        and the PATH finds it, they are names without a folder."""
         self.write("subttx-qc", b"#!/bin/sh\n")
         os.chmod(self.path("subttx-qc"), 0o755)
         program = self.bench.program

@@ -342,7 +342,8 @@ class AnnouncedJumps(Case):
 
     def test_counts_the_announced_jumps_that_no_late_pes_packet_follows(self) -> None:
         frames = [0, 1, 3, 4, 7, 8, 12, 13]
-        # The usual interval, the frames before and after each late PES packet, and the other jumps
+        # The usual interval, the frames before and after each late PES packet, and the number of
+        # other jumps across more than one frame
         rows: list[tuple[int, list[tuple[int, int]], int]] = [
             (0, [(1, 3), (3, 4), (4, 7), (7, 8), (8, 12)], 0),
             (1, [(1, 3), (4, 7), (8, 12)], 0), (2, [(4, 7), (8, 12)], 1), (3, [(8, 12)], 2),
