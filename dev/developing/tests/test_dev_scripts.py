@@ -37,9 +37,12 @@ STAGES = {"dev/edits": "1 passed, 0 failed", "dev/graph": "20 passed, 0 failed",
           "dev/release": "50000 passed, 0 failed"}
 ALL_PASSED = "54321 passed, 0 failed"
 
-# Calls of scripts up to an option. The first stages stop the gate if they fail.
-FIRST_CALLS = ["dev/edits --applies", "dev/graph --heads", "rt ci", "dev/release --note"]
-LAST_CALLS = ["tools/check-program -p", "dev/release --compare"]
+# Calls of scripts. The first stages stop the gate if they fail. The call that stores the prover's
+# lines has the first line of each of its files in place of their names.
+NOTE_CALL = "dev/release --note first line of rt sum"
+FIRST_CALLS = ["dev/edits --applies", "dev/graph --heads", "rt ci", NOTE_CALL]
+LAST_CALLS = ["tools/check-program -p crates/subttx/out/subttx", "dev/release --compare"]
+INSTALLER = "dev/install-test-tools"  # CI is set in the rows about it
 ALL_CALLS = [*FIRST_CALLS, "dev/release --keep", *LAST_CALLS]
 
 # The arguments of the gate; the stage that differs from STAGES, its last line and its status; the
@@ -49,11 +52,16 @@ GATE_CASES: dict[str, tuple[str, str, str, int, str, list[str]]] = {
     "with --anew": ("--anew", "rt", STAGES["rt"], 0, ALL_PASSED, [
         *FIRST_CALLS[:2], "rt ci --anew", *ALL_CALLS[3:]]),
     "two named crates": ("low high", "rt", STAGES["rt"], 0, STAGES["rt"], [
-        "rt ci low high", "dev/release --note"]),
+        "rt ci low high", NOTE_CALL]),
     "a named crate is not proved": ("low", "rt", "0 passed, 1 failed", 1, "0 passed, 1 failed", [
-        "rt ci low", "dev/release --note"]),
+        "rt ci low", NOTE_CALL]),
     "the sources change meanwhile": ("", "tools/sources", "", 0, ALL_PASSED, [
         *FIRST_CALLS, *LAST_CALLS]),
+    "with --anew, which rt lacks": ("--anew", "bin/rt", STAGES["rt"], 0, ALL_PASSED, [
+        *FIRST_CALLS[:2], "bin/rt ci", NOTE_CALL.replace("rt", "bin/rt"), *ALL_CALLS[4:]]),
+    "in CI": ("", INSTALLER, "", 0, ALL_PASSED, [*ALL_CALLS[:-2], INSTALLER, *LAST_CALLS]),
+    "in CI, apt-get fails": ("", INSTALLER, "", 1, ALL_PASSED, [
+        *ALL_CALLS[:-2], INSTALLER, *LAST_CALLS]),
     "the edits fail": ("", "dev/edits", "1 passed, 2 failed", 1, "321 passed, 2 failed",
                        FIRST_CALLS),
     "the proof fails": ("", "rt", "299 passed, 1 failed", 1, "320 passed, 1 failed", FIRST_CALLS),
@@ -75,8 +83,9 @@ def make_stage(name: str, line: str, status: int) -> str:
     """Return a script that adds its call to $CALLS, prints two lines and ends with a status."""
     # dev/release is also called to store lines and to keep the program, which is no stage.
     condition = '[ "$1" = --compare ] || exit 0\n' if name == "dev/release" else \
-        '[ "$1" = help ] && echo "  rt ci [NAME ..]" && exit\n'
-    return (f'#!/bin/sh\ncase $1 in -*) set -- "$1" ;; esac\n'
+        f'[ "$1" = help ] && echo "  {name} ci [NAME ..]" && exit\n'
+    note = 'set -- "$1" "$(head -n 1 "$2")" "$(cat "$3")"'
+    return (f'#!/bin/sh\ncase $1 in --note) {note} ;; esac\n'
             f'[ "$1" = help ] || echo {name} "$@" >>"$CALLS"\n{condition}'
             f'echo "first line of {name}"\necho "{line}"\nexit {status}\n')
 
@@ -84,22 +93,30 @@ def make_stage(name: str, line: str, status: int) -> str:
 class Gate(Case):
     """A copy of .ci/run, whose stages are scripts that only print what STAGES or a row says."""
 
+    def call_gate(self, folder: str, args: str, changed: str, line: str,
+                  status: int) -> CompletedCall:
+        """Call the gate in a new folder, with a changed stage, last line and status."""
+        for part in (".ci", "bin", "dev", "tools"):
+            os.makedirs(self.path(f"{folder}/{part}"))
+        shutil.copy(GATE, self.path(f"{folder}/.ci/run"))
+        for stage in (*STAGES, changed):
+            text = make_stage(stage, line, status) if stage == changed else \
+                make_stage(stage, STAGES[stage], 0)
+            self.write_program(f"{folder}/{stage if '/' in stage else f'bin/{stage}'}", text)
+        changes = '[ ! -e "$CALLS" ] || echo more' if changed == "tools/sources" else ""
+        self.write_program(f"{folder}/tools/sources", f"#!/bin/sh\necho sum\n{changes}\n")
+        env = {**os.environ, "PATH": f"{self.path(folder)}/bin:{os.environ['PATH']}",
+               "CALLS": self.path(f"{folder}/calls"), "CI": "yes" * (changed == INSTALLER)}
+        return self.call(["bash", self.path(f"{folder}/.ci/run"), *args.split()], env=env)
+
+    def test_takes_no_names_if_rt_ci_takes_none(self) -> None:
+        self.check("status, output, message", self.call_gate("gate", "low", "bin/rt", "", 0), (
+            2, b"", ["run: this toolchain's rt ci takes no names: call .ci/run alone"]))
+
     def test_adds_the_counts_of_its_stages_and_stops_if_one_of_the_first_three_fails(self) -> None:
-        for name, (args, changed, line, status, last, expected_calls) in GATE_CASES.items():
-            folder = name.replace(" ", "-").replace("/", "")
-            for part in (".ci", "bin", "dev", "tools"):
-                os.makedirs(self.path(f"{folder}/{part}"))
-            shutil.copy(GATE, self.path(f"{folder}/.ci/run"))
-            for stage, usual_line in STAGES.items():
-                text = make_stage(stage, line, status) if stage == changed else \
-                    make_stage(stage, usual_line, 0)
-                self.write_program(f"{folder}/{stage if '/' in stage else f'bin/{stage}'}", text)
-            sums = 'ls "$CALLS" 2>&1' if changed == "tools/sources" else "echo sum"
-            self.write_program(f"{folder}/tools/sources", f"#!/bin/sh\n{sums}\n")
-            env = {**os.environ, "PATH": f"{self.path(folder)}/bin:{os.environ['PATH']}",
-                   "CALLS": self.path(f"{folder}/calls")}
-            env.pop("CI", None)
-            process = self.call(["bash", self.path(f"{folder}/.ci/run"), *args.split()], env=env)
+        for name, row in GATE_CASES.items():
+            folder, last, expected_calls = name.replace(" ", "-").replace("/", ""), row[4], row[5]
+            process = self.call_gate(folder, *row[:4])
             self.check(f"{name}: last line", process.out.decode().splitlines()[-1], last)
             self.check(f"{name}: status", process.status, int(not last.endswith(" 0 failed")))
             self.check(f"{name}: calls", self.read(f"{folder}/calls").decode().splitlines(),
@@ -517,31 +534,43 @@ class NewMachines(Case):
     def test_check_program_prints_first_what_it_runs_and_last_what_was_skipped(self) -> None:
         script = import_script("check-program")
         skipped = "skipped: units, since there is no systemd"
-        self.patch_script(script, 0, f"{skipped}\n2 passed, 0 failed\n")
+        self.patch_scripts(script, *(subprocess.CompletedProcess([], 0, printed) for printed in (
+            f"{skipped}\n2 passed, 0 failed\n", "skipped: another\n5 passed, 0 failed\n")))
         for known_package, failed in (("", 0), ("mypy", 0), ("systemd", 1)):
             with contextlib.redirect_stdout(io.StringIO()) as out, \
                     mock.patch.dict(os.environ, {"CI": "yes"}), \
                     mock.patch.object(script, "is_known", known_package.__eq__):
                 status = script.main(["-p", self.bench.program])
             first, *lines = out.getvalue().splitlines()
-            self.must("first line", first.startswith("running 1 scripts, ") and "minutes" in first,
+            self.must("first line", first.startswith("running 2 scripts, ") and "minutes" in first,
                       first)
-            self.check(f"{known_package}: status, last lines", (status, lines[-2:]),
-                       (failed, [skipped, f"3 passed, {failed} failed"]))
+            self.check(f"{known_package}: status, last lines", (
+                status, {*lines[-3:-1]}, lines[-1]), (
+                    failed, {"skipped: another", skipped}, f"8 passed, {failed} failed"))
 
-    def test_check_program_counts_a_script_that_crashes_as_failed(self) -> None:
+    def test_check_program_counts_each_script_without_counts_as_failed(self) -> None:
+        """These scripts crash, do not start, or do not end in time. Another fails one test."""
         script = import_script("check-program")
-        for status in (0, 1, -9):
-            self.patch_script(script, status, "running\n")
-            with contextlib.redirect_stdout(io.StringIO()) as out:
-                self.check("status", script.main(["-p", self.bench.program]), 1)
-            self.check("last line", out.getvalue().splitlines()[-1], "1 passed, 1 failed")
+        self.patch_scripts(script, subprocess.CompletedProcess([], 1, "4 passed, 1 failed\n"), *(
+            subprocess.CompletedProcess([], status, "running\n") for status in (0, 1, -9)),
+            OSError("no file"), subprocess.TimeoutExpired("faults", 1))
+        with contextlib.redirect_stdout(io.StringIO()) as out:
+            self.check("status", script.main(["-p", self.bench.program]), 1)
+        self.check("last line", out.getvalue().splitlines()[-1], "5 passed, 6 failed")
 
-    def patch_script(self, script: Any, status: int, printed: str) -> None:
-        """Let check-program run one script, which prints a text, and count one correct example."""
-        process = subprocess.CompletedProcess([], status, printed)
-        for name, value in {"SCRIPTS": ["check-live"], "run": lambda *_: process,
-                            "compare_examples": lambda _: (1, 0)}.items():
+    def test_check_program_runs_each_script_on_the_program_with_a_time_limit(self) -> None:
+        script = import_script("check-program")
+        with mock.patch.object(subprocess, "run") as run:
+            script.run("faults", "/bin/true")
+        self.check("command", run.call_args.args, ([get_tool_path("faults"), "-p", "/bin/true"],))
+        self.check("time limit", run.call_args.kwargs["timeout"], script.SECONDS)
+
+    def patch_scripts(self, script: Any, *results: object) -> None:
+        """Let check-program run a script for each result or error, and count a correct example."""
+        for name, value in {
+                "SCRIPTS": [*map(str, range(len(results)))],
+                "run": lambda number, _: mock.Mock(side_effect=[results[int(number)]])(),
+                "compare_examples": lambda _: (1, 0)}.items():
             patch = mock.patch.object(script, name, value)
             patch.start()
             self.addCleanup(patch.stop)
