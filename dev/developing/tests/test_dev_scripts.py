@@ -257,12 +257,33 @@ class Measurements(Case):
                                  peak=lambda words: f"{len(words)} MB"), \
                 contextlib.redirect_stdout(io.StringIO()) as out:
             script.main(["-p", "/bin/true", "late", "mixed", "many"])
+            self.check("inputs", sorted(call.args[1:3] for call in make.mock_calls), [
+                ("late", 10000), ("late", 20000), ("many", 2000), ("many", 4000), ("many", 99999),
+                ("service", 500), ("service", 1000)])
+            self.check("sizes of frames", [call.args[2] for call in record.mock_calls],
+                       [script.MIXED] * 2)
+            script.main(["-p", "/bin/true"])
         self.check("output", out.getvalue(), read(os.path.join(VECTORS, "bench-count.txt")))
-        self.check("inputs", sorted(call.args[1:3] for call in make.mock_calls), [
-            ("late", 10000), ("late", 20000), ("many", 2000), ("many", 4000), ("many", 99999),
-            ("service", 500), ("service", 1000)])
-        self.check("sizes of frames", [call.args[2] for call in record.mock_calls],
-                   [script.MIXED] * 2)
+
+    def test_takes_the_number_of_instructions_from_valgrind(self) -> None:
+        script = self.import_from_bench("count")
+        for text, expected in (("==1== Collected : 1234", 1234), ("killed", None)):
+            self.write_program("valgrind", "#!/bin/sh\necho $GLIBC_TUNABLES $* >called\n"
+                                           f"cd {self.folder} && echo '{text}' >&2\n")
+            count = None
+            with mock.patch.dict(os.environ, PATH=f"{self.folder}:{os.environ['PATH']}"), \
+                    contextlib.suppress(SystemExit):
+                count = script.instructions("program", ["check", "a"])
+            self.check(text, count, expected)
+
+    def test_a_recording_has_equally_many_ts_packets_for_each_frame(self) -> None:
+        script, stl, pes, ts = self.import_from_bench("inputs.py"), *map(self.path, ("s", "p", "t"))
+        script.make(self.bench.program, "service", 150, stl, pes)
+        for size, count in (0, 150 * 5), (12, 150 * 12 + 12):  # the first 12 have the tables
+            script.record(pes, ts, size)
+            self.check(f"{size}: packets", os.path.getsize(ts) / 188, count)
+            process = self.program("check", stl, ts, "--pid", "257", "--every", "25")
+            self.check(f"{size}: judged", process, (0, ["accepted 150 frames 6 transmissions"]))
 
     def test_measures_the_processor_time_of_the_program_and_of_the_system_for_it(self) -> None:
         script = self.import_from_bench("run")
@@ -270,14 +291,52 @@ class Measurements(Case):
         with mock.patch.object(os, "wait4", lambda *_: (0, 0, used)):
             self.check("milliseconds", script.milliseconds(["true"]), 1750)
 
+    def test_the_least_time_of_each_command_counts(self) -> None:
+        script = self.import_from_bench("run")
+        with mock.patch.multiple(script, RUNS=2, milliseconds=mock.Mock(side_effect=[5, 1, 3, 2])):
+            self.check("milliseconds", script.least(["a"], ["b"]), [3, 1])
+
+    def test_bench_measures_each_command_on_each_of_its_inputs(self) -> None:
+        script, old = self.import_from_bench("run"), self.write("old", b"")
+
+        def print_call(*words: Any) -> None:
+            print(*words)
+
+        def print_commands(*commands: list[str]) -> list[float]:
+            """Print commands. Return 10 ms for each word, and 5 ms more for the old program."""
+            print(*(" ".join(words) for words in commands), sep="\n")
+            return [10 * len(words) + 5 * (words[0] == old) for words in commands]
+
+        with mock.patch.multiple(script, FRAMES=500, STREAM=50, PAIRS=5, COUNTS={"many": 9},
+                                 make=print_call, record=print_call, least=print_commands,
+                                 milliseconds=lambda words: 8 * print_commands(words)[0],
+                                 peak=lambda _: "7 MB", find_built_program=lambda: "program"), \
+                mock.patch.multiple(os, sched_setaffinity=mock.Mock()), \
+                mock.patch.object(subprocess, "run"), \
+                mock.patch.object(shutil, "which", lambda _: None), \
+                mock.patch.object(os.path, "getsize", lambda _: 1_000_000), \
+                contextlib.redirect_stdout(io.StringIO()) as out:
+            for words in [self.folder], [old, self.folder]:
+                script.main(words)
+        text = out.getvalue() + self.read("list").decode()
+        for path, name in ((script.TOOLS, "tools"), (TOP, "TOP"), (self.folder, "FOLDER"),
+                           (sys.executable, "python3")):
+            text = text.replace(path, name)
+        self.check("printed", text, read(os.path.join(VECTORS, "bench-run.txt")))
+
     def test_bench_measures_no_command_that_failed(self) -> None:
         script = self.import_from_bench("run")
+        logger = self.write_program("log", '#!/bin/sh\necho "1\n2" >$2\nshift 2\nexec "$@"\n')
         for command, is_measured in (("exit 0", True), ("exit 1", True), ("exit 2", False),
                                      ("kill -9 $$", False)):
             time = 0.0
             with contextlib.suppress(SystemExit):
                 time = script.milliseconds(["sh", "-c", command])
             self.check(command, time > 0, is_measured)
+            lines = []
+            with contextlib.suppress(SystemExit):
+                lines = sys.modules["memory"].lines_of_log([logger], ["sh", "-c", command])
+            self.check(f"{command}: lines of its log", len(lines), 2 * is_measured)
 
     def test_bench_prints_megabytes_a_second_and_the_ratio_to_cat(self) -> None:
         script = self.import_from_bench("run")
