@@ -267,14 +267,10 @@ class Measurements(Case):
 
     def test_takes_the_number_of_instructions_from_valgrind(self) -> None:
         script = self.import_from_bench("count")
-        for text, expected in (("==1== Collected : 1234", 1234), ("killed", None)):
-            self.write_program("valgrind", "#!/bin/sh\necho $GLIBC_TUNABLES $* >called\n"
-                                           f"cd {self.folder} && echo '{text}' >&2\n")
-            count = None
-            with mock.patch.dict(os.environ, PATH=f"{self.folder}:{os.environ['PATH']}"), \
-                    contextlib.suppress(SystemExit):
-                count = script.instructions("program", ["check", "a"])
-            self.check(text, count, expected)
+        self.write_program("valgrind", "#!/bin/sh\necho ==1== $4 : 1234 >&2\n")
+        with mock.patch.dict(os.environ, PATH=f"{self.folder}:{os.environ['PATH']}"):
+            self.check("number", script.instructions("program", ["Collected"]), 1234)
+            self.assertRaises(SystemExit, script.instructions, "program", ["killed"])
 
     def test_a_recording_has_equally_many_ts_packets_for_each_frame(self) -> None:
         script, stl, pes, ts = self.import_from_bench("inputs.py"), *map(self.path, ("s", "p", "t"))
@@ -299,19 +295,16 @@ class Measurements(Case):
     def test_bench_measures_each_command_on_each_of_its_inputs(self) -> None:
         script, old = self.import_from_bench("run"), self.write("old", b"")
 
-        def print_call(*words: Any) -> None:
-            print(*words)
-
         def print_commands(*commands: list[str]) -> list[float]:
             """Print commands. Return 10 ms for each word, and 5 ms more for the old program."""
             print(*(" ".join(words) for words in commands), sep="\n")
             return [10 * len(words) + 5 * (words[0] == old) for words in commands]
 
         with mock.patch.multiple(script, FRAMES=500, STREAM=50, PAIRS=5, COUNTS={"many": 9},
-                                 make=print_call, record=print_call, least=print_commands,
+                                 make=print, record=print, least=print_commands,
                                  milliseconds=lambda words: 8 * print_commands(words)[0],
                                  peak=lambda _: "7 MB", find_built_program=lambda: "program"), \
-                mock.patch.multiple(os, sched_setaffinity=mock.Mock()), \
+                mock.patch.object(os, "sched_setaffinity"), \
                 mock.patch.object(subprocess, "run"), \
                 mock.patch.object(shutil, "which", lambda _: None), \
                 mock.patch.object(os.path, "getsize", lambda _: 1_000_000), \
@@ -326,17 +319,16 @@ class Measurements(Case):
 
     def test_bench_measures_no_command_that_failed(self) -> None:
         script = self.import_from_bench("run")
-        logger = self.write_program("log", '#!/bin/sh\necho "1\n2" >$2\nshift 2\nexec "$@"\n')
+        logger = self.write_program("log", '#!/bin/sh\n: >$2\nshift 2\nexec "$@"\n')
         for command, is_measured in (("exit 0", True), ("exit 1", True), ("exit 2", False),
                                      ("kill -9 $$", False)):
             time = 0.0
             with contextlib.suppress(SystemExit):
                 time = script.milliseconds(["sh", "-c", command])
             self.check(command, time > 0, is_measured)
-            lines = []
             with contextlib.suppress(SystemExit):
-                lines = sys.modules["memory"].lines_of_log([logger], ["sh", "-c", command])
-            self.check(f"{command}: lines of its log", len(lines), 2 * is_measured)
+                sys.modules["memory"].lines_of_log([logger], ["sh", "-c", command])
+                self.must(f"{command}: its log is read", is_measured)
 
     def test_bench_prints_megabytes_a_second_and_the_ratio_to_cat(self) -> None:
         script = self.import_from_bench("run")
