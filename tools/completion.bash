@@ -21,9 +21,9 @@ _subttx_value() {
         --receiver) _subttx_words 'blank keep drop anew' "$2" ;;
         --packet-size) _subttx_words '188 192 204' "$2" ;;
         --at | --breaks | --every | --every-seconds | --flip | --free | --from | --jobs | \
-            --late | --layout | --length | --limit | --line | --lose | --margin | --on-result | \
-            --origin | --pace | --page | --pause | --pes | --pid | --reference-start | \
-            --settled | --skip | --start | --to | --within)
+            --late | --layout | --length | --limit | --line | --lose | --margin | --max-age | \
+            --on-result | --origin | --pace | --page | --pause | --pes | --pid | \
+            --reference-start | --settled | --skip | --start | --to | --within)
             COMPREPLY=()
             ;;
 # end

@@ -277,8 +277,8 @@ def make_pages() -> dict[str, str]:
              QC_PAGE: make_tool_parts(help_texts["qc"]),
              AIR_PAGE: make_air_parts(help_texts["air"], command_helps),
              READ_PAGE: make_tool_parts(help_texts["read"], "read"),
-             COMPLETION: make_completion_parts(usage, table,
-                                               [*help_texts.values(), *command_helps.values()])}
+             COMPLETION: make_completion_parts(usage, table, [
+                 *help_texts.values(), *command_helps.values(), run_help("air", "status")])}
     numbers = text(NUMBERS)
     for row, counted in correct_number_rows(TOP):
         numbers = numbers.replace(row, counted)
