@@ -17,6 +17,7 @@ from urllib.parse import unquote
 from subtitles.common.program import (
     PAGES, TOP, find_program, list_documents, read, remove_dead_links)
 from ..compiled import make_plain_environment
+from ..debian import find_maintainer
 from ..proved import find_crates_without_line, parse_proved
 from .bench import Case, CompletedCall, SECONDS, get_example_path, get_tool_path, read_example_file
 from .programmes import wait_until
@@ -185,11 +186,6 @@ class Installation(Case):
             options = set(re.findall(r"--[\w-]+", words))
             self.check(f"missing options of {name}",
                        options - complete_words("subttx", name, "-"), set())
-        self.check("values", complete_words("subttx", "check", "--option", "g"), {"german"})
-        self.check("a part of a command", complete_words("subttx", "packet"), {"packet", "packets"})
-        self.check("commands of air", complete_words("subttx-air", ""),
-                   {"record", "judge", "status", "--help", "--version"})
-        self.check("air judge", complete_words(get_tool_path("air"), "judge", "--ma"), {"--margin"})
         words = complete_words(get_tool_path("qc"), "-")
         self.must("qc", {"--batch", "--allow-lost", "--severity", "-o"} <= words, words)
 
@@ -216,6 +212,11 @@ class Installation(Case):
         for name, sums in (folder, "SHA256SUMS"), (self.folder, f"{path}.sha256"):
             process = self.call(["sha256sum", "--quiet", "-c", sums], folder=name)
             self.check(f"checksums in {sums}", process, (0, b"", []))
+        version = read(os.path.join(TOP, "VERSION")) or ""
+        self.check("name, version, contents", (os.path.basename(path), read(f"{folder}/VERSION"), {
+            *os.listdir(folder)}), (
+                f"subttx-{version.strip()}-{os.uname().machine}-linux.tar.gz", version,
+                {"PROVED", "SHA256SUMS", "VERSION", "bin", "lib", "share"}))
         names = re.findall(r"  (.+)", read(os.path.join(folder, "SHA256SUMS")) or "")
         paths = {os.path.join(place, name) for place, _, files in os.walk(folder) for name in files}
         self.check("files in the archive without a sum", {
@@ -239,15 +240,20 @@ class Installation(Case):
         again = self.tool("dist", "--deb")
         self.must("the same bytes again", (process.status, again.status) == (0, 0)
                   and self.read(path) == before, again)
-        process = self.call(["dpkg-deb", "-f", path, "Version", "Depends"])
-        self.check("version, dependencies", process.out.decode().splitlines(), [
-            f"Version: {(read(os.path.join(TOP, 'VERSION')) or '').strip()}",
-            "Depends: libc6 (>= 2.34), python3 (>= 3.9)"])
         self.check("unpacked", self.call(["dpkg-deb", "-x", path, "empty"]).status, 0)
         folder = self.path("empty/usr/share/doc/subttx")
         self.must("manual", os.path.isfile(os.path.join(folder, "docs", "manual", "qc.md")))
         self.check("proof", read(os.path.join(folder, "PROVED")), read(proved))
         self.call(["dpkg-deb", "-e", path, "control"])
+        self.check("checksums", self.call(["md5sum", "--quiet", "-c", self.path("control/md5sums")],
+                                          folder="empty"), (0, b"", []))
+        size = sum(os.path.getsize(self.path(f"empty/{name}")) for name in re.findall(
+            r"  (.+)", self.read("control/md5sums").decode())) // 1024 + 1
+        expected = read(os.path.join(TOP, "dev", "vectors", "debian-package.txt")) or ""
+        expected = expected.replace("MAINTAINER", find_maintainer()).replace("SIZE", f"{size}")
+        self.check("control file, scripts", "".join(self.read(f"control/{name}").decode()
+                   for name in ("control", "postinst", "prerm", "postrm")), expected.replace(
+                       "VERSION", (read(os.path.join(TOP, "VERSION")) or "").strip()))
         shared = "/usr/lib/subttx/tools/subtitles"
         # The scripts must not change users and services of this machine.
         os.mkdir(self.path("harmless"))

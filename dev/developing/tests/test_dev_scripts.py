@@ -474,7 +474,6 @@ class FailedChecks(Case):
         self.check("first line", first, f"running 1 test, 3 at a time, of {self.bench.program}")
         self.check("last line", last, f"{len(COUNT_CASES)} passed, 0 failed")
 
-
     def test_pytest_uses_the_program_in_subttx_and_lists_each_skipped_test_once(self) -> None:
         script, bench = import_script("conftest.py"), Bench()
         with mock.patch.dict(os.environ, {"SUBTTX": "/bin/true"}), \
@@ -655,6 +654,18 @@ class ReleasedArchives(Case):
             self.write("PROVED", format_proved(
                 ProvedProgram(None, None, None, CRATE_LINES)).encode())
             self.check("all crates", dist.find_proved_program()[0], program)
+
+
+class ProverJobs(Case):
+    def test_processors_memory_and_the_quota_of_the_control_group_limit_the_jobs(self) -> None:
+        script = import_script("prove")
+        for memory, quota, jobs in ((99, "max 1", 8), (99, "500 100", 5), (9, "400 50", 3),
+                                    (1, "", 1)):
+            words = {"/proc/meminfo": ["MemAvailable:", f"{memory << 20}", "kB"],
+                     "/sys/fs/cgroup/cpu.max": quota.split()}
+            with mock.patch.object(script, "read_words", words.get), \
+                    mock.patch.object(os, "sched_getaffinity", lambda _: range(8)):
+                self.check(f"{memory} GiB, {quota}", script.compute_job_limit(), jobs)
 
 
 class SmallRepository(Case):
