@@ -681,7 +681,7 @@ class SmallRepository(Case):
 
     def test_scripts_print_the_stored_output(self) -> None:
         self.write_files()
-        for name in ("tools", "dev"):
+        for name in ("tools", "dev", "bench"):
             shutil.copytree(os.path.join(TOP, name), self.path(name), ignore=list_omitted_names)
         share_compiled(self.path("tools"))
         for name in ("VERSION", "HANDLES"):
