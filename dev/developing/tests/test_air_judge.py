@@ -129,7 +129,7 @@ class JudgedProgrammes(AirCase):
             self.run_judge(FakeChecker(NEVER_SENT), since=LAST, until=1500)
         self.check("not `not recorded`", self.result(NAME)["reason"], "no cue agrees")
 
-    def test_judges_a_programme_at_most_five_times(self) -> None:
+    def test_tries_four_times_to_judge_a_programme_that_is_never_sent(self) -> None:
         checker = FakeChecker(NEVER_SENT)
         self.run_judge(checker, until=1500)
         # 10, 20, 40 and 70 seconds after the scheduled end; then the margin is over
@@ -237,7 +237,7 @@ class JudgedProgrammes(AirCase):
             self.run_judge(FakeChecker(ON_TIME, lambda _: refusal), until=1500)
             self.check(name, (self.verdicts(), self.now), ({NAME: "refused"}, LAST + 10))
 
-    def test_gives_up_a_programme_after_an_hour_of_later_feed(self) -> None:
+    def test_a_programme_that_was_not_recorded_waits_for_an_hour_of_later_feed(self) -> None:
         self.delete_all("segments")
         with mock.patch.object(judging, "MIN_RECORDED_LATER", 3600.0):
             judge = self.run_judge(FakeChecker(NEVER_SENT), until=9000)
