@@ -106,7 +106,7 @@ class Lines(AirCase):
         self.write_schedule("2026-12-01T08:00:00Z a.stl --profile profile")
         self.check("within", self.read_schedule().programmes[0].request.within, 3)
 
-    def test_does_not_read_an_unchanged_schedule_again(self) -> None:
+    def test_does_not_parse_an_unchanged_schedule_again(self) -> None:
         self.write_schedule("2026-12-01T08:00:00Z a.stl")
         first = self.read_schedule()
         self.must("the same", self.read_schedule(first) is first)
