@@ -118,7 +118,7 @@ class Checks(Feeds):
             status, _ = check.run_forked(sleep_and_return_7, 60, lambda: calls.append(1))
         self.must("status, reports", status == 7 and len(calls) > 3, (status, calls))
 
-    def test_copies_nothing_to_a_full_disk(self) -> None:
+    def test_a_disk_without_room_for_the_recording_gives_no_result(self) -> None:
         with mock.patch.object(check, "SPARE_BYTES", 1 << 60):
             outcome = self.check_frames(self.make_feed())
         self.must("outcome", outcome.result is None and outcome.reason.startswith("no room"),
