@@ -31,7 +31,7 @@ PAGE, OTHER_PAGE = (0, 0x88), (0, 0x89)
 ON_TIME = {NAME: SentProgramme(BEGIN, END)}
 NEVER_SENT: dict[str, SentProgramme] = {}
 # Lines of a schedule, each with its time in seconds after DAY, a subtitle file and options; and for
-# each line, how many seconds before and after its time an airing counts for it
+# each line, earliest first, how many seconds before and after its time an airing counts for it
 MARGINS = {
     "far apart": (["0 one", "120 one"], [(60, 60), (60, 60)]),
     "other subtitles": (["0 one", "30 two"], [(60, 60), (60, 60)]),
@@ -45,8 +45,9 @@ MARGINS = {
 
 HOUR, LAST = 3600, END + MARGIN_SECONDS  # an hour, and the end of a programme's window
 # For a programme that waits: later segments as begin and end in seconds after its window, the time
-# before which all segments are deleted, the time that the clock shows for an hour, and whether the
-# programme is given up. It may begin until BEGIN + MARGIN_SECONDS.
+# before which all segments are deleted, the earliest time that the clock has shown for an hour, and
+# whether the programme is given up. It may begin until BEGIN + MARGIN_SECONDS. It is also given up
+# when an hour of feed is recorded later than 47 hours after its window.
 GIVEN_UP_CASES: dict[str, tuple[list[tuple[int, int]], float, float, bool]] = {
     "no later feed": ([], 0, 0, False),
     "the latest begin is not deleted": ([], BEGIN + MARGIN_SECONDS, 0, False),
@@ -59,7 +60,7 @@ GIVEN_UP_CASES: dict[str, tuple[list[tuple[int, int]], float, float, bool]] = {
     "the clock shows 48 hours later": ([], 0, LAST + 48 * HOUR, False),
     "the clock shows more than that": ([], 0, LAST + 48 * HOUR + 1, True)}
 
-# What the JSON result of a refused file has instead of a recording or faults
+# Two kinds of refusals that a corrected subtitle file may change, and what their JSON results have
 FILE_FAULTS: dict[str, dict[str, object]] = {
     "its recording was not read": {"inputs": {"recording": None}},
     "its recording was judged": {"faults": [{"file": "stl", "severity": "error"}]}}
@@ -132,7 +133,7 @@ class JudgedProgrammes(AirCase):
     def test_tries_four_times_to_judge_a_programme_that_is_never_sent(self) -> None:
         checker = FakeChecker(NEVER_SENT)
         self.run_judge(checker, until=1500)
-        # 10, 20, 40 and 70 seconds after the scheduled end; then the margin is over
+        # 10, 20 and 40 seconds after the scheduled end, and 10 seconds after its window
         self.check("calls", checker.calls, [NAME] * 4)
 
     def test_retries_after_system_failures(self) -> None:
@@ -174,6 +175,7 @@ class JudgedProgrammes(AirCase):
 
     def test_expects_headers_of_a_page_from_the_latest_begin_to_the_end_of_the_window(self) -> None:
         judge, begin = self.make_judge(FakeChecker(NEVER_SENT)), BEGIN + MARGIN_SECONDS
+        # `look` reports a moment after the time that it gets: at LAST, the window is over.
         for now, pages in ((begin - 1, []), (begin, [PAGE]), (LAST - 1, [PAGE]), (LAST, [])):
             judge.look(DAY + now)
             self.check(f"pages on air at {now}", [*judge.monitor.pages_on_air], pages)
@@ -185,6 +187,7 @@ class JudgedProgrammes(AirCase):
             self.run_judge(FakeChecker(NEVER_SENT), since=3900, until=4000)
         names = {os.path.basename(call.args[0]) for call in stat.call_args_list}
         count = len([name for name in names if parse_segment_begin(name)])
+        # Without a length, the programme is searched for from 540 to 660.
         self.must("the 12 of the window, and a few more", 12 <= count < 20, count)
 
     def test_judges_a_programme_once_its_file_is_complete_for_a_minute(self) -> None:
@@ -199,6 +202,7 @@ class JudgedProgrammes(AirCase):
         os.utime(self.path("one.stl"), (DAY + 2000, DAY + 2000))
         self.run_judge(checker, since=2000, until=3000)
         self.check("complete", self.verdicts(), {NAME: "relative"})
+        # It is tried once a minute, and the file must be unchanged for a minute.
         self.must("when", 2060 <= self.now <= 2120, self.now)
 
     def test_judges_a_file_again_that_is_changed_meanwhile(self) -> None:
@@ -217,7 +221,8 @@ class JudgedProgrammes(AirCase):
         self.check("then", self.verdicts(), {NAME: "relative"})
 
     def make_refusal(self, name: str) -> Outcome:
-        """Put a feed with a gap after the programme. Return a refusal because of a file's fault."""
+        """Put a feed with a gap after the programme, which must not matter. Return a refusal
+        because of a fault of the subtitle file."""
         self.delete_all("segments", "out")
         self.put_segments(0, 670)
         self.put_segments(680, 900)
@@ -242,7 +247,7 @@ class JudgedProgrammes(AirCase):
         with mock.patch.object(judging, "MIN_RECORDED_LATER", 3600.0):
             judge = self.run_judge(FakeChecker(NEVER_SENT), until=9000)
             self.check("without segments", (self.verdicts(), judge.monitor.late), ({}, [NAME]))
-            self.put_segment(730, 740, is_new=True)
+            self.put_segment(730, 740, is_new=True)  # the recorder began, and deleted nothing
             self.put_segments(740, LAST + HOUR)
             self.run_judge(FakeChecker(NEVER_SENT), until=9000)
             self.check("after an hour less ten seconds", self.verdicts(), {})
@@ -338,7 +343,8 @@ class JudgedProgrammes(AirCase):
         verdict of one.stl depends on whether two.stl, which is missing, has the same subtitles."""
         self.write_schedule("2026-12-01T08:10:00Z one.stl", "2026-12-01T08:10:50Z two.stl")
         one, two = self.read("one.stl"), self.read("two.stl")
-        # Content of two.stl, and the verdict of one.stl while two.stl is missing, and after that
+        # Content of two.stl, the verdict on one.stl that is not published while two.stl is missing
+        # (from a checker whose margin ends before 640), and the verdict that is published then
         for name, data, early, late in (
                 ("the same subtitles", one, "not judged", "not judged"),
                 ("others", two, "not judged", "relative"),
@@ -500,7 +506,8 @@ ALARM_CASES: dict[str, tuple[dict[str, Any], list[str], list[str]]] = {
                                 ["schedule"])}
 
 # A segment's begin and last write, in seconds after DAY; and at the time 60, whether the clock is
-# wrong, and the time of the last byte. Five correct segments, from 0 to 50, are also there.
+# wrong, and the time of the last byte. Five correct segments, from 0 to 50, are also there. The
+# latest three names, and the latest three that are not in the future, are compared.
 CLOCK_CASES = {
     "right": (50, 60, (False, 60)),
     "a name an hour ahead": (3650, 60, (True, 60)),
@@ -520,7 +527,7 @@ CLOCK_STEPS = {
     "the TDT is another time": (3600, [-300], False)}
 
 # Seconds by which the clock differs from the TDT before and after each jump, and at last; and
-# whether the clock is wrong hours later
+# whether the clock is wrong hours later. It agrees if it differs by at most 30 seconds.
 JUMP_CASES: dict[str, tuple[list[tuple[float, float]], float, bool]] = {
     "no jump": ([], 600, False),
     "the TDT is still right": ([(0, -300)], -300, True),
