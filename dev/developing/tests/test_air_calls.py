@@ -68,7 +68,7 @@ class Checks(Feeds):
     def test_names_three_gaps_and_counts_the_others(self) -> None:
         for gaps, text in (("a", "a"), ("abc", "a, b, c"), ("abcd", "a, b, c and 1 more"),
                            ("abcdef", "a, b, c and 3 more")):
-            outcome = decide("one", [], gaps, has_passed=True)
+            outcome = decide("one", [], gaps, has_passed=True)  # each letter is the text of a gap
             self.check(gaps, outcome and outcome.reason, f"not recorded: {text}")
 
     def test_each_recording_gets_its_verdict(self) -> None:
@@ -101,13 +101,13 @@ class Checks(Feeds):
 
     def test_a_refusal_because_of_an_invalid_subtitle_file_is_not_final(self) -> None:
         frames = self.make_feed()
-        write_subtitle_file(self, [(100, 100, b"Never")])
+        write_subtitle_file(self, [(100, 100, b"Never")])  # it ends when it begins
         result = self.check_frames(frames[:50])
         self.check("verdict, is_final", (result.verdict, result.is_final), ("refused", False))
 
     def test_stops_a_check_that_takes_too_long(self) -> None:
         program = self.make_program_with_exception("check*", "sleep 60")
-        with mock.patch.object(check, "MIN_SECONDS", 0.1):
+        with mock.patch.object(check, "MIN_SECONDS", 0.1):  # plus a second for each 2 MB
             outcome = self.check_frames(self.make_feed(), program=program)
         self.must("outcome", outcome.result is None and "not judged within" in outcome.reason,
                   outcome)
@@ -119,7 +119,7 @@ class Checks(Feeds):
         self.must("status, reports", status == 7 and len(calls) > 3, (status, calls))
 
     def test_a_disk_without_room_for_the_recording_gives_no_result(self) -> None:
-        with mock.patch.object(check, "SPARE_BYTES", 1 << 60):
+        with mock.patch.object(check, "SPARE_BYTES", 1 << 60):  # bytes that must stay free
             outcome = self.check_frames(self.make_feed())
         self.must("outcome", outcome.result is None and outcome.reason.startswith("no room"),
                   outcome)
@@ -183,6 +183,7 @@ class Calls(Feeds):
             self.write(f"out/{name}", b"")
         self.judge_recorded_feed(is_wrong=False)
         endings = [os.path.splitext(name)[1] for name in os.listdir(self.path("out"))]
+        # There is no state.json, since `setUp` replaces `write_state`.
         self.check("endings", sorted(endings), [".html", ".json", ".subttx-b", ".txt", ".work-b"])
 
     def test_writes_one_result_although_the_judge_is_killed(self) -> None:
