@@ -50,7 +50,10 @@ RUN_CASES = {
 }
 
 # A feed of `make_feeds`; in its TS packets, where the second last segment ends and the last begins;
-# the times of all segments, in the notation above; and the intervals without losses
+# the times of all segments, in the notation above; and the intervals without losses. A pause of
+# more than 60 seconds is a loss. So is a ! or a pause of more than 5 seconds, unless counters and
+# PCR show that the feed goes on. If only the TS packets show a loss, by a long PCR step or (without
+# PCR) by most counters, the segment before it is left out.
 JOINT_CASES = """
 case                                | feed           | end   | begin | segments         | runs
 it goes on                          | without PCR    | 900.5 | 900.5 | 0-10 10-20       | 0-20
@@ -274,7 +277,8 @@ class Recorded(AirCase):
         item = self.make_recorder(kept=10_000)
         for number, at in enumerate((0, 5, -5, -3, 3600, 3605, 20, 30)):
             self.take(item, at, b"%d" % number)
-        # The clock is set back to 20. When the next segment begins, that from 3600 is deleted.
+        # The clock is set back to -5: the next segment is named 0.001, so that it comes last. It is
+        # set back to 20: when the next segment begins, that from 3600 is deleted.
         self.check("by the clock", self.read_segments(), [
             (0.0, b"01"), (0.001, b"23"), (20.0, b"6"), (30.0, b"7")])
         self.check("a large step back is a loss", self.are_new(), [True, False, True, False])
@@ -305,6 +309,7 @@ class Recorded(AirCase):
             self.check("two for a new one", self.list_begins()[0], -180)
             for at in range(10, 200, 10):
                 self.take(item, at)
+        # When a segment begins, five blocks are free, of which it takes one.
         self.check("begins", self.list_begins(), [*range(90, 200, 10)])
 
     def test_marks_a_loss_after_a_full_disk(self) -> None:
@@ -326,7 +331,7 @@ class Recorded(AirCase):
                 for size, data in ((5, b"lost"), (99, b"more")):
                     room[0] = size
                     item.take(data)
-                    self.check(f"note, {size} bytes", self.has_note(), True)
+                    self.check(f"note, {size} bytes", self.has_note(), True)  # for a minute
             self.check("what was written stays", self.read_segments()[0], (0.0, b"abcdl"))
             self.must("message", self.printed[-1].endswith(" has no room: 3 bytes are lost"),
                       self.printed)
@@ -341,6 +346,7 @@ class Recorded(AirCase):
                 raise OSError(errno.EDQUOT, "full")
             return real(file, data)
 
+        # Two segments are deleted at once, and then one a minute.
         for free in (0, 1 << 60):  # a quota, and a disk with snapshots
             self.delete_all("segments")
             self.put_segments(-1000, 0)
@@ -360,7 +366,8 @@ class Recorded(AirCase):
     def test_notes_a_disk_on_which_deleting_does_not_help_for_a_minute(self) -> None:
         item, room = self.make_recorder(free=10), [20]
         with mock.patch.object(os, "statvfs", lambda _: mock.Mock(f_bavail=room[0], f_frsize=1)):
-            # The time, the free bytes, and whether there is a note
+            # The time, the free bytes (10 are required), and whether there is a note, which is
+            # written or deleted only when a segment begins
             for at, free, expected in ((0, 20, False), (10, 9, False), (60, 9, False),
                                        (65, 9, False), (75, 9, True), (76, 10, True),
                                        (85, 9, False), (136, 9, False), (146, 9, True),
@@ -380,7 +387,7 @@ class Recorded(AirCase):
     def test_deletes_segments_from_the_future_an_hour_after_its_start(self) -> None:
         self.put_segments(9000, 9030)  # written by a recorder that was killed while ahead
         item = self.make_recorder(kept=10_000)
-        # The time, and the number of segments from the future
+        # The time, and the number of segments from the future: each new one deletes at most two
         for at, count in ((0, 3), (3600, 3), (3610, 1), (3620, 0)):
             self.take(item, at)
             self.check(f"at {at}", sum(begin >= 9000 for begin in self.list_begins()), count)
