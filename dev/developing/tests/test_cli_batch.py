@@ -389,8 +389,8 @@ class ForkedPairs(Case):
         self.must("the process of the deaf one is gone", wait_until(
             lambda: not os.path.exists(f"/proc/{int(self.read('process'))}/fd/0")))
 
-    def test_kills_a_pair_ten_seconds_after_it_was_stopped(self) -> None:
-        """The limit is 60 seconds. Another process uses none, and is never stopped."""
+    def test_stops_a_pair_at_its_limit_and_kills_it_ten_cpu_seconds_later(self) -> None:
+        """The limit is 60 seconds of CPU time. Another process uses none, and is never stopped."""
         for seconds, methods in ((59.9, []), (60, ["stop"]), (69.9, ["stop"]), (70, ["kill"])):
             calls = [mock.Mock(**{"cpu_seconds.return_value": used}) for used in (seconds, 0)]
             running = {call: mock.Mock(limit=60) for call in calls}

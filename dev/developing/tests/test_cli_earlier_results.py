@@ -412,7 +412,7 @@ class WatchedFolders(Case):
         lines = self.run_watch(9, lambda _, item: make_table_row(item.name, "accepted"), change)
         self.check("judged", lines, ["a  accepted"] * 2)
 
-    def test_reports_each_reason_of_an_incomplete_pair_once(self) -> None:
+    def test_reports_the_reason_of_an_incomplete_pair_when_it_changes(self) -> None:
         watch = FolderWatch(self.path("in"), 0)
         with capture_output() as (_, errors):
             for reason in (*["first"] * 3, *["second"] * 3, *["first"] * 3):

@@ -382,7 +382,7 @@ class StoppedCalls(Case):
         self.must("the CSV file is UTF-8", self.read("all.csv").decode())
         self.check("JUnit cases", len(tree.fromstring(self.read("all.xml"))[0]), count)
 
-    def test_an_interrupted_pair_has_no_result(self) -> None:
+    def test_a_pair_has_a_result_only_if_its_verdict_precedes_the_signal(self) -> None:
         """With --watch. The signal arrives during the check, or after the verdict was printed."""
         os.mkdir(self.path("in"))
         for name in ("one.stl", "one.pes"):

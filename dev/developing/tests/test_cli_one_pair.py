@@ -355,7 +355,7 @@ class OutputFilesOfPair(Case):
             self.must(f"{kind}: reason", "wrong" in files.verdict.failed_outputs[0].reason)
         self.must("reason in the file", "wrong" in json.loads(self.read("is_json.json"))["reason"])
 
-    def test_writes_the_first_hundred_faults_of_all_parts(self) -> None:
+    def test_writes_the_first_hundred_lines_of_the_lists_of_all_parts(self) -> None:
         faults = [f"refused 68 Parity frame 00:00:01:00 packet {at}" for at in range(70)]
         verdict = self.verdict([*faults, "70 faults"])
         verdict.parts += [make_part(0, 9, 0), self.part(2, [*faults, "70 faults"])]
