@@ -424,7 +424,8 @@ class ForkedPairs(Case):
                       in rows["dies"].line, rows)
 
     def test_a_forked_call_has_its_own_session_and_signals(self) -> None:
-        """Standard files are /dev/null, others are closed. Only ignored signals stay ignored."""
+        """Standard input and output are /dev/null. Files that are open here are closed in it. Only
+        ignored signals stay ignored."""
         opened = open(self.write("opened", b""), "rb")
         self.addCleanup(opened.close)
 

@@ -107,7 +107,7 @@ class StoredResults(Case):
     """JSON results that qc reads back."""
 
     def test_refuses_a_result_with_too_many_values_before_it_is_loaded(self) -> None:
-        """`json.loads` would raise the error "loaded". Keys, lists and objects count as values."""
+        """`json.loads` would raise the error "loaded". Commas, [ and { are counted as values."""
         too_many = "has more than 2,000,000 values"
         for data, reason in ((b"0," * MAX_VALUES, too_many), (b"[]," * (MAX_VALUES // 2), too_many),
                              (b"{}," * (MAX_VALUES // 2), too_many),

@@ -125,7 +125,7 @@ class Testcases(unittest.TestCase):
                              "time": f"{count * half_a_second:.3f}"})
 
     def test_a_test_case_has_name_time_and_first_lines(self) -> None:
-        """The last lines of the pair are "a\\ufffe\\nline", "one" and "two"."""
+        """The worst fault is "a\\ufffe\\nline". The fault list begins with "one" and "two"."""
         for (verdict, status), tag in self.CONTENTS.items():
             suite = ElementTree.fromstring(make_junit_file([TestCase(
                 "a\x1bb", verdict, status, "a\ufffe\nline", ["one", "two"], 1.25)],
