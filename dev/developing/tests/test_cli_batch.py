@@ -123,6 +123,7 @@ class Lists(Case):
             inputs.refuse(self.path("none"), True)
             self.check("a new file", identified.call_count, 1)
             inputs.refuse(self.write("list", b""), True)
+            # It was called for each of the two outputs, and once for each input.
             self.check("an existing file", identified.call_count, 2 + len(names))
 
     def test_finds_the_subtitle_files_of_a_folder(self) -> None:
@@ -156,6 +157,7 @@ class Lists(Case):
             b"<system-out>")[2])
 
     def test_pairs_the_files_of_a_folder_by_name(self) -> None:
+        """Case matters only if several files of a kind have the same name without it."""
         for name in ("B.STL", "b.TS", "c.stl", "c.ts", "c.pes", "d.m2t", "e.stl", "e.txt", "F.pes",
                      "f.stl", "f.trp", "G.stl", "g.MTS", "g.stl", "h\x1b.m2ts", "h\x1b.stl"):
             self.write(f"folder/{name}", b"")
@@ -221,6 +223,7 @@ class CompleteBatches(Case):
 
     def test_ends_with_the_worst_status_and_keeps_the_order_of_the_list(self) -> None:
         names = ["one", "two", "three"]
+        # The worst status is 2, then 1, then 3.
         for verdicts, status in (("accepted, accepted, waived", 0), ("lost, accepted, accepted", 1),
                                  ("accepted, relative, waived", 3),
                                  ("accepted, relative, refused", 1),
@@ -255,6 +258,7 @@ class CompleteBatches(Case):
                 self.check(f"--resume {is_resumed}: kept rows", self.seen[2], kept)
 
     def test_judges_nothing_with_wrong_options(self) -> None:
+        # --resume without -o, a missing folder, and outputs that are inputs
         options: list[dict[str, Any]] = [
             {"is_resumed": True}, {"csv": self.path("none/x")}, {"csv": self.path("list")},
             {"junit": self.path("three.stl")}, {"json": self.path("one.ts")}]
@@ -535,11 +539,12 @@ class ForkedPairs(Case):
     def test_prints_verdict_counts_and_the_remaining_time(self) -> None:
         rows = {word: make_table_row(word, word) for word in STATUSES
                 if word not in (VALID, WAIVED, RELATIVE)}
+        # `lost` and `warned` are counted as refused.
         self.check("5 of 9, all of an earlier call", format_progress(rows, 9, 5, 0.0),
                    "5 of 9 pairs: 1 accepted, 3 refused, 1 not judged")
         rows |= {word: make_table_row(word, word) for word in (VALID, WAIVED, RELATIVE)}
         with mock.patch.object(time, "monotonic", return_value=110.0):
             line = format_progress(rows, 9, 4, 100.0)
-        self.check("8 of 9, 4 of them in the last 10 seconds", line,
+        self.check("8 of 9, 4 of them in the last 10 seconds (2.5 for each)", line,
                    "8 of 9 pairs: 1 accepted, 1 valid, 1 waived, 1 relative, 3 refused, 1 not "
                    "judged; 2 seconds left")
