@@ -205,6 +205,7 @@ class StoredResults(Case):
                    "the process was killed")
 
     def test_replaces_only_results_tables_and_empty_files(self) -> None:
+        # A file's contents, how a result or table begins, and whether that may replace the file
         for data, begin, expected in (
                 (b"{", b"{", True), (b"", b"{", True), (b"GSI", b"{", False),
                 (b" {", b"{", False), (b'{"a', b"{", True),
@@ -279,7 +280,7 @@ class WatchedFolders(Case):
         self.must("printed", "full" in errors.getvalue() and "c  accepted" in out.getvalue())
 
     def test_writes_the_index_of_many_pairs_less_often(self) -> None:
-        """With 10,000 pairs at most every 10 seconds, but always at the end if it has changed."""
+        """With N pairs at most every N / 1000 seconds, but always at the end if it has changed."""
         results, pages = collection.FolderRows(self.path("out")), list[int]()
         results.rows = {f"{at}": make_table_row(f"{at}", "accepted") for at in range(9999)}
         events: list[tuple[float, str, int]] = [  # time in seconds, event, pages written
@@ -373,7 +374,7 @@ class WatchedFolders(Case):
             [(1, {}, ""), (0, {"accepted": 1}, "a: accepted")])
 
     def test_reports_a_locked_pair_once_and_judges_it_when_it_is_free(self) -> None:
-        """The pair is locked until the fourth of eight scans has ended."""
+        """The pair is locked until the fourth of eight scans has ended. The first only finds it."""
         begun = list[bool]()
 
         def judge_item(runner: PairRunner, item: BatchItem) -> Row:
