@@ -64,6 +64,8 @@ class Proposals(Case):
 
     def test_proposes_the_longest_delay_of_all_recordings(self) -> None:
         most, without_cues = MAX_WITHIN, Delays(Counter(), Counter(), ["z"], [])
+        # Delays of in-cues and of out-cues, and the options: none if a list is empty, if all are 0,
+        # or if one is more than MAX_WITHIN
         rows: list[tuple[list[int], list[int], str]] = [
             ([0, 0], [0], ""), ([0, 2], [1], "--within 2|--late 0:1,2:1/1:1"),
             ([0], [3], "--within 3|--late 0:1/3:1"), ([2], [], ""), ([], [2], ""),
@@ -117,7 +119,8 @@ class Proposals(Case):
                    ["keeping: C4 (erase page) is clear in 24 of 59 headers"])
 
     def test_ignores_delays_of_fewer_than_one_cue_in_twenty(self) -> None:
-        """Arguments and results map each delay in frames to its number of cues."""
+        """The longest delays are ignored if together they have fewer than a twentieth of the cues.
+        Arguments and results map each delay in frames to its number of cues."""
         self.check_rows(lambda delays: dict(remove_unusual(Counter(delays))), {
             "none": (({},), {}), "one alone": (({5: 1},), {5: 1}),
             "one of twenty": (({0: 19, 5: 1},), {0: 19, 5: 1}),
@@ -137,7 +140,8 @@ class Proposals(Case):
             "begins late"])
 
     def test_names_the_cues_whose_delays_are_separate(self) -> None:
-        # The number of in-cues with each delay in frames, and the line that names late cues.
+        # The number of in-cues with each delay in frames, and the line that names the cues after
+        # the first gap of two frames or more between delays.
         rows: dict[str, tuple[dict[int, int], str]] = {
             "none": ({}, ""), "all": ({5: 9}, ""), "next to each other": ({0: 5, 1: 2, 2: 1}, ""),
             "one": ({0: 13, 2: 1}, "1 of 14 in-cues is at least 2 frames late, the others at most "
@@ -173,7 +177,8 @@ class Proposals(Case):
                 f"option: C12 to C14 of the headers select {words}; the text was read as english"]))
 
     def test_a_lost_repeat_is_an_exception(self) -> None:
-        """Headers in `frames`: the longest usual interval, and longer ones (frame, length)."""
+        """Headers in `frames`: the longest usual interval, and longer ones (frame, length) if fewer
+        than a twentieth are longer."""
         for name, frames, longest, exceptions in (
                 ("one is lost", [*range(0, 400, 25), *range(425, 900, 25)], 25, [(375, 50)]),
                 ("one of twenty", [*range(0, 400, 25), *range(425, 550, 25)], 50, []),
