@@ -35,7 +35,7 @@ case "$*" in
     *) {said} ;;
 esac
 """
-EMPTY = ["refused 60 Empty", "1 faults"]
+EMPTY = ["refused 60 Empty", "1 faults"]  # the answer for a valid subtitle file alone
 # How `check` ends, and the exit status of qc if this is not the valid end (70: a bug of subttx).
 INVALID_ENDS = {"exit 0": 70, "exit 1": 70, "exit 2": 2, "kill -9 $$": 2, "kill -11 $$": 70}
 

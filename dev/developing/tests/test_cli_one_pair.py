@@ -84,6 +84,7 @@ class LastLines(Case):
         self.check("sum", lines[-1], "accepted 20 frames 4 transmissions in 2 parts")
 
     def test_an_accepted_part_without_a_clock_is_relative(self) -> None:
+        """A refused part stays refused, with a note that its clock was estimated."""
         for output, line, has_note in (
                 (["accepted 10 frames 2 transmissions"], "relative 10 frames 2 transmissions",
                  False), (REFUSED, REFUSED[0], True)):

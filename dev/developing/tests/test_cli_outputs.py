@@ -140,7 +140,8 @@ class Testcases(unittest.TestCase):
                     (tag, "a\\ufffe\nline\none\ntwo", attributes)] * (tag is not None))
 
     def test_names_unmade_checks_of_an_accepted_pair(self) -> None:
-        """The sentence names them in the test case. The table prints them without `row_0`."""
+        """The sentence names them in the test case. The table prints those of CHECK_KINDS
+        (not `row_0`), in its order."""
         accepted = make_row(make_result("accepted", sentence="Accepted. Not checked: x.",
                                         not_checked=[{"kind": kind, "part": 1, "from": None,
                                                       "to": None, "text": "x"}
@@ -201,7 +202,8 @@ class Members(unittest.TestCase):
                 "lost_ts_packets": 3, "scrambled_ts_packets": 2, "missing_ticks": 4,
                 "judged": is_judged})
 
-    PART = make_part(begin=25, end=49, origin=7, number=2)  # frames and PTS
+    # Frames and a PTS. `make_part` adds the answer `accepted 10 frames 2 transmissions`.
+    PART = make_part(begin=25, end=49, origin=7, number=2)
 
     def test_writes_the_judged_range_and_clock_of_a_part(self) -> None:
         result = JUDGED_PART.to_json(PartResult(self.PART, False))
@@ -231,6 +233,8 @@ class Members(unittest.TestCase):
                           "part_packet_size": 188}
                          for number, pid in ((1, "0x101"), (2, None)))
         nothing: dict[str, object] = {}
+        # The number of parts, the part that a row names, and its columns. If it names none, it has
+        # those of the only part.
         for count, number, expected in ((1, None, first), (2, None, nothing), (2, 1, first),
                                         (2, 2, second), (2, 3, nothing), (0, None, nothing)):
             self.assertEqual(make_part_columns(parts[:count], number), expected, (count, number))
