@@ -30,8 +30,8 @@ NIGHTS = {"2026-10-25T02:30:00+02:00": "20261025T003000Z-a",
           "2027-03-28T01:59:59+01:00": "20270328T005959Z-a",
           "2027-03-28T03:00:00+02:00": "20270328T010000Z-a"}
 HOUR = 90_000  # frames in an hour
-# TCI and TCO of each subtitle in frames, options of its line, and the length of the programme, in
-# seconds, which ends before a subtitle that is out of order or six hours later
+# TCI and TCO of each subtitle in frames, options of its line, and the programme's length in seconds
+# (it ends before a subtitle that is out of order or ends over six hours after the TCI before it)
 LENGTHS = {
     "one subtitle": ([(0, 250)], "", 10.0),
     "two subtitles": ([(0, 250), (500, 1000)], "", 40.0),

@@ -159,7 +159,7 @@ class RunningUnits(Case):
             self.system.path(f"{STATE}subttx/one/{pattern}")))
 
     def test_each_unit_does_its_work_and_stops_without_failure(self) -> None:
-        """`systemd-analyze verify` accepts a unit whose command is empty."""
+        """The units run here, since `systemd-analyze verify` accepts one whose command is empty."""
         self.install()
         work: dict[str, Callable[[], object]] = {
             RECORD_UNIT: lambda: self.read_files("segments/*.ts"),
