@@ -287,7 +287,7 @@ class JudgedProgrammes(AirCase):
         judge.look(DAY + 680)
         self.check("right", self.verdicts(), {NAME: "relative"})
 
-    def test_judges_no_programme_if_the_clock_jumped_since_its_margin(self) -> None:
+    def test_trusts_no_recording_if_the_clock_jumped_since_its_window_began(self) -> None:
         never_sent = make_outcome(NAME, "refused", "refused 72")
         file_refused = make_outcome(NAME, "refused", "refused 72", inputs={"recording": None})
         right = make_outcome(NAME, "relative", "relative 1500 frames")

@@ -468,7 +468,7 @@ class ForkedPairs(Case):
         self.must("name2 is not judged again", not os.path.exists(
             self.runner.get_result_path(items[2])))
 
-    def test_keeps_finished_results_after_a_signal(self) -> None:
+    def test_keeps_finished_results_after_a_signal_or_a_bug(self) -> None:
         """An interrupt or a bug ends the batch when one of four pairs is judged."""
         kinds = ("accepted", "waits", "waits", "waits")
         for reason in (KeyboardInterrupt(), ValueError("odd")):
