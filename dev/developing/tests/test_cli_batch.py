@@ -344,7 +344,7 @@ class ForkedPairs(Case):
                 ("refused", "refused", "refused 72 Content"),
                 ("not judged", "not judged", "why"), ("silent", "not judged", "last"),
                 ("other", "not judged", "last")):
-            item = self.item(kind, "one", "--severity", self.write("levels", b"72 error\n"))
+            item = self.item(kind)
             write_result_file(self.path("out/one.json"), make_result("accepted"))
             row = self.judge_item(self.runner, item)
             self.check(kind, (row.name, row.verdict, row.line), ("one", verdict, line))
