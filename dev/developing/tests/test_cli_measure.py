@@ -129,6 +129,7 @@ class Proposals(Case):
             "a tail": (({0: 45, 1: 4, 2: 1},), {0: 45, 1: 4})})
 
     def test_names_a_cue_that_is_later_than_proposed(self) -> None:
+        """If it is one of 20, --within 5 is proposed, but it is named, since it may be wrong."""
         late = Delays(Counter({0: 89, 5: 1}), Counter({0: 90}), [], [],
                       [LateCue(5, "x begins late")])
         result = [*propose_lateness([late], [])]
