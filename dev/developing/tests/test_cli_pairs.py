@@ -88,7 +88,7 @@ class PipedRecordings(Case):
             f" has not ended after {limit:,} bytes: judge an endless feed with tools/air"),
             result.stderr)
 
-    def test_reports_a_full_disk_for_a_pipe(self) -> None:
+    def test_reports_a_pipe_that_it_cannot_copy_completely(self) -> None:
         """The pipe contains more than the 200 KiB that the shell allows qc to write to a file."""
         data = make_stream(self, "story.pes") * 400
         command = 'ulimit -f 200; exec "$0" "$1" - --json one.json -p "$2"'
@@ -128,7 +128,8 @@ class Ended(Case):
 
     def test_reports_the_progress_at_a_signal(self) -> None:
         """A program prints the first `count` lines of `check`, then sleeps until the signal."""
-        # Printed lines, faults among them, and how far the first line (trusted frames) or fault is.
+        # The number of printed lines and of faults among them, and the time that qc reports: the
+        # end of the trusted frames, which the first line has, or the time of the last fault
         for count, faults, up_to in ((0, 0, "nothing yet"), (1, 0, "all up to 20:15:00:24"),
                                      (2, 1, "all up to 20:15:01:00"),
                                      (4, 3, "all up to 20:15:03:00")):

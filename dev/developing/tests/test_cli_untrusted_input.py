@@ -73,7 +73,8 @@ class ListLines(Case):
                          data=b"--page 888\n")
 
     def test_an_invalid_line_affects_no_other_line(self) -> None:
-        """Line 1 has the options in `rows`, which are refused. Line 2 has none, and is accepted."""
+        """Line 1 has options of `rows`, which are refused. Line 2 has none of them: it is accepted.
+        """
         self.write("secret", b"root:*:20228:0:99999:7:::\n")
         self.write("marked", b"\xef\xbb\xbf--page 888\n")
         self.write("long", b"#" * 65_537)
@@ -94,8 +95,9 @@ class ListLines(Case):
             self.write("list", f"{pair} {words}\n{pair}\n".encode())
             process = self.judge("list")
             table = process.out.decode().splitlines()
-            is_read = words.startswith(("--profile", "--severity")) and "\0" not in words
-            self.check(f"{words[:40]}: status", process.status, 2 if is_read else 64)
+            # Invalid words of a line are a usage error (64). A file that they name is not (2).
+            names_file = words.startswith(("--profile", "--severity")) and "\0" not in words
+            self.check(f"{words[:40]}: status", process.status, 2 if names_file else 64)
             self.must(f"{words[:40]}: line 1", reason in table[1], table)
             self.must(f"{words[:40]}: secret", "root" not in table[1], table)
             self.must(f"{words[:40]}: line 2", "accepted" in table[2], table)
