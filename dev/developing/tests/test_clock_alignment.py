@@ -61,7 +61,8 @@ class RepeatedPages(Case):
             self.check(f"{origin}: not erased", find(changes, 2, 5), None)
 
     def test_ignores_an_erasure_that_is_shorter_than_the_expected_pause(self) -> None:
-        # The expected pause between the subtitles, and for how long the page is erased in frame 110
+        # The expected pause between the subtitles, and for how long the page is erased in frame
+        # 110. An erasure of more than MAX_ERASED_FRAMES is never ignored.
         for pause, erased in itertools.product(range(1, 9), repeat=2):
             cues = find_expected_cues([ExpectedSubtitle(100, 130, 1, b"text"),
                                        ExpectedSubtitle(130 + pause, 160, 1, b"text")])
@@ -121,6 +122,8 @@ def find_origin(shown: Sequence[ExpectedSubtitle], packets: Packets, within: int
 
 class EstimatedClocks(Case):
     def test_uses_the_shortest_usual_delay(self) -> None:
+        """A delay of in-cues or of out-cues is usual if at least half as many cues have it as have
+        their most common delay, and at least three or just as many."""
         # The arguments are the numbers of in-cues and of out-cues with each delay in frames.
         self.check_rows(find_usual_delay, {
             "no cue": (({}, {}), 0),
@@ -190,6 +193,7 @@ class EstimatedClocks(Case):
             "few cues": (([0, 0, 1, 2], "0:1,1:2,2:1/0:1"), (0, None))})
 
     def test_a_delay_that_was_never_measured_is_rarer_than_one_in_400_cues(self) -> None:
+        """Otherwise a delay of one in 400 cues would count as one that was never measured."""
         self.assertLess(UNSEEN_SHARE, 1 / 400)
 
     def test_accepts_correct_inserters_or_reports_rare_cues_as_early(self) -> None:
@@ -220,8 +224,9 @@ class Drifts(Case):
             drift = Drift(*map(int, row["drift"].split())) if row["drift"] else None
             self.check(row["name"], self.drift([*map(int, row["delays"].split())]), drift)
 
-    def test_measures_a_drift_by_texts_that_are_sent_once(self) -> None:
-        # The expected texts. Texts 0 to 11 are sent, each second one a frame later.
+    def test_measures_a_drift_by_texts_that_are_expected_and_sent_once(self) -> None:
+        # The expected texts. Texts 0 to 11 are sent, each second one a frame later. A drift needs
+        # six texts, and half of those that are expected once must be sent once.
         sent = [b"%d" % at for at in range(12)]
         others = [b"x%d" % at for at in range(7)]
         steady = [at // 2 for at in range(12)]
@@ -243,6 +248,7 @@ class Drifts(Case):
 
 class RepeatedProgrammes(Case):
     def test_recognises_evenly_spaced_cues(self) -> None:
+        """At least half as many pairs of cues as there are cues are equally far apart."""
         self.check_rows(have_equal_steps, {
             "equal steps": (([0, 10, 20, 30],), True),
             "pairs at equal steps": (([0, 1, 10, 11, 20, 21],), True),
@@ -250,12 +256,13 @@ class RepeatedProgrammes(Case):
             "many steps, each longer": (([at * at for at in range(40)],), False),
             "one frame": (([5],), False), "no frame": (([],), True)})
 
-    def test_half_of_the_cues_make_a_repeat(self) -> None:
+    def test_half_of_the_cues_or_a_quarter_of_the_texts_make_a_repeat(self) -> None:
         base = make_time_base([ExpectedCue(at, b"%d" % at if at % 2 == 0 else b"", at % 2 == 0)
                                for at in range(40)], [])
         quarter = (0, 4, 8, 16, 20)  # a quarter of the texts, over half of the programme
         # The arguments are the cues that match in the first airing, and those that match again.
-        # Even cues have a text; odd cues erase it.
+        # Even cues have a text; odd cues erase it. Half of the texts that match again must match in
+        # the first airing.
         self.check_rows(lambda first, again: is_repeated_airing(
             [base], {at: (0, at) for at in first}, {at: (0, 100 + at) for at in again}), {
             "half of the cues": ((range(40), range(20)), True),
@@ -299,6 +306,7 @@ class LossesInParts(unittest.TestCase):
                                  (hours * hour - hour // 2, True), (hours * hour - 2, True),
                                  (hours * hour + hour // 2, False)):
                 before, after = (shift_pts(TICKS * (at + more), shift) for more in (-1, 1))
+                # The length of a loss (`missing`) has no effect.
                 for place in (LossPlace(before, after), LossPlace(before, after, missing=90_000)):
                     self.assertEqual(belongs_to_part(place, part), expected, (hours, at))
 
@@ -315,7 +323,8 @@ class LossesInParts(unittest.TestCase):
 
     def test_returns_the_frames_that_a_loss_hides(self) -> None:
         day = FRAMES_OF_A_DAY
-        # The frames before and after each loss (`None`: unknown), and the hidden frames
+        # The frames before and after each loss (`None`: unknown), and the hidden frames. A frame
+        # before a loss that is outside of the day counts as unknown.
         rows: list[tuple[int | None, int | None, Span]] = [
             (None, 5, Span(0, 5)), (7, 9, Span(7, 9)), (20, None, Span(20, day)),
             (-1, 1, Span(0, 1)), (None, None, Span(0, day)), (day - 1, day, Span(day - 1, day)),
@@ -331,6 +340,8 @@ class LossesInParts(unittest.TestCase):
 
     def test_computes_the_frames_of_a_recording_from_its_first_and_last_pcr(self) -> None:
         hour = 90_000
+        # The frames of the part, by how many ticks the first and the last PCR are later than frame
+        # 0, and the complete frames between them
         for shift, (frames, ticks, span) in itertools.product(SHIFTS, (
                 ((20, 40), (0, 50 * TICKS), Span(0, 50)),
                 ((20, 40), (1, 50 * TICKS - 1), Span(1, 49)),
@@ -347,12 +358,14 @@ class LossesInParts(unittest.TestCase):
     def test_does_not_know_the_frames_without_pcr_or_if_pts_go_back(self) -> None:
         part = TimedPart(20, 40, Clock(0, RECORDING))
         self.assertIsNone(find_recorded_span(None, part))
-        self.assertIsNone(find_recorded_span((0, 50 * TICKS), part._replace(packets=(0, 1))))
+        gone_back = part._replace(packets=(0, 1))  # a part has `packets` only if the PTS go back
+        self.assertIsNone(find_recorded_span((0, 50 * TICKS), gone_back))
 
 
 class PrintedClocks(unittest.TestCase):
     def test_writes_a_pcr_every_tenth_of_a_second_except_in_a_long_pause(self) -> None:
-        # Each PES packet has a PCR a tenth of a second before its PTS.
+        # Each PES packet has a PCR a tenth of a second before its PTS. A pause of more than two
+        # minutes has no other PCR.
         for shift in SHIFTS:
             multiplex, pcr = Multiplex(0x101, b"eng", (0, 0x88)), list[int]()
             for pts in (0, 5 * TENTH_TICKS, 5 * TENTH_TICKS + 7,

@@ -53,7 +53,7 @@ class Delays(ProgrammeCase):
 
     def test_judges_both_sides_of_a_short_break_by_two_calls(self) -> None:
         middle = format_frame(self.cues[10][0])
-        for length in (124, 25):  # in frames
+        for length in (124, 25):  # in frames; a break of 125 frames would begin a part
             sent = make_delay(length, self.cues[10][0] * TICKS)(self.sent)
             for words in (["--to", middle], ["--from", middle], ["--to", middle, "--origin", "0"]):
                 judged = self.judge(sent, *words)
