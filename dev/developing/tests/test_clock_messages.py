@@ -112,7 +112,8 @@ class OriginLines(unittest.TestCase):
 
     def test_names_another_programme_if_few_of_its_texts_are_sent(self) -> None:
         # How many texts the file has, how many of these and of other texts are sent, and whether
-        # the file is probably another programme's
+        # the file is probably another programme's: the file has and the recording sends at least
+        # three texts, and fewer than a quarter of the smaller number are the same.
         for count, own, others, is_other in ((8, 1, 7, True), (8, 2, 6, False), (3, 0, 9, True),
                                              (2, 0, 9, False), (9, 0, 2, False)):
             cues, sent = ([SimpleNamespace(letters=b"%d" % at) for at in texts] for texts in (
@@ -175,7 +176,8 @@ class OriginLines(unittest.TestCase):
 
     def test_compares_an_origin_with_a_given_one(self) -> None:
         # The given origin, by how many ticks the estimated origin is later than it (or than 0), and
-        # the delay in the line about them
+        # the delay in the line about them. If none is given, there is a line only about delays from
+        # one to 250 frames.
         rows: list[tuple[int | None, int, str]] = [
             (None, 0, ""), (None, TICKS - 1, ""), (None, 251 * TICKS, ""),
             (None, 250 * TICKS, "250 frames late"), (None, -TICKS, "1 frame early"), (0, 0, ""),
@@ -308,6 +310,7 @@ class FirstPictures(unittest.TestCase):
     def test_refuses_skipped_frames_unless_the_group_is_cut_off(self) -> None:
         lines = list_picture_lines(0, 3 * TICKS)
         self.assertIn("skip 2 frames", str(find(lines)))
+        # Four numbers after the PID mean that the recording ends within the group.
         self.assertEqual(find([*lines, f"pictures {VIDEO} 0 0 0 0"]),
                          FirstPicture(VIDEO, MPEG_2, 0, 0))
 
@@ -321,7 +324,8 @@ class FirstPictures(unittest.TestCase):
 
     def test_the_clock_of_the_first_picture_is_shifted_to_the_nearest_teletext_pts(self) -> None:
         # By how many ticks the PTS of Teletext are later than frames of the pictures, --within, and
-        # by how many ticks the clock is shifted (`None`: it is unclear)
+        # by how many ticks the clock is shifted (`None`: it is unclear). The most common distance
+        # counts, but with --within one of at most a quarter of a frame is preferred.
         rows: list[tuple[list[int], int, int | None, str]] = [
             ([0], 0, 0, "agrees"), ([1], 0, 1, "shifted forward by 1 tick "),
             ([1799], 0, 1799, "forward"), ([1800], 0, None, ""), ([1801], 0, -1799, "back"),
@@ -448,7 +452,8 @@ class FirstPictures(unittest.TestCase):
 
     def test_counts_frames_without_a_pts(self) -> None:
         # The PTS of pictures, whether the recording ends with them, and the number of frames
-        # between them that have no picture
+        # between them that have no picture. The last 16 pictures are ignored if the recording ends
+        # with them, or if the pictures last more than ten seconds (250 frames).
         frame, field = TICKS, TICKS // 2
         long = [frame * item for item in range(260)]
         for pts, is_cut, count in (

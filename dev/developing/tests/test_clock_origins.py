@@ -276,6 +276,8 @@ class Tracks(Case):
 
     def test_another_track_must_gain_more_than_four_points_and_not_go_back_in_time(self) -> None:
         rest = [0] * 7 + [3] * 5
+        # The points of the first track, the start of the second one, and the start and end of each
+        # stretch. The second one begins with cue 7, which is 50 frames after cue 6.
         for first, start, stretches in (
                 ([3] * 8 + [2] * 4, -40, [(0, 12)]), ([3] * 7 + [2] * 5, -40, [(0, 7), (-40, 12)]),
                 ([3] * 7 + [0] * 5, 50, [(0, 12)]), ([3] * 7 + [0] * 5, 49, [(0, 7), (49, 12)]),
@@ -288,6 +290,8 @@ class Tracks(Case):
         self.assertEqual(self.divide((1, 0, first), (0, -40, second)), [(0, 12)])
 
     def test_matching_cues_before_the_first_five_consecutive_matches_count(self) -> None:
+        """The first track has 27 points, 12 of them before these five. The second one, which can't
+        follow it, has 18."""
         self.assertEqual(self.divide((0, 0, [3] * 4 + [0] + [3] * 5 + [0, 0]),
                                      (0, 5000, [0] * 6 + [3] * 6)), [(0, 12)])
 
@@ -383,6 +387,7 @@ class Requests(Case):
                    ["6.00 s (150 frames) late", "7.60 s (190 frames) late"])
 
     def test_a_delay_before_a_break_begins_no_part(self) -> None:
+        # A break has at least 125 frames.
         delayed = self.send([*[0] * 12, *[50] * 6, *[600] * 6])
         self.check("parts", len(self.find(delayed, breaks=1).parts), 2)
 
