@@ -219,6 +219,8 @@ class Fits(Case):
         return base.find_cue_offset(base.compare(start))
 
     def test_finds_the_constant_difference_between_in_cues_and_out_cues(self) -> None:
+        """It is greater than the tolerance, and at most MAX_CUE_OFFSET. An erasure without any text
+        is no evidence of it."""
         late = [(frame + 2 * (not text), text) for frame, text in self.SENT]
         first, two, most = (0, b"a"), self.cues[:2], MAX_CUE_OFFSET
         twice_erased = [first, (10, b""), (12, b""), (20, b"b"), (37, b"")]
@@ -263,7 +265,7 @@ class Fits(Case):
                            base.align_to_in_cues(base.compare(start)).start, 1 - by)
 
     def test_samples_many_changes_to_find_origins(self) -> None:
-        # The pairs of a cue and a change that are compared at most; there are 6 cues, 44 changes.
+        # The pairs of a cue and a change that are compared at most; there are 6 cues, 47 changes.
         sent = [(at, b"x") for at in range(0, 80, 2)] + [
             (cue.frame + 500, b"y") for cue in self.cues] + [(900, b"x")]
         for votes in (1 << 20, 100):
@@ -392,7 +394,7 @@ class Runs(unittest.TestCase):
 
         An airing begins `step` frames after the one before. `kinds` has a letter for each: r
         (right), w (wrong texts), f (a quarter of the texts are right), h (half of the cues) or l
-        (less than half).
+        (less than half). The frames of a time base count from `EACH` times its number on.
         """
         sendings = []
         for number, kind in enumerate(kinds):
@@ -436,7 +438,7 @@ class Runs(unittest.TestCase):
     def test_returns_the_changes_between_two_frames_of_time_bases(self) -> None:
         bases = [make_time_base([], [(TICKS * at, b"%d" % at) for at in range(5)], 4)
                  for _ in range(3)]
-        # A time base and frame to begin after, and to end with; the frames of the changes between
+        # A time base and frame to begin after, and to end before; the frames of the changes between
         for low, high, expected in (
                 ((0, 1), (0, 3), [[2], [], []]), ((0, 1), (1, 1), [[2, 3, 4], [0], []]),
                 ((-1, 0), (1, 0), [[0, 1, 2, 3, 4], [], []]), ((1, 4), (1 << 40, 0), [
@@ -448,7 +450,8 @@ class Runs(unittest.TestCase):
     def test_finds_an_airing_by_its_times_alone(self) -> None:
         cues = find_expected_cues(self.due[:10])
         # The number of cues that matched in the first airing, that of page changes at the times of
-        # its 20 cues, and whether they are an airing. With --within, this needs 20 matches, not 10.
+        # its 20 cues, and whether they are an airing: 90 % of the first number, and 75 % of 20.
+        # This needs 10 cues that matched, and 20 with --within.
         for within, (count, changes, is_airing) in itertools.product((0, 1), (
                 (20, 20, True), (20, 18, True), (20, 17, False), (16, 15, True), (10, 15, True),
                 (10, 14, False), (9, 20, False), (19, 20, True))):
