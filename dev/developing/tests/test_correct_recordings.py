@@ -96,7 +96,8 @@ def write_late_cues(case: Case, kind: str, count: int, is_adjoining: bool) -> tu
 
 
 def list_inserters() -> Iterator[Recording]:
-    """Yield three recordings of each inserter, with different lengths. They have no clock."""
+    """Yield six recordings of each inserter: of three lengths, and each with and without adjoining
+    subtitles. They have no clock."""
     for kind, (begins, ends) in SHARES.items():
         within = max([1, *begins, *ends])
         for count, is_adjoining in itertools.product((12, 24, 80), (False, True)):
