@@ -47,6 +47,7 @@ class CommandLine(Case):
                 self.check(f"{row['function']} {text[:20]}", result, expected)
 
     def test_gives_the_program_a_pid_and_a_packet_size_other_than_188(self) -> None:
+        """A file of PES packets has no PID (`None`), and gets neither option."""
         for pid, size, expected in ((None, 188, []), (None, 204, []),
                                     (0x101, 188, ["--pid", "0x101"]),
                                     (0, 192, ["--pid", "0x0", "--packet-size", "192"])):
@@ -77,7 +78,7 @@ class CommandLine(Case):
             process = self.call(["bash", "-c", f"printf %s {command_line.quote_argument(text)}"])
             self.assertEqual(process.out.decode(), text, text)
 
-    def test_prints_one_line_for_each_error(self) -> None:
+    def test_formats_each_error_as_one_line(self) -> None:
         for reason, expected in (
                 (Stop("a  line\nof two"), "a line of two"), (KeyboardInterrupt(), "stopped"),
                 (OSError(2, "No such file", "a.stl"), "a.stl: No such file"),
@@ -100,7 +101,7 @@ class CommandLine(Case):
                                ("+a", "./+a"), ("@a", "./@a"), ("a-", "a-"), ("/-a", "/-a")):
             self.assertEqual(make_safe_name(name), expected, name)
 
-    def test_prints_that_the_version_is_unknown_without_its_file(self) -> None:
+    def test_the_version_is_unknown_without_its_file(self) -> None:
         with mock.patch.object(command_line, "HOME", self.folder):
             self.assertEqual(command_line.version(), "of an unknown version")
 
@@ -151,7 +152,7 @@ class CommandLine(Case):
             self.check("message", refusal(lambda: file.read()),
                        f"{self.path('file')} has no end: give a file")
 
-    def test_splits_lines_as_shlex_does_within_bounds(self) -> None:
+    def test_splits_random_lines_as_shlex_does(self) -> None:
         def split(function: Callable[..., list[str]], **options: bool) -> list[str] | None:
             """Return the words of the line, or `None` if the function refuses it."""
             with contextlib.suppress(ValueError):
@@ -308,14 +309,15 @@ class CommandLine(Case):
             self.check(name, refusal(lambda: find_built_program(path)),
                        "" if name == "program" else f"{path} is not an executable program")
 
-    def test_finds_the_program_of_the_sources(self) -> None:
+    def test_finds_the_program_and_the_checksum_of_the_sources_or_says_why_not(self) -> None:
+        # The program's path and the message that tools/program prints, and the reported message
         rows: list[tuple[tuple[str, str], str]] = [
             (("path", ""), ""), (("", "damaged"), "damaged"), (("", ""), "no program is built")]
         for chosen, why in rows:
             with mock.patch("subtitles.common.program.find_program", return_value=chosen):
                 message = refusal(lambda: self.assertEqual(find_built_program(), "path"))
             self.must(f"{chosen}", message.startswith(why) and bool(message) == bool(why), message)
-        for status in (0, 1, -9):
+        for status in (0, 1, -9):  # of tools/sources
             completed_process = subprocess.CompletedProcess([], status, b"a sum\n")
             with mock.patch("subprocess.run", return_value=completed_process):
                 message = refusal(lambda: self.assertEqual(sources(), "a sum"))

@@ -86,7 +86,8 @@ class Shapes(unittest.TestCase):
         # A shape, a value, and what the result file has
         rows: list[tuple[Shape, object, object]] = [
                 (Text(most=5), "abcde", "abcde"), (Text(most=5), "abcdef", "ab..."),
-                (Text("a*", 5), "a" * 6, "a" * 6), (Text(most=5), None, None),
+                (Text("a*", 5), "a" * 6, "a" * 6),  # a text with a pattern is not cut
+                (Text(most=5), None, None),
                 (Maybe(Text(most=5)), "abcdef", "ab..."), (Maybe(Text()), None, None),
                 (ListOf(Text(most=4), 2), iter(["abcde", "b", "c"]), ["a...", "b"]),
                 (ListOf(Flag(), 2), (), []), (Integer(0, 1), 0, 0),
@@ -226,7 +227,7 @@ class Checks(Case):
         self.check("phrases", sorted(PHRASES), sorted(CHECK_KINDS))
         self.check("first kinds", KINDS[:len(CHECK_KINDS)], CHECK_KINDS)
 
-    def test_a_part_gets_an_entry_for_a_check_that_was_not_made_and_has_no_entry(self) -> None:
+    def test_lists_a_check_of_a_part_that_was_neither_made_nor_failed_nor_listed(self) -> None:
         states = [CheckState(is_made, has_failed) for is_made in (False, True)
                   for has_failed in (False, True)]
         for name, kinds in CHECKS.items():
@@ -275,6 +276,8 @@ class Checks(Case):
 
 
 class RequiredChecks(ProgrammeCase):
+    """A recording of PES packets, which has no video, with a given clock."""
+
     def test_does_not_judge_without_a_required_check(self) -> None:
         profile = self.write("profile", b"--require no_video,clock\n")
         reason = "required but not checked: no_video"
