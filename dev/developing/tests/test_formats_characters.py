@@ -84,7 +84,7 @@ class NationalOptions(unittest.TestCase):
                 self.assertEqual(has_characters(text, OPTION_BY_WORD[row["option"]]),
                                  row["kind"] == "drawn")
 
-    def test_a_text_may_have_codes_80_to_8f_but_not_90(self) -> None:
+    def test_ignores_codes_80_to_8f_of_a_text_but_not_90(self) -> None:
         for byte in range(0x80, 0x90):
             self.assertTrue(has_characters(b"A%cA" % byte, ENGLISH), byte)
         self.assertFalse(has_characters(b"A\x90A", ENGLISH))
@@ -120,7 +120,7 @@ class Advice(unittest.TestCase):
                          "spanish, which have all the characters in the file")
 
     def test_a_diacritical_mark_includes_the_next_letter(self) -> None:
-        # A text, the place of a byte, and the bytes of the character there
+        # A text, the place of a byte, and the bytes of the character there. C9 is no mark.
         for text, at, letter in ((b"a\xc2eb", 1, b"\xc2e"), (b"a\xc2", 1, b"\xc2"),
                                  (b"\xc2\x80e", 0, b"\xc2"), (b"ab", 1, b"b"),
                                  (b"\xc2 e", 0, b"\xc2"), (b"\xc9e", 0, b"\xc9")):

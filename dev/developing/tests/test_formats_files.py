@@ -42,6 +42,7 @@ class Blocks(unittest.TestCase):
             data = make_gsi_block(b"", 0, 0) + b"".join(self.block(
                 int(number), int(ebn, 16), *map(int, others)) for number, ebn, *others in blocks)
             cut = f"block {len(blocks) + 1} is incomplete"
+            # An incomplete block at the end is reported unless damage before it ends the reading.
             for rest, reason in ((b"", words), (b"x" * 127, words if words and
                                                 "no last" not in words else cut)):
                 result: list[stl.StoredSubtitle] = []
@@ -76,6 +77,8 @@ class Blocks(unittest.TestCase):
 
     def test_reads_subtitles_before_damage(self) -> None:
         good = make_gsi_block(b"", 0, 0)
+        # A file, how many subtitles are read from it (-1: it is refused), and whether qc reports
+        # that it is damaged
         for data, count, is_told in ((good, 0, False), (good + self.block(1, 255), 1, False),
                                      (good + self.block(1, 255) + b"x", 1, True),
                                      (good + b"x", -1, False), (b"", -1, False)):
@@ -101,6 +104,7 @@ class Files(Case):
             self.assertEqual(file.describe_byte(1, 1), (f"{byte:02X}", letter), byte)
 
     def test_reads_one_byte_more_than_check_accepts(self) -> None:
+        # check accepts at most 99,999 blocks.
         most, path = GSI + 128 * 99_999 + 1, self.path("long.stl")
         for more in (-1, 0, 1):
             with open(path, "wb") as file:
@@ -134,7 +138,7 @@ class Titles(Case):
 
 
 class Lines(unittest.TestCase):
-    def test_each_fault_number_has_a_kind(self) -> None:
+    def test_groups_fault_numbers_by_kind(self) -> None:
         kinds = {"stl": listing.STL_FAULTS, "ends": listing.ENDS_READING,
                  "passed": listing.SKIPPED_PACKETS}
         for number in range(100):
@@ -175,7 +179,7 @@ class Lines(unittest.TestCase):
                           line.replace(" ", "  ", 1), line.upper()):
                 self.assertFalse(listing.is_check_line(other), other)
 
-    def test_reads_parts_of_a_line_as_the_complete_line(self) -> None:
+    def test_reads_the_number_time_and_words_of_a_fault_line(self) -> None:
         frames = {"": None, " block 7": None, " block 0 at 111": None, " pes 12": None,
                   " frame 23:59:59:24": 2_159_999, " frame 00:00:01:00 packet 9": 25,
                   " frame 10:00:00:01 row 22 column 39": 900_001}
@@ -315,6 +319,8 @@ class Times(unittest.TestCase):
         for origin, ticks, within in itertools.product((0, 1, 900, CLOCK - 3600, CLOCK - 1), rows,
                                                        (0, 1, 50)):
             several = [(origin + item) % CLOCK for item in ticks]
+            # With --within, a frame begins a quarter of a frame early. Otherwise, only PTS at the
+            # start of a frame belong to it.
             early = 900 if within else 0
             distances = [(pts - origin + early) % CLOCK for pts in several]
             expected = [item // 3600 if item < 3600 * DAY and (within or item % 3600 == 0) else -1
