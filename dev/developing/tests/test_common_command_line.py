@@ -233,7 +233,7 @@ class CommandLine(Case):
                          if isinstance(node, ast.Call) and isinstance(node.func, ast.Name)]
             for call in calls:
                 at = {"markup": 0, "Markup": 0}.get(call.func.id)  # type: ignore
-                if at is not None and not path.endswith("markup.py") and "spans" not in path:
+                if at is not None and not path.endswith("markup.py"):
                     self.must(f"{path} line {call.lineno}", all(isinstance(
                         arg, ast.Constant) for arg in call.args[at:at + 1]))
 
