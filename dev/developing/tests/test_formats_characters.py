@@ -382,6 +382,7 @@ class Languages(unittest.TestCase):
     """Languages that the PMT announces for the page, and the option with which it was judged."""
 
     def test_warns_if_no_announced_language_uses_the_option(self) -> None:
+        """It is unknown which option nld and und use, so they may use the judged one."""
         cases: list[tuple[list[str], str, str]] = [
             (["eng"], "french", "eng, which uses --option english"),
             (["fra"], "german", "fra, which uses --option french"),

@@ -122,7 +122,8 @@ class Titles(Case):
             return (page + b"STL25.01" + b" " * 5 + first.ljust(32) + b"x" * 32
                     + second.ljust(32) + b"y" * 912)
 
-        # The code page, the programme and the episode title, and the titles without blanks
+        # The code page (850 if it is unknown), the original and the translated programme title, and
+        # the titles without blanks
         of_titles: list[tuple[bytes, bytes, bytes, list[str]]] = [
                 (b"850", b"One", b"Two", ["One", "Two"]), (b"850", b"One", b"One", ["One"]),
                 (b"850", b"", b"Two", ["Two"]), (b"850", b" ", b"\0", []),
@@ -250,6 +251,7 @@ class CodeTable(unittest.TestCase):
             self.skipTest("letters of ISO 6937, since there is no iconv")
         accented = [bytes([accent, letter]) for accent in range(0xC1, 0xD0)
                     for letter in b"AEOUZaceinouyz"]
+        # iconv has no character for A4 and A6, and other code points for E0 and E2.
         others = [bytes([byte]) for byte in range(0x20, 0xFF) if not 0x7F <= byte <= 0xA0
                   and not 0xC0 <= byte <= 0xCF and byte not in (0xA4, 0xA6, 0xE0, 0xE2)]
         compared = 0
