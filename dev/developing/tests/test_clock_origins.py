@@ -97,6 +97,8 @@ class Origins(Case):
             read_subtitles_between(self.write_own_stl(), "english", ALL_DAY, range(COUNT + 1))
 
     def test_uses_the_origin_of_rows_that_are_a_frame_late(self) -> None:
+        """Headers erase the page on time (out-cues). The rows of a text are sent a frame later, so
+        the page has the text a frame late (in-cues)."""
         for count in (1, 2, 3, 20):
             stl = self.stl(make_even_times(count, 100, 60))
             pes_packets = []

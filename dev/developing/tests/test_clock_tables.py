@@ -55,6 +55,9 @@ def make_sent_packets(sendings: Sequence[tuple[int, bytes]], every: int = 0) -> 
 
 class TimeBases(unittest.TestCase):
     def test_assigns_each_change_to_a_frame(self) -> None:
+        """Without --within, to the nearest frame. With it, frames begin at the median of the PTS
+        that are less than EARLY_TICKS off, and only the last change in a frame counts, if it is
+        blank or changes the text of the frame before."""
         half = TICKS // 2
         early = EARLY_TICKS  # PTS that are less early belong to the following frame
         # --within in frames; the PTS and text of each change; the PTS of frame 0; by frame, the
