@@ -159,7 +159,8 @@ class Ended(Case):
             self.check(f"{count}: list", self.read("out/story.txt"), b"".join(came))
 
     def test_writes_a_complete_result_if_its_output_is_closed(self) -> None:
-        """`head -2` closes the output of qc after two lines. The recording has five faults."""
+        """`head -2` closes the output of qc after two lines; `echo` prints a third line. The
+        recording has five faults."""
         five = self.write("five.ts", make_stream(self, "five-faults.pes"))
         command = ('cat "$1" | "$2" "$3" "$4" --origin 0 --every 25 --json one.json -p "$5" 2>told '
                    '| head -2; echo ${PIPESTATUS[1]}')

@@ -258,7 +258,8 @@ class OutputsAndSignals(CallCase):
                               for line in process.printed), process)
 
     def test_reports_a_standard_output_that_fails_at_the_end(self) -> None:
-        """The last flush fails: after --collect, and after calls that return status 0."""
+        """The last flush fails: after --collect, and after calls that return status 0. Then the
+        JSON results say `not judged`."""
         class FullOutput(io.StringIO):
             def flush(self) -> None:
                 raise OSError(28, "No space left on device")

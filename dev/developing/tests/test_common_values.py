@@ -179,7 +179,7 @@ class FileNames(Case):
             self.check(name, (names.make_display_path("html"), names.report_path, names.json_path),
                        (f"out/{name}.html", f"later/{name}.html", f"later/{name}.json"))
 
-    def test_the_program_reads_the_subtitle_file_itself_or_the_copy_with_moved_times(self) -> None:
+    def test_names_the_file_that_the_program_reads_and_its_copy_with_moved_times(self) -> None:
         path = self.write("a.stl", b"one")
         self.names.set_subtitle_file(path)
         self.check("itself", (self.names.program_stl, self.names.make_part_paths(1).program_stl),
