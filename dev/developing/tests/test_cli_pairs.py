@@ -369,7 +369,7 @@ class UnusableFolders(Case):
 
 
 class TimeStamps(Case):
-    def test_detects_192_byte_packets_by_any_time_stamp(self) -> None:
+    def test_detects_192_byte_packets_whatever_their_time_stamps(self) -> None:
         """Each packet has a time stamp of 4 bytes. The first looks like a start or sync code."""
         data = read_example_file("recording.ts")
         for stamp in (b"\0\0\1\xbd", b"\0\0\1\xe0", b"G\0\0\0"):

@@ -353,10 +353,11 @@ class Requests(Case):
                 (part.origin, part.matches, part.total) for part in result.parts], [
                 (TICKS * origin, count, count)])
 
-    def test_a_given_origin_selects_the_airing(self) -> None:
+    def test_a_given_origin_excludes_an_airing_with_other_texts(self) -> None:
         twice = [*self.send([0] * 24), *self.send([EACH] * 24)]
         other_texts = [*twice[:24], *((ticks, text and b"x" + text) for ticks, text in twice[24:])]
-        # What was sent, the given origin in ticks, and the number of airings that are possible
+        # What was sent, the given origin in ticks, and the number of airings that are possible (0:
+        # there is only one). Any given origin has this effect, and none chooses of equal airings.
         rows: dict[str, tuple[list[tuple[int, bytes]], int | None, int]] = {
             "equal airings": (twice, None, 2), "one has other texts": (other_texts, None, 2),
             "the origin of the first": (other_texts, 0, 0),
