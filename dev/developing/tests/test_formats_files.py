@@ -97,7 +97,7 @@ class Blocks(unittest.TestCase):
 
 class Files(Case):
     def test_names_the_byte_and_character_at_a_place(self) -> None:
-        for byte in {*range(256)} - {0x8F}:
+        for byte in {*range(256)} - {0x8F}:  # 8F ends the text of a block
             file = SubtitleFile(self.write("one.stl", make_gsi_block(b"", 1, 1) + make_tti_block(
                 1, 25, 50, 20, 2, b"a" + bytes([byte]))))
             letter = None if byte < 0x20 or 0x7F <= byte < 0xA0 else decode_text(bytes([byte]))
