@@ -67,7 +67,7 @@ class Pairs(Case):
             with open(RECORDING, "rb") as file:
                 again = subprocess.run([os.path.join(TOP, "tools", "qc"), STORY, name, "-p",
                                         self.bench.program, "--relative", "--json", "one.json"],
-                                       stdin=file, stdout=subprocess.PIPE, cwd=self.folder,
+                                       stdin=file, capture_output=True, cwd=self.folder,
                                        check=False)
             self.check(f"{name}: status", again.returncode, 0)
             [part] = json.loads(self.read("one.json"))["parts"]
