@@ -33,7 +33,8 @@ def move_pts(ticks: int | None, origin: int) -> int | None:
 
 class Silences(unittest.TestCase):
     def test_a_loss_is_at_most_as_long_as_the_interval_between_the_pts(self) -> None:
-        # The PTS before and after a loss, if any, and the ticks that are missing
+        # The PTS before and after a loss, if any, the ticks that are missing, and whether the PTS
+        # have room for them (otherwise the PCR jumped)
         for origin, (before, after, missing, expected) in itertools.product(ORIGINS, (
                 (0, 2 * SECOND, 2 * SECOND, True), (0, 2 * SECOND, 2 * SECOND + 1, False),
                 (0, 2 * SECOND, 1, True), (None, 2 * SECOND, 9 * SECOND, True),
@@ -41,10 +42,12 @@ class Silences(unittest.TestCase):
             place = LossPlace(move_pts(before, origin), move_pts(after, origin))
             self.assertEqual(is_within(missing, place), expected, (origin, before, after, missing))
 
-    def test_a_silence_is_idle_in_a_pause_of_the_programme_or_if_every_allows_it(self) -> None:
+    def test_a_silence_is_idle_at_the_end_of_a_pause_or_if_every_allows_it(self) -> None:
         every, begin, end = 400, 1000, 1500
         pause: Pauses = [(begin, end)]
         # First and last frame of the silence, pauses of the programme, whether the silence is idle
+        # if no other is near: it begins in a pause and ends with it, give or take MAX_CUE_DISTANCE.
+        # In the pause before the first subtitle (`None` to 940) or after the last it may end early.
         rows: list[tuple[tuple[int, int], Pauses, bool]] = [
             ((0, 50), [], False), ((0, DEFAULT_REPEAT_LIMIT), [], False),
             ((0, DEFAULT_REPEAT_LIMIT + 1), [], True),
@@ -79,7 +82,8 @@ class Silences(unittest.TestCase):
     def test_finds_the_longest_time_without_a_header(self) -> None:
         steady = [*range(0, 100, 10)]
         # The frames of the headers, the frame of the last PES packet, and of cues; the number of
-        # headers, the longest interval, its first frame, and the usual interval
+        # headers, the longest interval, its first frame, and the usual interval (`None` if fewer
+        # than MIN_REPEATS have no cue nearby)
         rows: list[tuple[list[float], float | None, list[int], tuple[object, ...] | None]] = [
             ([], None, [], None), ([], 9, [], None), ([5, 5], None, [], None),
             ([5], 5, [], (1, 1, 5, None)), ([0, 10, 20, 25], None, [], (4, 10, 0, None)),
@@ -102,6 +106,7 @@ class Silences(unittest.TestCase):
             result = describe_gap_markers(make_packets(
                 [None if at % 2 else item for at, item in enumerate(pts)],
                 gap_markers=[GapMarker(at, pts[at - 1], 1, 0) for at in range(1, 2 * count, 2)],
+                # a loss without a gap marker, which is not described
                 pcr_steps=[PCRStep(TICKS * 90, TICKS * 91, TICKS * 9, 9, 1, 9, "broken")]))
             self.assertEqual((len(result), [line for line in result if line.startswith("and at")]),
                              (min(count, 20), [last_line] * bool(last_line)), count)
@@ -135,7 +140,8 @@ class FirstPictures(unittest.TestCase):
             self.assertEqual(result, [most_common, near_frame], (origin, ticks))
 
     def test_refuses_subtitles_before_and_after_the_recording(self) -> None:
-        # By the TCP, the recording has the frames 100 to 1000; its last PTS may be unknown.
+        # By the TCP, the recording has the frames 100 to 1000; its last PTS may be unknown. The
+        # subtitles may end a second later.
         request, last = make_example_request("a.stl", "a.ts"), 1000
         for origin, (begin, end, is_last_known, is_refused) in itertools.product((
                 *ORIGINS, CLOCK - last * TICKS), (
@@ -217,7 +223,8 @@ class ReceivedFrames(unittest.TestCase):
 
     def test_decodes_the_transmitted_pages(self) -> None:
         # PES packets (see `make_timeline`), decoded texts with their first frames, frames in which
-        # the page opens or closes, and frames with a header
+        # the page opens or closes, and frames with a header. A PES packet that is faulty or between
+        # two frames is not received; then the text stays until it is erased or another is printed.
         rows: list[tuple[str, str, str, list[int], list[int]]] = [
             ("nothing", "", "", [], []),
             ("before a header", "5:c 7:o:a 10:heo:b", "10 b", [10], [10]),
@@ -270,7 +277,8 @@ class ReceivedFrames(unittest.TestCase):
         self.assertEqual([*decoded.ends], [10, 20, 30])
 
     def test_decodes_250_frames_or_the_repeat_limit_around_a_subtitle(self) -> None:
-        # A page in each tenth frame, but none in frame 750, and a subtitle in frames 1000 to 1200
+        # A page in each tenth frame, but none in frame 750, and a subtitle in frames 1000 to 1200;
+        # --every, the PES packets to use (default: all), and the first and last decoded frame
         runs = [PacketRun(at, 1, TICKS * 10 * at, 0, "heo" if at != 75 else "-", "0" * (at != 75))
                 for at in range(300)]
         packets = Packets(5, runs, decoded_rows=[(at, ((20, b"%d" % at),)) for at in range(300)])
@@ -289,6 +297,7 @@ class ReceivedFrames(unittest.TestCase):
         self.assertEqual((decoded.count, decoded.first), (0, NO_FRAME))
 
     def test_begins_with_the_last_rows_that_survey_printed_before_the_range(self) -> None:
+        # Of the PES packets 0 to 3 only number 2 is in the range.
         texts: list[tuple[int, Texts]] = [(at, ((20, text),)) for at, text in enumerate(
             (b"w", b"x", b"y", b"z"))]
         for flags, has_own_rows in itertools.product(("he", "h"), (True, False)):
@@ -301,7 +310,7 @@ class ReceivedFrames(unittest.TestCase):
             self.assertEqual((rows[0], rows[19]), (
                 other_rows[0], b"y" if has_own_rows else b"x"), (flags, has_own_rows))
 
-    def test_replaces_unsent_cells_with_spaces(self) -> None:
+    def test_replaces_unsent_cells_and_parity_errors_with_spaces(self) -> None:
         for marks in ((), (OLD,), (HIT,), (HIT, OLD)):
             self.assertEqual(clear_unsent_cells((b"a", bytes([*marks, 0x62]))), (
                 b"a", b" " * len(marks) + b"b"), marks)
