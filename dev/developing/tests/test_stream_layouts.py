@@ -82,7 +82,8 @@ class Layouts(Case):
             "a colour between spaces": ((b" \x03 ",), b""),
             "a new line and a colour": ((b"a\x8a\x03b",), b"ab")})
 
-    def test_an_accent_and_its_letter_stay_together(self) -> None:
+    def test_an_accent_needs_its_letter_next_to_it_before_codes_are_stripped(self) -> None:
+        # The German option has "ä" (C8 and "a" in the file) as `{`, and no accent alone (fault 50).
         strips_0a = Layout(strip=b"\x0a")
         pair = draw_text(b"a\x0a\xc8a", 5, 2, strips_0a, GERMAN)
         assert isinstance(pair, list)
@@ -180,6 +181,7 @@ class StoredRows(Case):
                 continue
             self.check(name, list_sent_rows(self.read("one.pes")), row["page"])
             process = self.call([self.bench.program, "check", stl, "one.pes", *words])
+            # From the TCI in frame 0 to the TCO in frame 50: the page and its erasure
             self.check(f"{name}: check", process.out, b"accepted 51 frames 2 transmissions\n")
 
 
@@ -229,7 +231,9 @@ ITEMS = [
     ("after=0A,fit,left=2", [("after=0A", "fit,left=2"), ("fit", "after=0A,left=2"),
                              ("left=2", "after=0A,fit")]),
     ("", [])]
-OVERRULING = (*range(0x01, 0x08), 0x09, 0x0C)  # alphanumeric colours, steady, normal size
+# Codes that overrule a line's own codes (`*`) if a layout puts them after these: alphanumeric
+# colours, steady, normal size
+OVERRULING = (*range(0x01, 0x08), 0x09, 0x0C)
 # Layouts, and their items that only the operator can accept: these may hide something from viewers
 # (colour, flash, double height, a box) or move lines by more than two rows.
 QUESTIONABLE_ITEMS = [
@@ -345,7 +349,8 @@ class ProposedItems(Case):
                        (proposed, as_sent))
 
     def test_proposes_no_white_after_the_own_colour_of_a_line(self) -> None:
-        # Subtitles with a colour, the proposed layout, and how many of 100 it draws as sent
+        # Subtitles with a colour, the proposed layout, and how many of 100 it draws as sent (fewer
+        # than 90 are too few for a proposal)
         for count, proposed, as_sent in ((1, "before=070B0B", 99), (10, "before=070B0B", 90),
                                          (30, "", 0)):
             coloured = [SentText(b"\3Hi", b"\3Hi")] * count
@@ -374,9 +379,10 @@ class ProposedItems(Case):
         evidence = Evidence(draw_sent_subtitles(
             [WHITE] * 3 + [SPACES] * 5 + make_unchanged_texts(92)), ENGLISH)
         self.check("removed", evidence.remove_unsupported(read_intended_layout(
-            "strip=07,trim"))[1], [{("strip", 7)}, {("trim", 0)}])
+            "strip=07,trim"))[1], [{("strip", 7)}, {("trim", 0)}])  # 0: the item has no code
 
     def test_keeps_the_weaker_evidence_of_codes_before_and_after_a_colour(self) -> None:
+        # The codes change all 100 pages, but their places around the colour only 12.
         layout, coloured = read_intended_layout("before=0D*0B0B"), SentText(b"\3Hi", b"\3Hi")
         evidence = Evidence(draw_sent_subtitles(
             [coloured] * 12 + make_unchanged_texts(88), layout), ENGLISH)
@@ -431,4 +437,5 @@ class ProposedItems(Case):
         self.must("many items", len(list_items(layout)) > MAX_ITEMS)
         sent = draw_sent_subtitles([SentText(codes + b"Hi", b"Hi")] * 10)
         kept, removed = Evidence(sent, ENGLISH).remove_unsupported(layout)
+        # Of 16 items at most 12 are kept.
         self.must("few items", len(list_items(kept)) <= MAX_ITEMS and len(removed) >= 4, kept)
