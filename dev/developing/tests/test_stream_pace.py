@@ -66,7 +66,7 @@ class PaceDecisions(Case):
                        (row["kind"], int(row["pace"]) if row["pace"] else None,
                         int(row["hidden"] or 0)))
 
-    def test_returns_the_usual_interval_and_the_shortest_after_a_loss(self) -> None:
+    def test_returns_the_usual_interval_or_the_longest_pause_and_the_shortest_loss(self) -> None:
         self.check_rows(lambda *arguments: compute_pace(*arguments)[:3], {
             "regular, one loss": (([[*range(10), *range(30, 5000)]], 2, 250), (REGULAR, 1, 3)),
             "a pause of 301 frames": (
@@ -75,7 +75,7 @@ class PaceDecisions(Case):
                 ([[*range(10), *range(210, 1000), *range(1090, 3000), *range(3094, 5000)]], 1, 250,
                  [(999, 1090), (2999, 3094)]), (PAUSED, 95, 3))})
 
-    def test_ignores_the_three_longest_intervals(self) -> None:
+    def test_ignores_the_three_longest_of_four_or_more_intervals(self) -> None:
         self.check_rows(lambda rows: compute_pace(rows, 1, 250).interval, {
             "no PES packet": (([],), 0), "one": (([[7]],), 0), "two intervals": (([[0, 2, 9]],), 7),
             "four": (([[0, 1, 3], [9, 13, 18]],), 1), "five": (([[0, 9, 17, 24, 30, 31]],), 6)})
@@ -96,7 +96,7 @@ class PaceDecisions(Case):
 
     def test_finds_the_usual_interval(self) -> None:
         # Numbers of intervals by their length in frames. 1 in 20 must be as long as the usual one,
-        # at most 1 in 100 longer, and at most three by more than a frame.
+        # at most 1 in 100 longer, and at most three by more than a frame. It is at least a frame.
         self.check_rows(lambda counts: find_usual_distance(
             collections.Counter(counts), sum(counts.values()), MAX_EXCEPTIONS), {
                 "one a frame": (({1: 2000},), 1), "all in one frame": (({0: 2000},), 1),
@@ -112,6 +112,8 @@ class PaceDecisions(Case):
                 "three frames are usual": (({1: 1900, 3: 101, 4: 19},), 3)})
 
     def test_finds_the_shortest_loss_that_no_counter_shows(self) -> None:
+        # The frames of PES packets, and the TS packets of each; the least distance in frames of PES
+        # packets between which 16 TS packets, and at least two whole PES packets, may be missing
         two = [at // 2 for at in range(800)]
         self.check_rows(find_hidden_loss, {
             "no PES packet": (([], 1), None), "17, all in one frame": (([[7] * 17], 1), None),
@@ -120,7 +122,7 @@ class PaceDecisions(Case):
             "all in one frame": (([[5] * 400], 1), 0),
             "rows of 200 and 9": (([[*range(0, 1000, 5)], [*range(9)]], 3), 6)})
 
-    def test_splits_the_frames_at_losses(self) -> None:
+    def test_splits_the_frames_at_losses_and_steps_back(self) -> None:
         origin = CLOCK - 5 * TICKS
         # Runs of PES packets: the first number, how many, the first frame (`None`: a gap marker),
         # the step in frames, and the fault; --within; and the frames of PES packets without a loss
@@ -145,7 +147,8 @@ class PaceDecisions(Case):
 
     def test_estimates_the_ts_packets_of_a_pes_packet(self) -> None:
         # TS packets of the PID, bytes of 100 PES packets if it is a file, and Teletext packets in
-        # the last PES packet; the TS packets of each PES packet
+        # the last PES packet; the TS packets of a PES packet: the mean (184 bytes each), or those
+        # of the largest, whose first TS packet has three Teletext packets, and others four
         for total, size, units, expected in (
                 (100, None, 0, 1), (103, None, 3, 1), (103, None, 4, 2), (149, None, 0, 1),
                 (151, None, 0, 2), (800, None, 3, 8), (100, None, 35, 9), (5000, None, 1, 9),
@@ -162,7 +165,7 @@ class PaceDecisions(Case):
 
     def test_finds_silences_between_frames(self) -> None:
         # Five intervals; one of 5 frames or more is a silence, which is near another if fewer than
-        # `steps` intervals are between them.
+        # `steps` PES packets are between them.
         for apart, steps in itertools.product(itertools.product((1, 4, 5, 6), repeat=5), (1, 2, 4)):
             row = [*itertools.accumulate(apart, initial=7)]
             places = [at for at, frames in enumerate(apart) if frames >= 5]
@@ -229,7 +232,7 @@ class Losses(ProgrammeCase):
                    ([(2,)], None))
         self.must("command", " --complete --pace 2 --all" in judged.verdict.commands[-1])
 
-    def test_reports_a_silence_although_no_counter_shows_the_loss(self) -> None:
+    def test_reports_a_silence_whether_or_not_a_counter_shows_the_loss(self) -> None:
         multiplex = self.make_stream_packets(fill_missing_frames(self.sent))
         # `delete_between` cuts the whole stream, `remove_pid_packets` only this PID.
         for cut, counts in ((remove_pid_packets, (1, 2, 14, 15, 16, 17)),
@@ -272,6 +275,7 @@ class Losses(ProgrammeCase):
                                                                 self.first, 16)))
         self.check_faults("a pipe", judge_files(self, self.stl, pipe, *self.qc_args), "refused",
                           self.silent)
+        # A file has no counters: since it may lose a single PES packet, its pace is 1 and not 2.
         self.check_faults("PES packets", self.judge(sent[:self.first] + sent[self.first + 16:]),
                           "refused", "79 Silent frame 10:00:26:10")
 
@@ -279,6 +283,7 @@ class Losses(ProgrammeCase):
         multiplex = self.make_stream_packets(send_in_bursts(schedule_pages(
             self, write_programme(self, TIMES), every=1)))
         first = 155  # number of the first lost PES packet, within a burst
+        # `delete_between` cuts other PIDs too: their counters and the PCR show a loss of 16, too.
         for cut, count, word in (
                 (remove_pid_packets, 0, "accepted"), (remove_pid_packets, 1, "refused"),
                 (remove_pid_packets, 15, "refused"),
@@ -291,7 +296,7 @@ class Losses(ProgrammeCase):
                                              IRREGULAR_NOTE in judged.notes), (True, True))
             self.check(f"{name}: no pace", (judged.lines("pace: "), judged.parts("pace")),
                        ([], [(None,)]))
-        for option in ("--pace=none", "--pace=180"):
+        for option in ("--pace=none", "--pace=180"):  # bursts are at most 176 frames apart
             judged = self.judge_stream(remove_pid_packets(multiplex, first, 16), option)
             self.check(option, (judged.timed_verdict, IRREGULAR_NOTE in judged.stderr),
                        ("accepted", False))
