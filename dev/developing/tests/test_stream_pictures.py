@@ -84,8 +84,8 @@ class PictureDepartures(Case):
         for after, ticks in ((0.0, 6 * TICKS), (4.0, None)):
             near = make_video_leads([6.0] * 20 + [3.0] + [after] * 20, {20: 3, 21: 3})
             self.check(f"two steps with one line between, then {after}", locate_departures(near), [
-                Departure(near[21].pts, near[19].pts, ticks, 0 if ticks else 2 * TICKS,
-                          ahead=6 * TICKS)])
+                Departure(near[21].pts, near[19].pts, ticks,
+                          change=0 if ticks else 2 * TICKS, ahead=6 * TICKS)])
         for count in (0, 1):
             self.check(f"{count} lines", locate_departures(leads[:count]), [])
 
@@ -97,7 +97,8 @@ class PictureDepartures(Case):
             make_video_leads([6.0, 7, 6, 7, 6] * 8 + [8.0] * 2, {40: -1})), [-1])
 
     def test_a_loss_of_a_second_is_unclear_if_teletext_may_jump_against_the_pcr(self) -> None:
-        # Lost pictures, frames by which the PTS are ahead of the PCR before and after, and jumps
+        # Lost pictures, frames by which the PTS are ahead of the PCR before and after (none: it is
+        # unknown), and jumps
         for lost, ahead, expected in (
                 (50, (9, 9), []), (50, (9, 11), [None]), (50, (), [None]), (25, (), [None]),
                 (24, (9, 11), []), (24, (), [])):
@@ -157,7 +158,7 @@ class PictureDepartures(Case):
         for name, (leads, wanted) in rows.items():
             self.check(name, self.list_jumps(leads), wanted)
 
-    def test_a_small_jump_is_unclear_if_the_video_has_many_unusual_steps(self) -> None:
+    def test_a_jump_below_a_second_is_unclear_if_over_20_steps_are_unusual(self) -> None:
         for frames, others, expected in ((3, 10, 3), (3, 30, None), (30, 30, 30)):
             leads = make_video_leads([6.0] * 10 + [6.0 - frames] * 70, {10: frames})
             unusual = [UnusualStep(SECOND * at - 5, TICKS * (frames if at == 10 else 1), TICKS)
@@ -173,7 +174,7 @@ class PictureDepartures(Case):
             self.check(f"{leads_before} {frames}", [item.ticks for item in departures or []],
                        expected)
 
-    def test_finds_no_jumps_if_the_decoding_times_have_no_usual_step(self) -> None:
+    def test_finds_no_jumps_at_random_decoding_times_or_at_another_picture_rate(self) -> None:
         chance = random.Random(1)
         steps = {at: float(chance.randrange(-9, 9)) for at in range(40)}
         self.check("at random", locate_departures(make_video_leads([6.0] * 40, steps)), None)
@@ -240,6 +241,7 @@ class DepartureFaults(Case):
             [(2, 900)], source=START)[0], [("00:00:40:00", "00:01:19:24", "2 frames early")])
         several = [Departure(pts=TICKS * (earlier + 1), earlier_pts=TICKS * earlier, ticks=9)
                    for earlier in (899, 999, 1000, 1998, 1999, 2000)]
+        # It is unclear if a jump between frames 999 and 1000, or 1999 and 2000, is in the part.
         for source, expected in ((GIVEN, [None, 9, 9, None]), (START, [9, 9, 9, 9, None])):
             departures = find_departures(several, TimedPart(1000, 2000, Clock(0, source)))
             self.check(source, [item.ticks for item in departures], expected)
@@ -253,7 +255,8 @@ class DepartureFaults(Case):
 
     def test_expects_pictures_up_to_the_last_teletext(self) -> None:
         # A step back by two frames to picture 2480 is a jump if five pictures follow it. The last
-        # lead is that of frame 2475, and the Teletext goes on up to frame `last`.
+        # lead is that of frame 2475, and the Teletext goes on up to frame `last`. The fault begins
+        # when picture 2480 is decoded, in frame 2474, since the Teletext is six frames ahead.
         for last, expected in ((2484, []), (2485, ["00:01:38:24"])):
             lines = [*make_lead_survey_lines([]), f"steps {VIDEO} 3600 501 3600 501",
                      f"steps {VIDEO} -3600 2480 3600 2476",
@@ -553,7 +556,8 @@ class Steps(Case):
         pictures = [2 * TICKS, 5 * TICKS, 3 * TICKS, None]
         self.check_rows(lambda pictures, steps: measure_reordering(
             pictures, passed=0, steps=steps, decoding=0, number=1), {
-                "B pictures, the longest delay": ((pictures, steady), 4 * TICKS),
-                "I P B B P B B": (([TICKS * at for at in (1, 4, 2, 3, 7, 5, 6)], steady), TICKS),
+                "a picture without a PTS: the longest delay": ((pictures, steady), 4 * TICKS),
+                "I P B B P B B: the mean": (
+                    ([TICKS * at for at in (1, 4, 2, 3, 7, 5, 6)], steady), TICKS),
                 "a picture shown nine frames late": (([0, 10 * TICKS], steady), MAX_REORDER_TICKS),
                 "no steps are known": ((pictures, []), MAX_REORDER_TICKS)})
