@@ -134,7 +134,8 @@ class DayFiles(Case):
 
 class SkippedSubtitles(Case):
     def test_leaves_out_subtitles_by_the_tci_of_their_first_block(self) -> None:
-        # Block 2 and 3 are one subtitle, block 5 is a comment, and block 7 has an invalid TCI.
+        # Blocks 2 and 3 are one subtitle, block 5 is a comment, and block 7 has an invalid TCI: its
+        # subtitle is in each range.
         blocks = [make_tti_block(1, 25, 50, 20, 2, b"one"),
                   make_tti_block(2, 75, 99, 20, 2, b"tw", 0), make_tti_block(2, 0, 0, 20, 2, b"o"),
                   make_tti_block(3, 100, 150, 20, 2, b"three"),
@@ -168,7 +169,8 @@ class SkippedSubtitles(Case):
         self.check("long texts", (len(shown), decode_subtitles(self.read(path))), (4, shown))
 
     def test_notes_a_title_an_hour_before_the_programme(self) -> None:
-        # The TCI of a file's subtitles, and the first TCI after the title
+        # The TCI of a file's subtitles, and the first TCI after the title. There is one if the
+        # first subtitle is at 0, and all that are not at 0 are an hour later or more.
         rows: list[tuple[list[int], str | None]] = [
             ([0, HOUR], "01:00:00:00"), ([0, HOUR - 1], None), ([1, HOUR], None), ([0], None),
             ([], None), ([0, 0, HOUR + 25, 2 * HOUR], "01:00:01:00"), ([0, 9, HOUR], None),
@@ -184,7 +186,7 @@ class SkippedSubtitles(Case):
         times = make_times(10 * HOUR)
         without = write_programme(self, times, name="without.stl")
         pes = self.write("one.pes", join_pes_packets(schedule_pages(self, without)))
-        # TCI and TCO of the title, and the fault for which it is refused
+        # TCI and TCO of the title, and the fault for which it is refused (63: with a recording)
         for title, number in (((0, 0), 21), ((0, 25), 63)):
             whole = write_programme(self, [title, *times], name="whole.stl", first=0)
             for recording in list[list[str]]([[], [pes, "--origin", "0"]]):
@@ -291,7 +293,7 @@ class StepsBack(Case):
     def test_the_sentence_names_a_step_back_before_subtitles(self) -> None:
         stl = write_programme(self, subtitle_times(9))
         for by, words in ((150, "the PTS go back by 5 s 10 frames in PES packet 10, after "
-                           "00:00:11:10; 2 of 9 subtitles"), (5, "")):
+                           "00:00:11:10; 2 of 9 subtitles"), (5, "")):  # to 11:20, after 11:10
             sent = make_delay(-by, 300 * TICKS - 1)(schedule_pages(self, stl))
             judged_pair = judge_files(self, stl, self.write("one.pes", join_pes_packets(sent)),
                                       "--origin", "0", "--every", "25")

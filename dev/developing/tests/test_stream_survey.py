@@ -79,7 +79,8 @@ class Lines(Case):
         return maker.data
 
     def test_samples_no_pts_long_after_the_last_pcr(self) -> None:
-        # TS packets between PCRs, and the most after the last PCR for a comparison with the PTS
+        # TS packets between PCRs, and the most after the last PCR for a comparison with the PTS:
+        # fewer than four times as many, or than 256
         for interval, most in ((1, 255), (64, 255), (65, 259), (200, 799)):
             for after_last in (most, most + 1):
                 lines = self.list_lines(self.make_clock_stream(interval, after_last), "ahead")

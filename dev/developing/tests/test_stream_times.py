@@ -97,8 +97,9 @@ class ClockTables(unittest.TestCase):
 
     def test_splits_a_programme_at_breaks(self) -> None:
         five = MIN_BREAK_FRAMES
-        # For each stretch of nine page changes: its time base, and its origin as a frame. Expected
-        # is the number of page changes before the end of each part.
+        # For each stretch of nine page changes: its time base, and the frame at its first PTS,
+        # which falls by five seconds or grows by a minute at a break. Expected is the number of
+        # page changes before the end of each part.
         for tracks, ends in (
                 ([(0, 0)], [9]), ([(0, 0), (0, -five)], [9, 18]), ([(0, 0), (0, 1 - five)], [18]),
                 ([(0, 0), (0, -1)], [18]), ([(0, 0), (0, 1)], [18]),
@@ -150,6 +151,7 @@ class ClockTables(unittest.TestCase):
             ([], [late._replace(ticks=9001)], [(500, 1)]), ([], [late._replace(ticks=0)], []),
             ([], [late, late], [(500, 90_000)] * 2),
             ([marker], [], [(100, 0)]), ([marker], [late], [(100, 0), (500, 90_000)]),
+            # a PCR step at the gap marker that does not fit between the PTS 100 and 200
             ([marker], [make_pcr_step(150, 99_000, "broken")], [(100, 0)]),
             ([], [late._replace(counters="whole"), late._replace(counters="unknown")], [])]
         for markers, pcr_steps, expected in rows:
@@ -258,6 +260,7 @@ class ClockTables(unittest.TestCase):
                              (every, within, more))
 
     def test_finds_clock_jumps_where_nothing_is_missing(self) -> None:
+        # 99,000 ticks usually have 1100 TS packets; a jump has fewer than a tenth of them.
         for item, expected in (
                 (make_pcr_step(5, 99_000, "whole"), [ClockJump(5, 90_000)]),
                 (make_pcr_step(5, 99_000, "broken"), []),
