@@ -252,6 +252,7 @@ class Clones(Case):
             self.check(name, os.path.realpath(resolve_script(path)), os.path.realpath(program))
 
     def test_prefers_a_program_that_was_built_here(self) -> None:
+        # what a valid program prints when tools/program tries it
         stored = self.clone.path("crates", "subttx", "stdout")
         self.clone.check_runs("there is none yet")
         self.clone.write("other", f"#!/bin/sh\n[ $2 = 00 ] && exec echo built\ncat {stored}\n")
@@ -415,7 +416,7 @@ class ProvingClones(Case):
             "no room", "subttx: the program was not linked: see the messages above"]))
         clone.check_nothing_is_left()
 
-    def test_refuses_a_line_with_unproved_functions(self) -> None:
+    def test_refuses_all_output_but_a_line_of_proved_functions(self) -> None:
         clone = BareClone(self)
         for name, line in (("a word", f"{LINE} foreign=low::adds"), ("no line", "only=1 proved=1"),
                            ("a warning", f"warning: no call of `low::adds` can meet it\n{LINE}")):
@@ -447,7 +448,7 @@ class ProvingClones(Case):
                   and any("were changed" in it for it in process.told), process)
         clone.check_nothing_is_left()
 
-    def test_stops_the_toolchain_after_an_interrupt(self) -> None:
+    def test_stops_the_toolchain_after_sigterm(self) -> None:
         pids = self.path("pids")
         clone = BareClone(self, first=f"echo $$ >>'{pids}'; exec sleep 600")
         running = subprocess.Popen([clone.path("tools", "prove")], stdin=subprocess.DEVNULL,

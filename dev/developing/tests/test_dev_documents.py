@@ -229,6 +229,8 @@ STATED: list[tuple[str, str, object]] = [
     ("HEADLINE.md", "Each header of the page has {} and", join_control_bits())]
 FIELD = re.compile(r"\b(?:C\d+|X/\d+|TC[IO]|DFC|DSC|CCT|EBN|CS|CF|JC|VP|SGN|SN)\b")
 OPTION_NAME = re.compile(r"(?<![\w-])--[a-z][a-z-]*")
+# Faults of `packet`, and of files and memory, which the table of refusals does not have
+PACKET_FAULTS, DEVICE_FAULTS = {3, 4}, {26, 29, 41, 42, 58, 90, 91}
 # Options of other programs that the documents mention.
 OTHER_OPTIONS = {"--forked", "--now", "--sshloginfile", "--workdir", "--joblog", "--resume-failed",
                  "--array", "--system", "--list-axioms"}
@@ -259,7 +261,7 @@ class StatedFacts(Case):
 
     def test_the_table_of_refusals_has_each_fault(self) -> None:
         self.check("numbers", sorted(map(int, self.list_fault_rows())),
-                   sorted(FAULT_NUMBERS - {3, 4}))
+                   sorted(FAULT_NUMBERS - PACKET_FAULTS))
 
     @staticmethod
     def list_fault_rows() -> list[str]:
@@ -283,7 +285,7 @@ class StatedFacts(Case):
         ranges = [item.split(" to ") for group in groups for item in group.split(", ")]
         self.check("numbers", sorted(number for first, *last in ranges for number in range(
             int(first), int((last or [first])[0]) + 1)), sorted({
-                *map(int, self.list_fault_rows() + arguments), 3, 4, 26, 29, 41, 42, 58, 90, 91}))
+                *map(int, self.list_fault_rows() + arguments), *PACKET_FAULTS, *DEVICE_FAULTS}))
 
     def test_the_alarm_file_of_the_manual_waives_the_faults_marked_as_next(self) -> None:
         listed = re.findall(r"`(\d+) warning`", read_document("docs/MANUAL.md").partition(

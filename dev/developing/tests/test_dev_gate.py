@@ -81,7 +81,7 @@ class JobScripts(Case):
 
     def test_runs_each_line_as_a_job_of_slurm(self) -> None:
         statuses = [self.call_shell(["bash", SLURM_SCRIPT], SLURM_ARRAY_TASK_ID=f"{line}").status
-                    for line in range(1, 8)]  # the list has no line 7
+                    for line in range(1, 8)]  # line 7 is missing; a refused pair was judged
         self.check("statuses", statuses, [0, 0, 0, 0, 1, 1, 1])
         self.check_results()
 
@@ -186,7 +186,7 @@ class RecordingProperties(Case):
             for seed in self.SEEDS:
                 self.check(f"{name}, seed {seed}", find_violation(seed), None)
 
-    def test_the_longest_loss_is_as_long_as_continuity_counters_can_show(self) -> None:
+    def test_the_longest_loss_is_a_packet_shorter_than_one_that_looks_like_a_repeat(self) -> None:
         longest = 0  # number of TS packets in a row without an intact copy
         for seed in self.SEEDS:
             chance = Random(seed)
