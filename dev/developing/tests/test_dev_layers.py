@@ -152,7 +152,7 @@ class Imports(Case):
             wrong = list_wrong_imports(name, list_imports(text, name, is_package=False))
             self.must(f"{name}: {text}", (not wrong) == is_right, wrong)
 
-    def test_modules_run_on_python_3_9(self) -> None:
+    def test_the_tools_have_no_line_that_python_3_9_rejects(self) -> None:
         for path in modules(PACKAGES[0]):
             self.check(get_module_name(path), list_newer_lines(read(path) or ""), [])
 
@@ -163,7 +163,7 @@ class Imports(Case):
         self.check("annotations",
                    list_newer_lines("a: int | None = 3\ndef b() -> int | None: pass"), [])
 
-    def test_modules_have_no_import_cycle(self) -> None:
+    def test_the_tools_have_no_import_cycle(self) -> None:
         texts = {get_module_name(path): read(path) or "" for path in modules(PACKAGES[0])
                  if not path.endswith("__init__.py")}
         self.check("cycle", find_cycle({
@@ -182,7 +182,7 @@ class Imports(Case):
     def test_finds_long_lines(self) -> None:
         self.check("lines", list_long_lines("a" * 100 + "\n" + "ä" * 101 + "\n"), [2])
 
-    def test_only_one_module_wraps_pts(self) -> None:
+    def test_only_one_module_of_the_tools_wraps_pts(self) -> None:
         names = [get_module_name(path) for path in modules(PACKAGES[0])
                  if list_wrapping_lines(read(path) or "")]
         self.check("modules", names, ["subtitles.common.times"])

@@ -115,7 +115,7 @@ class Silences(unittest.TestCase):
             self.assertEqual(result[:1], [f"between {times}: 1 TS packet was lost"][:count], count)
 
 
-class FirstPictures(unittest.TestCase):
+class RecordingBounds(unittest.TestCase):
     def test_uses_the_later_of_last_pts_and_pcr(self) -> None:
         for origin, (pts, pcr, expected) in itertools.product(ORIGINS, (
                 (None, None, None), (4, None, 4), (None, 7, 7), (4, 7, 7), (7, 4, 7))):

@@ -39,7 +39,7 @@ def text_of(number: int, flags: str) -> Texts:
     return () if "b" in flags else ((20, b"same" if flags[-1] == "y" else b"%d" % number),)
 
 
-class ClockTables(unittest.TestCase):
+class TimesAndRanges(unittest.TestCase):
     def test_spans_agree_with_a_set_of_frames(self) -> None:
         chance = random.Random(7)
         for _ in range(300):
@@ -124,8 +124,8 @@ class ClockTables(unittest.TestCase):
                           for pid in (257, 258, 259)], [(9, 11), (1, 1), None])
 
     def test_finds_unusual_pts_and_the_worst_one(self) -> None:
-        # Usually PTS are 1000 ticks ahead of the PCR. Further samples, once a second, and the
-        # anomalies: how many samples show them, and the worst distance (`changed`: from the usual)
+        # Usually PTS are 1000 ticks ahead of the PCR. Further samples, and the anomalies: how many
+        # samples show them, and the worst distance (`changed`: over 0.5 s away from the usual one)
         rows: list[tuple[list[int], list[tuple[str, int, int]]]] = [
             ([], []), ([0], []), ([-1], [("behind", 1, -1)]),
             ([-5, -700, -20], [("behind", 3, -700)]),
