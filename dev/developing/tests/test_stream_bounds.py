@@ -331,9 +331,9 @@ class ClearOrigins(unittest.TestCase):
         return SimpleNamespace(best=best, others=others, early=early,
                                time_base=SimpleNamespace(find_cue_offset=lambda _: offset))
 
-    def test_an_origin_is_unclear_if_another_has_the_same_score(self) -> None:
-        # The score is the number of cues and page changes that match. Below 5 matching cues, the
-        # score of cues and texts may decide instead. If in-cues and out-cues have different delays,
+    def test_an_origin_is_unclear_if_another_has_at_least_its_score(self) -> None:
+        # The score is `matches` + `pages`. Below 5 matches, another origin with as high a sum of
+        # `matches` + `texts` is enough. If in-cues and out-cues have different delays (`offset`),
         # other origins up to MAX_CUE_OFFSET frames away, or without a matching text, do not count.
         five, four, offset, most = self.fit(5, 5, 2), self.fit(4, 4, 2), self.OFFSET, MAX_CUE_OFFSET
         for best, other, cue_offset, expected in (

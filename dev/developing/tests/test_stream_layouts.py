@@ -375,13 +375,13 @@ class ProposedItems(Case):
             self.check(f"{others}: evidence", evidence.measure_evidence(Layout(
                 double=True), [("double", 0)]), ItemEvidence("double", 10 + others, as_sent=10))
 
-    def test_removes_the_item_with_the_least_evidence_first(self) -> None:
+    def test_removes_the_item_that_changes_the_fewest_subtitles_first(self) -> None:
         evidence = Evidence(draw_sent_subtitles(
             [WHITE] * 3 + [SPACES] * 5 + make_unchanged_texts(92)), ENGLISH)
         self.check("removed", evidence.remove_unsupported(read_intended_layout(
             "strip=07,trim"))[1], [{("strip", 7)}, {("trim", 0)}])  # 0: the item has no code
 
-    def test_keeps_the_weaker_evidence_of_codes_before_and_after_a_colour(self) -> None:
+    def test_keeps_the_weaker_evidence_of_two_items_with_the_same_text(self) -> None:
         # The codes change all 100 pages, but their places around the colour only 12.
         layout, coloured = read_intended_layout("before=0D*0B0B"), SentText(b"\3Hi", b"\3Hi")
         evidence = Evidence(draw_sent_subtitles(

@@ -238,7 +238,7 @@ class TimesAndRanges(unittest.TestCase):
                 expected = max(begin // step - 1, 0), min(end // step, count - 1)
                 self.assertEqual(result, expected, (hours, before, after, length, origin))
 
-    def test_skips_runs_that_are_more_than_a_frame_before_or_after_the_range(self) -> None:
+    def test_skips_runs_more_than_a_frame_before_a_range_and_none_near_it(self) -> None:
         # A run from frame `first` on, and the range from frame 5 to 8, with frame `shift` at PTS 0
         for first, step, length, shift in itertools.product(
                 range(14), (-2, -1, 0, 1, 3), (1, 2, 5), (0, 5, 7, 9)):
