@@ -50,7 +50,8 @@ class Answers(Case):
                 self.assertEqual(error, "" if verdict else
                                  f"check gave no verdict: {row['reported']}, status {status}")
                 self.assertEqual("" if error else check_output.verdict, verdict)
-                # Lines are reported while `check` runs; `accepted` only if the verdict is.
+                # Lines are reported while `check` runs; from the first `accepted` on, only the last
+                # line, and only if it is the verdict.
                 self.assertEqual(received, [*itertools.takewhile(GOOD.__ne__, printed),
                                             *[GOOD] * (verdict == "accepted")])
                 self.assertEqual([*check_output.read_lines()], printed)
@@ -73,7 +74,7 @@ class Answers(Case):
                               mock.Mock(side_effect=error))
             kill.assert_called_once_with()
 
-    def test_an_output_without_a_last_line_gives_its_last_time_and_no_verdict(self) -> None:
+    def test_an_unfinished_output_gives_the_last_time_on_its_last_line_and_no_verdict(self) -> None:
         rows: list[tuple[list[str], str | None]] = [
             ([], None), ([CONTENT], "00:00:05:00"), ([CONTENT, LENGTH], None),
             ([TRUSTED], "00:00:07:00")]
@@ -87,6 +88,7 @@ class Answers(Case):
         verdict, nothing = make_part_verdict([]), mock.Mock()
         pair = PairJudge(verdict, nothing, nothing, nothing, False)
         self.assertEqual(pair.stop("10:00"), "10:00")
+        # The last line of `check`, and its time; a line without a time counts as nothing.
         for line, progress in ((CONTENT, "all up to 00:00:05:00"), (LENGTH, "nothing yet")):
             pair.current_part = make_part(0, 9, 0, CheckOutput(self.path("list")))
             pair.current_part.check_output.read_line(line)
@@ -151,10 +153,11 @@ class ChangingFiles(Case):
 
 
 class StoredRecordings(Case):
-    def test_stores_the_complete_recording_of_a_pair_with_keep(self) -> None:
+    def test_stores_the_pes_packets_of_a_file_or_all_data_of_a_pipe_with_keep(self) -> None:
         pes = read_example_file("story.pes")
         stream = make_stream_of_pids((TELETEXT_PID, pes))
         path = self.write("one.ts", stream)
+        # With the second origin, nothing was recorded at the time of the subtitles.
         for origin, word in (("0", "accepted"), ("900000000", "not judged")):
             for recording, name, data in ((path, "one.recording.pes", pes),
                                           (write_pipe(self, stream), "one.recording.ts", stream)):

@@ -260,7 +260,8 @@ class CausesByHand(unittest.TestCase):
                     self.assertIn(item and item.subtitle_index, places)
 
     def test_finds_causes_behind_a_delay_of_all_subtitles(self) -> None:
-        """Three subtitles are 10 frames late. The page of the second changes before its TCO."""
+        """Three subtitles are 10 frames late. By a clock that is 10 frames later, the second may
+        have another fault: its page changes before frame 260, or is not erased then."""
         # The second page and the pages after it, with their frames, and its cause.
         for sent, expected in (
                 ("210:b 260:-", "late 10, b"), ("210:b 230:b,p 260:-", "wrong place, b,p"),
@@ -288,8 +289,8 @@ class CausesByHand(unittest.TestCase):
         PES packets from 103 to 140 are judged, which faults 63 and 74 at these frames report."""
         # The first frame of the decoded blank page before the subtitle, the first and last frame
         # that the PCR covers, and whether the faults 63 and 74 have a cause. The first has one if
-        # the blank page is decoded at 100 or the recording covers 97, as long before 100 as 103 is
-        # after it; the second has one if the recording covers 150.
+        # the blank page is decoded by frame 100 or the recording covers 97, as long before 100 as
+        # 103 is after it; the second has one if the recording covers 150.
         for blank_from, first, last, have_causes in (
                 (100, 100, 149, (True, False)), (101, 97, 149, (True, False)),
                 (101, 98, 149, (False, False)), (101, 98, 150, (False, True)),
