@@ -153,6 +153,7 @@ class Choices(Case):
                  "option": "`--option`"}
         for what in CHOICES:
             self.must(what, words[what] in rule, rule)
+        # Options that the user must give
         for option in ("layout", "within", "keeping", "breaks", "every", "option", "allow-lost",
                        "severity"):
             self.must(f"--{option}", f"`--{option}`" in rule, rule)
@@ -177,6 +178,7 @@ class Magazines(Case):
                 judged = judge_files(self, stl, path, "--page", page, *WORDS)
                 self.check(f"{page}: {verdict}", (
                     judged.timed_verdict, judged.result["request"]["page"]), (verdict, page))
+            # The last `texts` of the loop are on the other page.
             path = self.write("other.pes", join_pes_packets(texts))
             judged = judge_files(self, stl, path, "--page", page, *WORDS)
             self.check(f"{page}: not sent", judged.timed_verdict, "not judged")
@@ -184,7 +186,7 @@ class Magazines(Case):
 
 ALL_ACCEPTED = "accepted 961 frames 49 transmissions; not checked: no_video, losses"
 # The first of the PES packets that have another start code or length, and the last line. The page
-# is sent in the PES packets up to 48.
+# is sent in the PES packets up to 48. Fault 74: the recording ends before the last TCO.
 TELETEXT_ENDS = {1: "refused 74 Late frame 00:00:04:00", 20: "refused 74 Late frame 00:00:19:10",
                  48: "refused 74 Late frame 00:00:42:00", 49: ALL_ACCEPTED, 52: ALL_ACCEPTED}
 
@@ -238,7 +240,8 @@ FIRST_TCI, DISTANCE, DURATION = 900_000, 100, 60
 LINES = ("Good evening.", "Here", "is the news of today", "Thank you, Anne.", "Yes", "No no no")
 
 
-# The layouts that all subtitles show, and why one is not proposed.
+# Layouts, each of which all subtitles of a recording show, and why it is not proposed, or an empty
+# text if it is. The last is that without --layout.
 PROPOSED_LAYOUTS = {
     "before=0B0B08": "all would flash",
     "before=0B": "receivers show a line only after two start boxes",
@@ -248,6 +251,7 @@ PROPOSED_LAYOUTS = {
 
 ON_TIME = Delays(begins=Counter({0: 3}), ends=Counter({0: 3}), early=[], unseen=[])
 LATE = Delays(begins=Counter({0: 1, 2: 1}), ends=Counter({1: 4}), early=[], unseen=[])
+# `Pace(REGULAR, 1, 3)`: PES packets are a frame apart, and 3 frames if one is lost, so --pace is 2.
 MEASURED = MeasuredRecording(
     pid="0x101", lines=[], repeats=[Repeats(9, 25, 7, 25)], paces=[Pace(REGULAR, 1, 3)],
     delays=[ON_TIME], headers=(9, 0), is_alone=True, option_bits={0}, sendings=[])
@@ -301,6 +305,8 @@ class Profiles(Case):
         self.check("proposed", self.propose_options(stl, pes, "--origin", "0"), [
             "--page 888", "--option english", "--every 25", "--within 2",
             "--late 0:3,1:4,2:4/0:12", "--layout after=0A"])
+        # Of 12 in-cues, 4 each are 0, 1 and 2 frames late. The first begins the recording, so it is
+        # not measured.
         again = judge_files(self, stl, pes, "--origin", "0", "--profile", self.path("profile"))
         self.check("verdict", again.timed_verdict, "accepted")
         self.check("delays", again.result["complete_after"], {
@@ -329,6 +335,7 @@ class Profiles(Case):
             lines = self.measure_profile(stl, self.write("one.pes", join_pes_packets(sent)))
             self.check(f"{name}: proposed", [line for line in lines
                                              if line.startswith("--layout")], [])
+            # Of the 12 subtitles, 5 are listed.
             for part in (printed, "The nearest, ", against, "# against it: 7 more"):
                 self.must(f"{name}: {part}", any(part in line for line in lines), lines)
 
@@ -361,7 +368,7 @@ class Profiles(Case):
         request = make_example_request("a.stl", "a.ts", "--origin", "0")
         same = ["--page 888", "--pid 0x101", "--option english", "--every 25", "--pace 2"]
         # What differs in a second recording, the option that is no longer proposed for both, and
-        # new options.
+        # new options. Polish has the control bits of English, and the letter CE 61.
         rows: list[tuple[dict[str, Any], str, str]] = [
             ({}, "", ""), ({"pid": "0x102"}, "--pid 0x101", ""), ({"pid": None}, "--pid 0x101", ""),
             ({"option_bits": {4}}, "--option english", ""),

@@ -54,8 +54,8 @@ class Results(Case):
 
 
 class Folders(Case):
-    def test_pairs_only_regular_files(self) -> None:
-        # What a.stl and a.ts are: a file, or a link to the named target.
+    def test_pairs_only_regular_files_and_links_to_them(self) -> None:
+        # What a.stl and a.ts are: `to` is a link to a file or folder, and `link` a link to nothing.
         for number, (first, second, is_pair) in enumerate([
                 ("file", "file", True), ("folder", "file", False), ("file", "folder", False),
                 ("pipe", "file", False), ("file", "pipe", False), ("file", "link", False),
@@ -81,7 +81,7 @@ class Folders(Case):
         os.mkdir(self.path("in"))
         files = {self.write("in/a.stl", b""), self.write("in/a.ts", b"")}
         wrong = make_default_options("--origin", "5")
-        wrong.start = "tcp"
+        wrong.start = "tcp"  # not allowed with --origin
         for options in (make_default_options(), wrong):
             [item] = find_folder_pairs(self.path("in"), options)
             self.check(f"{options}", (item.request is None, {*item.files} - {None}),
@@ -149,7 +149,8 @@ class SubtitleFiles(Case):
             "character set 001 of region 0000 (German)", *["an unreadable character set"] * 2])
 
     def test_continues_the_same_text_of_a_subtitle_that_ends_within_the_tolerance(self) -> None:
-        """The frames of two subtitles with the same text are 100 to 159 and 162 to 219."""
+        """The frames of two subtitles with the same text are 100 to 159 and 162 to 219. The judged
+        range begins with the second, which continues the first if --within covers the pause."""
         stl = write_subtitle_file(self, [(100, 160, b"text"), (162, 220, b"text")])
         names = OutputNames("one", self.folder, None)
         names.set_subtitle_file(stl)
@@ -164,8 +165,8 @@ class SubtitleFiles(Case):
 class EstimatedOrigins(Case):
     def test_rounds_a_delay_to_the_nearest_frame(self) -> None:
         clock = Clock(5, START)
-        # The delay in ticks, the status of the estimate (0: clear), the delay in frames, and how
-        # it is printed. A frame lasts 3600 ticks, and up to 5 ticks are ignored.
+        # The delay in ticks, the status of the estimate (0: clear), the rounded delay in frames,
+        # and the exact delay, which is printed. A frame lasts 3600 ticks.
         for away, status, expected, printed in (
                 (0, 0, 0, None), (3 * TICKS, 0, 3, "3 frames late"),
                 (-TICKS, 0, -1, "1 frame early"), (TICKS - 1, 0, 1, "3599 ticks late"),
@@ -200,13 +201,15 @@ class EstimatedOrigins(Case):
                        [f"{words} subtitles are 1 frame late"])
 
     def test_asks_about_a_delay_of_a_picture_distance(self) -> None:
+        # The delay in ticks, and whether it is exactly `picture_offset`: then a question follows.
         for away, is_asked in ((TICKS, True), (TICKS + 5, False), (2 * TICKS, False)):
             printed = add_delay(Clock(5, START, picture_offset=1),
                                 OriginEstimate(0, ticks_late=away, printed=["one"]))[1]
             self.must(f"{away}", bool(printed[1:]) == is_asked, printed)
 
-    def test_prints_no_advice_for_several_runs_or_breaks(self) -> None:
-        # The number of airings, the number of breaks, and whether the reason has no advice.
+    def test_gives_only_the_lines_for_several_airings_or_another_number_of_breaks(self) -> None:
+        # The number of airings, the number of breaks if it is not that of --breaks, and whether the
+        # reason is the line alone, without "the clock cannot be estimated: ".
         for runs, breaks, is_alone in ((0, None, False), (2, None, True), (0, 0, True),
                                        (0, 2, True), (3, 2, True)):
             why = make_unclear_origin(OriginEstimate(airings=[(0, 9)] * runs, breaks=breaks,
@@ -219,7 +222,8 @@ class DecodedPages(Case):
     def test_a_page_must_be_closed_before_its_tco(self) -> None:
         """The page of a subtitle in the frames 100 to 149 is sent in frame 100."""
         subtitle = Subtitle(1, 1, 100, 150, 20, 2, b"a")
-        # The frame of the header that closes the page, and the delay in frames.
+        # The frame of the header that closes the page, and the delay in frames if the page must be
+        # closed (`is_complete`). Otherwise it is 0.
         for closed, expected in ((100, 0), (101, 1), (149, 49), (150, None), (170, None)):
             page = [HEADER, make_numbered_row(20, b"a")]
             data = make_pes_packet(TICKS * 100, page + [CLOSING]) if closed == 100 else \
@@ -249,7 +253,8 @@ class DecodedPages(Case):
         self.check("screen", Timeline(packets, PAGE, 0, 0, (1, 1)).states[-1].screen, None)
 
     def test_frames_around_unreadable_packets_are_uncertain(self) -> None:
-        """Every 10 frames, from 0 to 90, there is a PES packet. Some cannot be read."""
+        """Every 10 frames, from 0 to 90, there is a PES packet. Some cannot be read. The frames
+        from the packet before them to the packet after them, if there is one, are uncertain."""
         good = [make_pes_packet(TICKS * frame, [HEADER, CLOSING]) for frame in range(0, 100, 10)]
         broken = [item[:45] + b"\x20" + item[46:] for item in good]
         rows: list[tuple[tuple[int, ...], list[Span]]] = [
@@ -279,6 +284,7 @@ class DecodedPages(Case):
         first, second = Span(90, 92), Span(120, 123)
         steady = [*range(5, first.first), *range(first.last + 1, second.first),
                   *range(second.last + 1, 200)]
+        # Two frames without a PES packet are no pause, but three are.
         for frames, pauses in (([*range(50), *range(52, 99)], []), (steady, [first, second])):
             decoded = decode_packets(self, b"".join(
                 make_pes_packet(TICKS * frame, [HEADER, CLOSING]) for frame in frames))
