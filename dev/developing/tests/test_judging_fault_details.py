@@ -63,7 +63,7 @@ class FaultDetails(Case):
     def part(self, output: list[str], number: int, stl: str) -> Part:
         """Return a part of a second, in which one of six subtitles is expected.
 
-        If it is refused, subtitles N and N + 1 are the causes of faults 63 and 74 in part N.
+        With `REFUSED_LINES`, subtitle N + 1 is the cause of fault 63 in part N, N + 2 that of 74.
         """
         lines = [line.replace("{}", str(number)) for line in output]
         times = [f"00:00:0{at}:00" for at in (number, number + 1)]

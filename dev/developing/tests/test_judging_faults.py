@@ -83,13 +83,15 @@ class Descriptions(Case):
                 (-1, "1 early 1; 2 early 3; 3 late 1", "1 frame early; also another delay (2)"),
                 (2, "1 late 2; 6 another text in a pause (at 10:00)",
                  "2 frames late; also another text in a pause (1)")):
-            words = describe_faults(Facts("refused", 9, CONTENT, True, 9, delay=delay,
-                                          causes=make_causes(*parse_causes(causes))))
+            words = describe_faults(Facts(
+                "refused", subtitles=9, first=CONTENT, has_cause=True, faults=9, delay=delay,
+                causes=make_causes(*parse_causes(causes))))
             self.check(causes, words, f"all 9 subtitles appeared {expected}")
 
     def test_lists_other_faults_after_a_cause(self) -> None:
         causes = make_causes(cause(2, LATE, 3))
-        # The number of faults by fault number, and the end of the sentence.
+        # The number of faults by fault number, and the end of the sentence: four numbers at most,
+        # worst first, without 63, 72 and 74, which the cause explains.
         for numbers, expected in (
                 ({72: 9}, ""), ({72: 9, 68: 1}, "; also 68 Name"), ({63: 1, 72: 9, 74: 1}, ""),
                 ({73: 2, 68: 1, 72: 9}, "; also 68 Name and 73 Name (2)"),
@@ -99,7 +101,8 @@ class Descriptions(Case):
                 ({79: 1, 73: 1, 69: 1, 68: 1, 67: 1, 66: 1},
                  "; also 67 Name, 68 Name, 79 Name, 66 Name and 2 more numbers")):
             counts = [FaultCount(number, "Name", count) for number, count in numbers.items()]
-            words = describe_faults(Facts("refused", 9, CONTENT, True, 9, counts, causes=causes))
+            words = describe_faults(Facts("refused", subtitles=9, first=CONTENT, has_cause=True,
+                                          faults=9, counts=counts, causes=causes))
             self.check(f"{numbers}", words, describe_causes(causes, "english") + expected)
 
     def test_counts_faults_without_a_cause(self) -> None:
@@ -107,14 +110,16 @@ class Descriptions(Case):
         for counts, expected in (([FaultCount(68, "Parity", 3)], "; 3 faults in all"),
                                  ([FaultCount(73, "Gap", 1), FaultCount(68, "Parity", 2)],
                                   "; 3 faults in all: 68 Parity (2) and 73 Gap")):
-            words = describe_faults(Facts("refused", 9, parity, False, 3, counts, "a letter"))
+            words = describe_faults(Facts("refused", subtitles=9, first=parity, faults=3,
+                                          counts=counts, hint="a letter"))
             self.check(expected, words, f"at 00:00:01:00, a letter{expected}")
 
     def test_finds_the_pes_packet_of_a_fault(self) -> None:
         """PES packets 0 to 3 are at the frames 0, 10, 10 and 20."""
         data = b"".join(make_pes_packet(TICKS * frame, [HEADER, CLOSING])
                         for frame in (0, 10, 10, 20))
-        # The line of the fault, --within, and the number of the PES packet.
+        # The line of the fault, --within, and the number of the PES packet: the one with the named
+        # Teletext packet, else the last of the frame; the first for fault 73 without --within.
         for line, within, pes in (
                 ("refused 73 Gap frame 00:00:00:10", 0, 1),
                 ("refused 73 Gap frame 00:00:00:10", 1, 2),
@@ -142,7 +147,8 @@ class Descriptions(Case):
         data = make_pes_packet(0, [HEADER]) + make_pes_packet(9, [CLOSING])
         decoded = decode_packets(self, data, within=1)
         fault = parse_single_fault("refused 67 Control frame 00:00:00:00 packet 0")
-        self.check("headers", len(find_fault_place(fault, decoded.packets, decoded).headers), 1)
+        headers = find_fault_place(fault, decoded.packets, decoded).headers
+        self.check("headers, without CLOSING, which has another page number", len(headers), 1)
 
     def test_reports_why_the_teletext_ends(self) -> None:
         # Five PES packets, after which the PID has other data.
@@ -158,7 +164,9 @@ class Descriptions(Case):
     def test_reports_the_longest_gap_without_losses(self) -> None:
         each = tuple(range(0, 1001, 100))
         less, cues = (*each[:5], *each[6:]), [(frame, frame + 9) for frame in each]
-        # The frames of headers, the last frame, --every, all fault numbers, the cues, and the gap.
+        # The frames of headers, the last frame, --every, all fault numbers, the cues, and the gap,
+        # up to a header or the end of the last frame. With fault 38, some packets are not read. The
+        # usual interval is named if --every allows it; between cues, there is no repeat to measure.
         rows: list[tuple[tuple[int, ...], int, int, set[int], list[tuple[int, int]], str]] = [
             (each, 1000, 50, {73}, [], "100 frames"), (each, 1000, 99, {73}, [], "100 frames"),
             (each, 1000, 100, {73}, [], ""), (each, 1000, 50, {73, 38}, [], ""),
@@ -179,7 +187,7 @@ class Descriptions(Case):
                 self.check(f"{frames} {numbers} {origin} {ticks}", result,
                            expected and f"the page had no header for up to {expected}")
 
-    def test_gives_a_hint_for_the_first_fault_of_each_number(self) -> None:
+    def test_gives_a_hint_for_the_first_fault_of_each_number_in_each_part(self) -> None:
         """Three parts: one with wrong headers and a gap, an accepted one, and one with a gap."""
         data = b"".join(make_pes_packet(
             (ORIGIN + TICKS * frame) % CLOCK, [NO_C4 if frame % 50 else HEADER, CLOSING])
@@ -229,7 +237,8 @@ class Descriptions(Case):
 
 class ProgramCalls(Case):
     def test_uses_only_output_that_matches_the_exit_status(self) -> None:
-        # The lines and the status of a program, and whether the lines are returned.
+        # The lines and the status of a program, and whether the lines are returned. Of all faults,
+        # only 82, a file without subtitles, is a result.
         rows: list[tuple[list[str], int, bool]] = [
             (["a", "b"], 0, True), ([], 0, True), (["refused 82 NoSubtitles"], 1, True),
             (["refused 50 Character block 1 at 6"], 1, False), (["a"], 1, False), ([], 2, False),
