@@ -107,7 +107,7 @@ def delete_between(first: int, last: int) -> Change:
                          if not first < pts // TICKS - MIDNIGHT < last]
 
 
-# Programmes, and the beginning of the sentence about each
+# Programmes, whose pages are repeated every 25 frames, and the beginning of the sentence about each
 PROGRAMMES: Mapping[str, tuple[Programme, str]] = {
     "a subtitle over midnight": (Programme(OVER), "Accepted: all 4 subtitles have the right text"),
     "a pause": (Programme(PAUSE), "Accepted: all 4 subtitles have the right text"),
