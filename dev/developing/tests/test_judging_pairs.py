@@ -50,7 +50,8 @@ class UnreadablePackets(ProgrammeCase):
 
     def test_reports_gap_markers_and_trusts_the_frames_between_them(self) -> None:
         def time(sent: int, frames_earlier: int = 0) -> str:
-            """Return the time of a PES packet of the transmission."""
+            """Return the time of a PES packet of the transmission, or of an earlier frame. The
+            frame of the last PES packet before a gap marker is not trusted."""
             return format_frame((decode_pts(self.pes[sent]) - ORIGIN) // TICKS - frames_earlier)
 
         judged = self.judge_with_gaps()
@@ -105,6 +106,7 @@ accent.stl              | one      | refused
 accent.stl recording.ts | one      | refused
 """
 # What was sent, with options of qc, and the sentence about it. `mild` is a file with `73 warning`.
+# The warning `repeat`: with --every 250, the default, a missing repeat would not be noticed.
 SENTENCES = {
     "2-20 late by 7": "Refused: 19 of 20 subtitles appeared 7 frames late (the first at "
     "00:00:08:00, the last at 00:01:20:00).",
@@ -194,7 +196,8 @@ class Sentences(StoryCase):
 
 
 # The options --page, --option and --complete, and the verdict of the pair. The page of the pair
-# `german` is 1A9; in the pair `without an end`, no header follows that ends the last page.
+# `german` is 1A9, and its file is refused without --option german: English has no "ü". In the pair
+# `without an end`, no header follows that ends the last page; --complete is the default.
 OPTIONS = """
 pair             | options                     | verdict
 german           | --page 1a9 --option german  | accepted
@@ -347,7 +350,7 @@ class LossEvidence(Case):
         too_close = Pace(REGULAR, interval=1, loss_interval=3, hidden_places=5)
         irregular = "on this PID alone, since the PES packets come at irregular intervals"
         # The pace, the number of frames of the shortest loss that would not be noticed, and the
-        # recording
+        # recording. With a loss interval of 3 frames, losses of up to 2 (0.08 s) may be hidden.
         self.check_rows(describe_unchecked_losses, {
             "a pause": ((Pace(PAUSED, 1701), 15, stream), "losses of 0.6 s or more on this PID "
                         "alone, since there is no PES packet for up to 1701 frames"),
@@ -425,6 +428,7 @@ class Pictures(Case):
             "only one of two videos": ((make_leads(500, 4500), TWO_VIDEOS), [UNREAD])})
 
     def test_says_where_no_picture_was_compared(self) -> None:
+        # Teletext without a picture is reported after 5 seconds, and three usual intervals.
         self.check_kinds({
             "all": ((make_leads(500, 4500),), []),
             "none in the first 20 seconds": ((make_leads(1500, 4500),), [HOLE]),
@@ -449,8 +453,8 @@ class Pictures(Case):
             "at another video": ((first + other_delay, TWO_VIDEOS), [JUMP]),
             "at another video, and back": (
                 (first + for_20_seconds + make_leads(2500, 4500), TWO_VIDEOS), [JUMP, JUMP]),
-            "a frame in 50 seconds": ((make_leads(500, 4500, growth=0.02),), [STEADY]),
-            "a frame in 200 seconds": ((make_leads(500, 4500, growth=0.005),), [])}
+            "3.2 frames in 160 seconds": ((make_leads(500, 4500, growth=0.02),), [STEADY]),
+            "0.8 frames in 160 seconds": ((make_leads(500, 4500, growth=0.005),), [])}
         # PTS are 20 frames ahead of the PCR. From frame 2500 on, pictures are missing, but decoding
         # times go on where they stopped: a larger lead shows pictures behind the PCR.
         ahead = [f"ahead {TELETEXT_PID} {TICKS * frame} {TICKS * 20}"
