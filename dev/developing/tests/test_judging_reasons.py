@@ -148,7 +148,8 @@ class Reasons(ProgrammeCase):
             return Packets(0, [PacketRun(at, int(run[0]), 0, 0, "h", "+".join(
                 f"88{digit}80810" for digit in run[1:])) for at, run in enumerate(runs)])
 
-        # A run is the number of PES packets, and the last digit of each header's sub-code.
+        # A run is the number of PES packets, and the last digit of each header's sub-code. The
+        # sub-codes alternate if at least four headers return to an earlier one.
         self.check_rows(lambda *runs: find_alternating_subcodes(make_runs(*runs)), {
             "one run": (("91",), []), "one sub-code": (("11",) * 9, []),
             "one, two, one, two": (("11", "12", "11", "12"), []),
@@ -173,12 +174,14 @@ class Reasons(ProgrammeCase):
         alone = LossPlace(30, far, 3, gap_marker=4)
         rows: dict[str, tuple[list[PCRStep], LossPlace]] = {
             "no step": ([], alone),
-            "a step of a second": ([PCRStep(30, far, 99_000, 9, 9000, 9, "broken")],
+            "a step that lacks a second": ([PCRStep(30, far, 99_000, 9, 9000, 9, "broken")],
                                    LossPlace(30, far, 3, 0, 90_000, 4)),
             "a step longer than the loss": ([PCRStep(30, far, 299_000, 9, 9000, 9, "broken")],
                                             alone),
             "no counter is broken": ([PCRStep(30, far, 99_000, 9, 9000, 9, "whole")], alone),
             "after the loss": ([PCRStep(far + 10, far + 30, 99_000, 9, 9000, 9, "whole")], alone)}
+        # A step of 99,000 ticks, where 9000 are usual, lacks 90,000, which fit between PTS 30 and
+        # `far`. It is a loss if the counters of other PIDs are broken too.
         for name, (steps, expected) in rows.items():
             item.pcr_steps = steps
             self.check(name, find_loss_places(item), [expected])
@@ -210,8 +213,9 @@ class Headers(Case):
         item, other = "88000810", "88100810"
         received = INITIAL_STATE._replace(is_received=True, is_open=True, header=NUMBERS)
         first, second = KEEPING_NUMBERS, OTHER_SUBCODE
-        # The flags of a PES packet (h: header, c: closing), the values of its headers, and the
-        # state before it; each header with the previous one, and whether the page was open.
+        # The flags of a PES packet (h: header, e: it erases, c: closed, o: open at the end), the
+        # values of its headers, and the state before it; each header with the previous one, and
+        # whether the page was open.
         self.check_rows(lambda flags, values, state: find_page_headers(
             PacketRun(0, 1, 0, 0, flags, values), state), {
             "no header": (("-", "", INITIAL_STATE), []),
@@ -289,7 +293,7 @@ class HeaderCounts(Case):
                                        None)})
 
     def test_names_missing_rows(self) -> None:
-        # The missing rows, the row of the fault, and how many of the missing rows were received.
+        # The rows of the page, the row of the fault, and how many packets followed the header.
         self.check_rows(describe_omitted_rows, {
             "none": (([], 22, 0), ""), "one": (([22], 22, 0), "row 22"),
             "one, of no known fault": (([22], None, 0), "row 22"),
@@ -309,7 +313,8 @@ PACKETS = {"complete": COMPLETE_PAGE, "repeat": [KEEPING_HEADER, FIRST_ROW, SECO
            "one row": ONE_ROW_LESS, "no rows": WITHOUT_ROWS, "header": [KEEPING_HEADER],
            "row": [FIRST_ROW]}
 # The frames in which packets are sent; --within; the frame in which row 22 is wrong (fault 72);
-# the frame of a fault 69 (a row was changed); and the rows that are named as missing.
+# the frame of a fault 69 (a row was changed); and the rows that are named as missing: none if a
+# row was changed between the last header that erases and the wrong frame.
 OMITTED_ROWS = """
 sent                                            | within | wrong | changed | missing
 0 complete, 25 repeat                           | 0      | 24    |         |
