@@ -222,7 +222,7 @@ class ForeignPackets(ProgrammeCase):
                                      (self.path("one.ts"), ("--pid", "0x101")),
                                      (write_pipe(self, data), ())):
                 judged = judge_files(self, self.stl, recording, *WORDS, *words)
-                name = f"{number} from {first} {words}"
+                name = f"{number} from {first} {recording} {words}"
                 self.check(f"{name}: line", judged.verdict.line, line)
                 self.check(f"{name}: reason", reason in judged.verdict.sentence, first < 49)
                 self.check(f"{name}: PES packets", judged.parts("pes"), [(f"0-{last}",)])

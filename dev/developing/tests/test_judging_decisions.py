@@ -197,7 +197,7 @@ class EstimatedOrigins(Case):
             origin = OriginEstimate(0, ticks_late=TICKS, has_all_cues=has_all_cues,
                                     first_shift=shifted,
                                     printed=["--origin 5"] * printed)
-            self.check(words, add_delay(Clock(5, START), origin)[1],
+            self.check(f"{words} {has_all_cues}", add_delay(Clock(5, START), origin)[1],
                        [f"{words} subtitles are 1 frame late"])
 
     def test_asks_about_a_delay_of_a_picture_distance(self) -> None:
@@ -222,8 +222,7 @@ class DecodedPages(Case):
     def test_a_page_must_be_closed_before_its_tco(self) -> None:
         """The page of a subtitle in the frames 100 to 149 is sent in frame 100."""
         subtitle = Subtitle(1, 1, 100, 150, 20, 2, b"a")
-        # The frame of the header that closes the page, and the delay in frames if the page must be
-        # closed (`is_complete`). Otherwise it is 0.
+        # The frame of the header that closes the page, and the delay if the page must be closed.
         for closed, expected in ((100, 0), (101, 1), (149, 49), (150, None), (170, None)):
             page = [HEADER, make_numbered_row(20, b"a")]
             data = make_pes_packet(TICKS * 100, page + [CLOSING]) if closed == 100 else \
@@ -277,8 +276,9 @@ class DecodedPages(Case):
             decoded = Timeline(Packets(0), PAGE, 0)
             for frame, page in changes:
                 decoded.record_page(frame, page)
-            self.check(f"{frames}", (list(decoded.frames), decoded.pages), (frames, pages))
-            self.check(f"{frames}: before the first", decoded.get_page_at(4), BLANK_PAGE)
+            name = ", ".join(f"{frame} {page[0][:1].decode()}" for frame, page in changes)
+            self.check(name, (list(decoded.frames), decoded.pages), (frames, pages))
+            self.check(f"{name}: before the first", decoded.get_page_at(4), BLANK_PAGE)
 
     def test_finds_pauses_of_a_regular_stream(self) -> None:
         first, second = Span(90, 92), Span(120, 123)

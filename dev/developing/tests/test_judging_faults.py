@@ -144,11 +144,10 @@ class Descriptions(Case):
                        wrong)
 
     def test_finds_the_headers_of_a_frame_with_a_wrong_control_bit(self) -> None:
-        data = make_pes_packet(0, [HEADER]) + make_pes_packet(9, [CLOSING])
+        data = make_pes_packet(0, [HEADER]) + make_pes_packet(9, [CLOSING])  # of page 8FF
         decoded = decode_packets(self, data, within=1)
         fault = parse_single_fault("refused 67 Control frame 00:00:00:00 packet 0")
-        headers = find_fault_place(fault, decoded.packets, decoded).headers
-        self.check("headers, without CLOSING, which has another page number", len(headers), 1)
+        self.check("headers", len(find_fault_place(fault, decoded.packets, decoded).headers), 1)
 
     def test_reports_why_the_teletext_ends(self) -> None:
         # Five PES packets, after which the PID has other data.
@@ -184,7 +183,7 @@ class Descriptions(Case):
                 request = make_example_request("one.stl", "one.pes", "--every", str(every),
                                                "--within", str(abs(ticks)))
                 result = describe_longest_gap((headers, ends), origin, request, numbers, times)
-                self.check(f"{frames} {numbers} {origin} {ticks}", result,
+                self.check(f"{frames} {last} {every} {numbers} {times} {origin} {ticks}", result,
                            expected and f"the page had no header for up to {expected}")
 
     def test_gives_a_hint_for_the_first_fault_of_each_number_in_each_part(self) -> None:
@@ -249,7 +248,8 @@ class ProgramCalls(Case):
                 result: list[str] | None = run_program(path, "schedule", "x")
             except Unclear as reason:
                 result = None
-                self.check("why", reason.reason, f"schedule gave no result: {''.join(lines[-1:])}")
+                self.check(f"{lines} {status}: reason", reason.reason,
+                           f"schedule gave no result: {''.join(lines[-1:])}")
             self.check(f"{lines} {status}", result, lines if is_right else None)
 
     def test_updates_the_progress_line_of_a_terminal_five_times_a_second(self) -> None:

@@ -285,7 +285,7 @@ class HiddenPages(StoryCase):
         for count in (1, 2, 3, 5, 7):
             judged = self.judge(sent[:WRONG_PAGE_INDEX] + sent[WRONG_PAGE_INDEX + count:])
             self.check_answers(f"{count} lost", judged, SILENT_FILE)
-            self.check(f"{count} lost: pace", judged.lines("pace: "),
+            self.check(f"{count} lost: printed pace", judged.lines("pace: "),
                        ["PES packets are at most 1 frame apart: --pace 1"])
             self.check(f"{count} lost: advises --pace none",
                        "--pace none" in judged.verdict.sentence, False)

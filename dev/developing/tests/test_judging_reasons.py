@@ -89,7 +89,7 @@ class Reasons(ProgrammeCase):
                 self.must(f"{length} {options}: sentence", f"the PES header of PID 0x101 {words}"
                           in judged.verdict.sentence, judged.verdict.sentence)
             for item in (changed[0], b"\0\0\1\xbe" + changed[0][4:]):
-                self.check(f"{length}: a header", check_pes_header(item, 0),
+                self.check(f"{length} {item[3]:X}: a header", check_pes_header(item, 0),
                            f"the PES header {words}")
 
     def test_reports_the_length_of_pes_headers_in_a_file(self) -> None:
