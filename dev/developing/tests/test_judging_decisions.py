@@ -9,7 +9,7 @@ from unittest import mock
 
 from developing.pes import make_pes_packet
 from developing.stl import make_gsi_block
-from subtitles.cli.batch import FolderState, FolderWatch
+from subtitles.cli.batch import FolderWatch
 from subtitles.clock.origin import OriginEstimate
 from subtitles.clock.start import Clock, RECORDING, START, TimedPart
 from subtitles.common.times import FrameRange, Span, TICKS
@@ -116,7 +116,7 @@ class Folders(Case):
         times = iter([400.0, 409.0, 418.0, 419.0])  # one search takes nine seconds
         self.check("ten seconds after the end of the search that saw the change", [
             list_ready_pairs(lambda: next(times)) for _ in range(3)], [[], [], ["two"]])
-        self.must("kept states", isinstance(watch.seen["one"], FolderState))
+        self.must("the state of the first pair is kept", "one" in watch.seen, watch.seen)
 
 
 def make_subtitle(index: int, begin: int) -> Subtitle:
