@@ -165,7 +165,7 @@ class Descriptions(Case):
         less, cues = (*each[:5], *each[6:]), [(frame, frame + 9) for frame in each]
         # The frames of headers, the last frame, --every, all fault numbers, the cues, and the gap,
         # up to a header or the end of the last frame. With fault 38, some packets are not read. The
-        # usual interval is named if --every allows it; between cues, there is no repeat to measure.
+        # usual interval of repeats (headers that are not at a cue) is named if --every allows it.
         rows: list[tuple[tuple[int, ...], int, int, set[int], list[tuple[int, int]], str]] = [
             (each, 1000, 50, {73}, [], "100 frames"), (each, 1000, 99, {73}, [], "100 frames"),
             (each, 1000, 100, {73}, [], ""), (each, 1000, 50, {73, 38}, [], ""),
