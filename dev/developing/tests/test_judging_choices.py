@@ -294,7 +294,7 @@ class Profiles(Case):
                               "26); the longest interval begins at 00:00:00:07"))
 
     def test_a_measured_profile_accepts_its_recording(self) -> None:
-        """Subtitles appear 0, 1 or 2 frames late, in turn."""
+        """Subtitles are 0, 1 or 2 frames late, in turn. The in-cue at the start is not counted."""
         stl = self.write_stl("one.stl")
         sent = schedule_pages(self, stl, "--layout", "fit,after=0A")
         for at, (pts, packets) in enumerate(sent):
@@ -305,8 +305,6 @@ class Profiles(Case):
         self.check("proposed", self.propose_options(stl, pes, "--origin", "0"), [
             "--page 888", "--option english", "--every 25", "--within 2",
             "--late 0:3,1:4,2:4/0:12", "--layout after=0A"])
-        # Of 12 in-cues, 4 each are 0, 1 and 2 frames late. The first begins the recording, so it is
-        # not measured.
         again = judge_files(self, stl, pes, "--origin", "0", "--profile", self.path("profile"))
         self.check("verdict", again.timed_verdict, "accepted")
         self.check("delays", again.result["complete_after"], {

@@ -256,6 +256,8 @@ def lose(result: list[Packet], count: int, is_announced: bool = False, frame: in
 
 
 class HiddenPages(StoryCase):
+    """Each frame from 10:00:00:00 on has a PES packet; that of 10:00:12:00 has a wrong page."""
+
     cues, origin = TIMES, 0
 
     def send_wrong_page(self, every: int = 25) -> SentPes:
