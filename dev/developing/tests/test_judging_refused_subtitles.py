@@ -85,10 +85,11 @@ class RefusedSubtitles(Case):
                                          judged.check_lines[0], judged.lines("undecided: ")),
                        (1, line, line, [first.replace(" has fault",
                                                       ", until 00:00:14:10, has fault", 1)]))
-            self.must(f"{pes}: fault 78", "refused 78 Undecided frame 00:00:10:10"
+            self.must(f"{pes}: 78 from the second TCO on", "refused 78 Undecided frame 00:00:10:10"
                       in judged.check_lines, judged.check_lines)
 
-    def test_the_sentence_names_three_refused_subtitles_and_counts_the_others(self) -> None:
+    def test_the_sentence_names_up_to_three_refused_subtitles(self) -> None:
+        # The refused subtitles, and how many more are refused and how many others are judged
         for bad, more in (((3, 5), []), (range(2, 5), []), (range(2, 6), ["1 more; 6"]),
                           (range(2, 9), ["4 more; 3"])):
             sentence = self.judge(self.write_stl(*bad), self.pes).verdict.sentence
@@ -110,7 +111,7 @@ class RefusedSubtitles(Case):
         verdicts = ["wrong" if position in (3, 7) else "right" for position in range(1, 11)]
         self.check("subtitles", [item["verdict"] for item in known["subtitles"]], verdicts)
         rows = list(csv.DictReader(self.read("x.csv").decode().splitlines()))
-        self.check("CSV", [item["verdict"] for item in rows], ["refused", *verdicts])
+        self.check("CSV: pair first", [item["verdict"] for item in rows], ["refused", *verdicts])
         row = make_row(known, "one")
         for name, text in (("JUnit", "".join(tree.fromstring(self.read("x.xml")).itertext())),
                            ("last lines of a batch", "".join(format_summary([row]))),
@@ -118,7 +119,7 @@ class RefusedSubtitles(Case):
             self.must(name, "8 subtitles judged, 2 refused" in text, text)
 
     def test_does_not_know_a_subtitle_before_one_that_overlaps_it(self) -> None:
-        early = self.write_changed_stl(4, TCI_SECONDS, 14)  # instead of 16
+        early = self.write_changed_stl(4, TCI_SECONDS, 14)  # instead of 16; 3 ends at 14:10
         judged = self.judge(early, self.pes)
         self.check("subtitles 2 to 5", [
             item["verdict"] for item in judged.result["subtitles"]][1:5],
@@ -164,7 +165,7 @@ class RefusedSubtitles(Case):
                       sentence)
 
     def test_ignores_refused_subtitles_outside_the_range(self) -> None:
-        """Subtitle 3, at 00:00:12:00, is refused, or the TCI of subtitle 7 is not a time."""
+        """Subtitle 3, at 00:00:12:00, is refused, or 7, whose TCI is no time, so in any range."""
         no_time = self.write_changed_stl(7, TCI_HOURS, 99)
         bad = self.write_stl(3)
         for stl, words, verdict, counts in (
@@ -240,7 +241,7 @@ class RefusedSubtitles(Case):
         unread = self.write("unread.pes", b"".join(
             damage_packet(item, 33) for item in packets(self.read("one.pes"))))
         odd = bytearray(self.read("good.stl"))
-        odd[11:12] = b"7"  # with an invalid DSC, all subtitles are refused
+        odd[11:12] = b"7"  # an invalid DSC refuses all subtitles, and can't be waived
         rows: list[tuple[str, list[str], str, str | None]] = [
             (self.write_stl(3), [empty], "not judged", NOT_READ),
             (self.path("bad.stl"), [unread], "not judged", NOT_READ),
@@ -263,7 +264,7 @@ class RefusedSubtitles(Case):
             judged = self.judge(self.write_stl(3), self.pes)
         self.check("verdict", judged.timed_verdict, "not judged")
 
-    def test_looks_for_each_character_once(self) -> None:
+    def test_compares_each_text_with_each_option_at_most_once(self) -> None:
         bad = range(19, 800, 19)
         file = SubtitleFile(write_subtitle_file(self, [
             (200 * at, 200 * at + 100, BAD if at in bad else b"Number %d" % at)
@@ -272,19 +273,21 @@ class RefusedSubtitles(Case):
         with mock.patch.object(subtitles, "has_characters", side_effect=has_characters) as search:
             result = find_valid_subtitles(file, faults, "english")
         self.check("judged", len(result.judged), 758)
-        self.must("once for each option", search.call_count <= 759 * len(OPTIONS),
+        self.must("these texts and `BAD`", search.call_count <= (758 + 1) * len(OPTIONS),
                   search.call_count)
 
 
 class ExpectedPages(unittest.TestCase):
-    def test_judges_others_only_after_faults_of_subtitles(self) -> None:
+    def test_others_are_judged_if_the_file_has_faults_and_fault_60(self) -> None:
+        """Fault 60 (no PES packet) is printed for a file alone only if some can be judged."""
         rows: list[tuple[set[int], bool]] = [
             ({60}, False), ({50}, False), ({50, 60}, True), (set(), False), ({10, 60}, True),
             ({72, 60}, False), ({57, 78, 60}, True)]
         for numbers, expected in rows:
             self.assertEqual(has_valid_subtitles(numbers), expected, numbers)
 
-    def test_expects_a_blank_page_between_subtitles(self) -> None:
+    def test_the_drawn_transmission_decodes_to_the_expected_pages(self) -> None:
+        """A blank page is between the subtitles, unless the second follows without a gap."""
         for gap, option in itertools.product(range(4), ("english", "german")):
             some = [Subtitle(at, at, begin, begin + 50, 20, 2, b"Number %d" % at)
                     for at, begin in ((1, 100), (2, 150 + gap))]
@@ -332,15 +335,15 @@ class LongInputs(Case):
             run.stdin.close()
             lines = run.stdout.read().decode().splitlines()
         self.check("status", run.returncode, 0)
-        self.check("over", lines[-1], f"over 0 {PACKETS_PER_WRITE * TIMES + len(parts)}")
+        self.check("bytes, packets", lines[-1], f"over 0 {PACKETS_PER_WRITE * TIMES + len(parts)}")
         reported = [line for line in lines if line.startswith(f"pes {PID} 0 1 ")]
         self.must("its PES packet", len(reported) == 1, lines)
 
-    def test_judges_around_a_refused_subtitle_after_twelve(self) -> None:
+    def test_judges_around_a_refused_subtitle_after_twelve_others(self) -> None:
         self.schedule(write_programme(self, subtitle_times(14)), "sent.pes")
         padded = b"Number 13".ljust(len(BAD), b"\x8f")
         stl = self.write("bad.stl", self.read("one.stl").replace(padded, BAD))
         status, lines = self.program("check", stl, self.path("sent.pes"), "--all")
-        self.check("status and faults", (status, [
+        self.check("status, and faults: 78 from the twelfth TCO on", (status, [
             line for line in lines if line.startswith("refused ")]), (1, [
                 "refused 50 Character block 13 at 0", "refused 78 Undecided frame 00:00:50:10"]))

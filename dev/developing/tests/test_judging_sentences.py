@@ -35,8 +35,9 @@ from .transmissions import (
     CLOSING, delay_subtitle, HEADER, join_pes_packets, schedule_pages, SentPes, subtitle_times,
     write_programme, write_subtitle_file)
 
+# Options with which qc accepts more recordings
 ADVICE_OPTIONS = ("--within", "--keeping", "--no-complete", "--allow-lost", "--severity", "--pace")
-PACKET_FAULTS_ONLY = {3, 4}  # fault numbers that `check` does not report
+PACKET_FAULTS_ONLY = {3, 4}  # of `subttx packet`, which qc does not call
 VERB = re.compile(r"\b(is|are|has|have|was|were|does|ends|comes|begins?|differs|fall|appeared|"
                   r"lacks|had|do)\b")
 
@@ -82,6 +83,7 @@ class Sentences(Case):
                 with self.subTest(number=number, place=place):
                     self.assertEqual(result, " ".join(["Refused:", *begin.split(), words]) + ".")
                     self.assertRegex(words, VERB)
+                    # one clause, without the manual's placeholders and code
                     self.assertNotRegex(words, r"TIME|\bN frames|\bK\b|`|[;.] |--complete")
 
     def test_has_a_sentence_for_each_cause(self) -> None:
@@ -118,7 +120,8 @@ BEGIN = 900_000
 TIMES = [(BEGIN + 50 * at, BEGIN + 50 * at + 40) for at in range(6)]
 
 # The frames of the received PES packets, the frames by which all subtitles are late (negative:
-# early) by --origin, the fault and the option in the hint, and a part of the sentence.
+# early) by --origin, the fault and the option in the hint, and a part of the sentence. --from is
+# the first recorded TCI, and --to a frame after the last recorded TCO before a pause.
 ENDS = """
 received | late by | hint                  | sentence
 100-1060 | 2       |                       | all 10 subtitles appeared 2 frames late
@@ -155,7 +158,8 @@ class RecordingEnds(ProgrammeCase):
         sent = delay_subtitle(3, by=2)(self.sent)
         pts, (header, text, *more) = sent[0]
         sent[0] = pts, [header, text[:-1] + bytes([text[-1] ^ 0x80]), *more]
-        # The severity file makes `waived` a warning; part of the sentence, and of the last line.
+        # The severity file makes `waived` a warning; part of the sentence, which names the worst
+        # fault, and of the last line, which is the first fault of `check` that is not waived.
         for waived, sentence, last in (
                 ("", "subtitle 3 at 00:00:12:00, \"Number 3\", appeared 2 frames late; also 68 "
                      "Parity",
@@ -175,8 +179,8 @@ def make_header(c4: int = 8, c5: int = 8, c7: int = 1, c11: int = 8) -> bytes:
     return make_packet(0, 0, [8, 8, 0, c4, 0, c5, c7, c11], b" " * 32)
 
 
-# Changed values in the header of a page, each with four control bits, and what the sentence says
-# of the page.
+# Changed values in the header of a page, each named for its lowest control bit, and what the
+# sentence says of the page.
 HEADERS = {
     "c5=0": "hides the picture on some receivers: C6 (subtitle) is clear",
     "c7=9": "is not shown on some receivers: C10 (inhibit display) is set",
@@ -261,6 +265,7 @@ class VisibleRows(Case):
                 cells, "english")), (row["shown"], row["message"]))
 
     def test_no_decoder_shows_text_in_the_colour_of_its_background(self) -> None:
+        # Code 1D makes the colour before it the background, 1C makes the background black.
         colours = [*range(8), *range(0x10, 0x18)]  # of text and of mosaics, from black to white
         for paper, ink in itertools.product(colours, colours):
             for last_code, is_hidden in ((b"", ink % 8 == paper % 8), (b"\x1c", ink % 8 == 0)):
