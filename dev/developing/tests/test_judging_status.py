@@ -105,7 +105,7 @@ class Decisions(Case):
             return NOT_JUDGED
         return WAIVED if "waived" in names else ACCEPTED
 
-    def test_losses_and_strict_warnings_prevent_an_accepted(self) -> None:
+    def test_losses_and_strict_warnings_prevent_accepted_and_waived(self) -> None:
         for name, losses, is_allowed, warnings, is_strict, clock in itertools.product(
                 ("accepted", "waived", "refused", "silent"), LOSSES, (False, True),
                 ((), ("page",), ("repeat", "page")), (False, True), CLOCKS):
@@ -189,6 +189,7 @@ class Decisions(Case):
 
 class BatchStatus(Case):
     def test_returns_the_worst_status(self) -> None:
+        """The worst is 70, then 64, 2, 1 and 3. Unknown statuses and missing pairs count as 2."""
         # The exit statuses of pairs, whether the batch was stopped, and the status of the batch.
         rows: list[tuple[list[int], bool, int]] = [
             ([0], False, 0), ([0, 3], False, 3), ([3, 0, 1], False, 1), ([1, 3, 2], False, 2),
@@ -210,7 +211,8 @@ class BatchStatus(Case):
 
 class Severities(Case):
     def test_the_last_line_about_a_fault_decides_its_severity(self) -> None:
-        """Faults that end the reading are always errors. --allow-lost makes 45 and 79 warnings."""
+        """Faults that end the reading are always errors. --allow-lost makes 45 a warning, and 79 if
+        no line decides it. The line `others` decides 79, but not 45 and what other lines list."""
         each: dict[int | str, str] = {number: "warning" for number in FAULT_NUMBERS}
         ends: dict[int | str, str] = {number: "error" for number in ENDS_READING}
         names: dict[int | str, str] = {name: "error" for name in FAULT_NAMES}
@@ -255,7 +257,7 @@ END = "refused 74 Late frame 10:00:09:00"
 INCOMPLETE = "refused 77 Incomplete frame 10:00:02:00"
 CONTROL = "refused 67 Control frame 10:00:00:00 packet 0"
 LOST_LINE = "refused 45 Lost pes 7"
-PACKET_FAULTS_ONLY = {3, 4, 76, 82}  # fault numbers that `check` does not report
+OTHER_COMMANDS = {3, 4, 76, 82}  # fault numbers that only other commands than `check` report
 SECOND = 25
 
 
@@ -281,7 +283,7 @@ class LeadingFaults(Case):
 
     def test_each_cause_and_fault_number_has_a_rank(self) -> None:
         self.check("causes", set(CAUSE_RANKS), set(CAUSE_NAMES))
-        self.check("numbers", set(NUMBER_RANKS), FAULT_NUMBERS - PACKET_FAULTS_ONLY)
+        self.check("numbers", set(NUMBER_RANKS), FAULT_NUMBERS - OTHER_COMMANDS)
         self.check("names", set(NAME_RANKS), {*FAULT_NAMES, *READING_FAULT_NAMES})
 
     def test_ranks_fault_numbers_by_what_viewers_notice_according_to_the_manual(self) -> None:
@@ -333,6 +335,7 @@ class LeadingFaults(Case):
         self.check(name, worst and worst.fault.line, expected)
 
     def test_chooses_the_fault_of_the_subtitle_with_the_worst_cause(self) -> None:
+        # The causes of the four subtitles, the printed faults, and the fault to name
         rows: tuple[tuple[list[str], list[str], str], ...] = (
             (["late", "late", "never sent", "never sent"], WRONG_PAGES, WRONG_PAGES[3]),
             (["late", "wrong text", "wrong place", "early"], WRONG_PAGES, WRONG_PAGES[2]),

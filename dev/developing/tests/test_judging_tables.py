@@ -52,9 +52,9 @@ class PartClocks(unittest.TestCase):
     def test_uses_parts_only_with_a_clear_origin(self) -> None:
         whole = TimedPart(begin=3, end=9, clock=Clock(7, GIVEN))
         origin = PartOrigin(5, packets=(1, 2), matches=3, total=4, line="3 of 4")
-        self.assertEqual(list_timed_parts(OriginEstimate(1, [origin]), whole), [])
+        self.assertEqual(list_timed_parts(OriginEstimate(status=1, parts=[origin]), whole), [])
         evidence = Selection("origin", "5", "clock: 3 of 4", 3, 4)
-        self.assertEqual(list_timed_parts(OriginEstimate(0, [origin]), whole),
+        self.assertEqual(list_timed_parts(OriginEstimate(status=0, parts=[origin]), whole),
                          [TimedPart(3, 9, Clock(5, RECORDING, evidence=evidence), (1, 2))])
 
     def make_search(self) -> tuple[PartSearch, Any]:
@@ -206,6 +206,8 @@ class Notices(Case):
                          ["there are 0", "there is 1", "there are 2", "there are 1,234"])
 
     def test_warns_of_pauses_in_a_regular_stream(self) -> None:
+        """A pause has no PES packet for more than 2 frames. A regular stream has at least 20 PES
+        packets for each pause."""
         request = make_example_request("one.stl", "one.pes")
         three = [("no PES packet for 3 frames", "00:00:00:20")]
         for origin in (0, CLOCK - 10 * TICKS):
@@ -221,7 +223,7 @@ class Notices(Case):
                                   find_pause_notices(pts, request, origin)], expected, frames)
 
     def test_warns_of_a_repeat_limit_that_is_too_long(self) -> None:
-        # The frames between headers, --every, and a part of the warning.
+        # The frames between headers, --every, and a part of the warning, from over twice on.
         for step, every, words in ((25, 51, "25 frames: give --every 25 "), (25, 50, ""),
                                    (25, 25, ""), (1, 3, "frame: give --every 1 "), (1, 2, ""),
                                    (2, 5, "2 frames")):
@@ -470,6 +472,8 @@ class SubtitleBlocks(Case):
 
 class RepeatIntervals(unittest.TestCase):
     def test_measures_the_usual_interval_of_headers_between_cues(self) -> None:
+        """The median, weighted by time, of three intervals or more. The first interval after a cue,
+        or of all, does not count, nor one that ends up to 5 frames before a cue."""
         steady = list(range(0, 200, 10))
         # The frames of headers and of cues, and the usual interval in frames.
         rows: list[tuple[list[int], list[int], int | None]] = [
