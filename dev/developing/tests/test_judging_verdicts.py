@@ -37,7 +37,7 @@ OTHER_LINES = ("refused 38 UnitLength pes 7", "refused 70 Repeat frame 00:00:09:
 
 
 def make_part_verdict(parts: Sequence[Part], severity: Severity | None = None) -> Verdict:
-    """Return the verdict on a pair with a given clock and these parts; all faults are errors."""
+    """Return the verdict on a pair with a given clock. All faults are errors by default."""
     severity = severity or Severity(None)
     return Verdict(make_example_request("one.stl", "one.pes", "--origin", "0"), severity, "now", [
         dataclasses.replace(part, severity=severity) for part in parts])
@@ -126,7 +126,7 @@ class Verdicts(Case):
         self.must("judged", verdict.sentence.startswith(
             "Not accepted: between 1 and 9: 1 lost, and in 2 more places;"), verdict.sentence)
 
-    def test_the_sentence_names_a_fault_without_a_number_first(self) -> None:
+    def test_the_sentence_names_never_sent_before_a_wrong_page(self) -> None:
         refused = dataclasses.replace(make_part_verdict(self.make_three_parts(0)), named_faults=[
             NamedFault(NEVER_SENT, "nothing was sent")])
         self.check("a name", refused.sentence, "Refused: nothing was sent; 2 faults in all.")
@@ -183,6 +183,8 @@ class Verdicts(Case):
             self.check(f"{pts_frame}", (gap.after, gap.before), times)
 
     def test_formats_the_times_of_losses(self) -> None:
+        """A time outside of the day is the beginning or the end. The losses are judged, since their
+        gap marker is PES packet 0, which is in the part."""
         for before, after, words in (
                 (TICKS * 25, TICKS * 51 - 1, "between 00:00:01:00 and 00:00:02:00"),
                 (None, TICKS, "between the beginning and 00:00:00:01"),
@@ -199,7 +201,8 @@ class Verdicts(Case):
 
     def test_frames_with_losses_are_not_clean(self) -> None:
         """In both of two parts, `check` reports the frames 100 to 199 as clean. Losses of part 2
-        that have a gap marker are known to `check`; the others are only known by the PCR."""
+        that have a gap marker are known to `check`; the others are only known by the PCR. With
+        --within 1, a PTS 5 ticks before a frame belongs to that frame."""
         printed = ["trusted frames 00:00:04:00 00:00:07:24", "accepted 10 frames 2 transmissions"]
         loss, other = (LossPlace(TICKS * at - 5, TICKS * (at + 10) - 5, missing=9)
                        for at in (151, 121))
@@ -238,6 +241,7 @@ class Verdicts(Case):
         self.check("others not judged", verdict.subtitle_counts, None)
 
     def test_spreads_the_delays_of_subtitles(self) -> None:
+        # Delays, and their minimum, median and maximum, and how many subtitles were never complete
         of_spreads: list[tuple[list[int | None], DelaySpread | None]] = [
             ([], None), ([None], None), ([3], DelaySpread(3, 3, 3, 0)),
             ([5, 1, 3], DelaySpread(1, 3, 5, 0)), ([None, 2, None, 4], DelaySpread(2, 4, 4, 2))]
@@ -268,7 +272,8 @@ class PartDecisions(Case):
             self.check(f"{lost_frames} lost frames", part.is_read(), is_read)
 
     def test_counts_the_headers_in_the_readable_pes_packets_of_a_part(self) -> None:
-        # First PES packet, number of PES packets, PTS, step of the PTS, flags, headers
+        # First PES packet, number of PES packets, PTS, step of the PTS, flags, headers. Without a
+        # PTS or with a fault, a PES packet is not readable.
         runs = [PacketRun(0, 2, 0, 9, "h", "88080812"), PacketRun(2, 4, 20, 9, "h", "88080810"),
                 PacketRun(6, 1, 60, 0, "hh", "88080818+88080810"),
                 PacketRun(7, 1, None, 0, "h", "88080814"),
@@ -302,8 +307,8 @@ class PartDecisions(Case):
         file.assert_called_once_with("a.stl", request.between, {4})
 
     def test_passes_losses_and_range_to_the_causes(self) -> None:
-        """The recorded frames are 0 to 250, the judged frames 100 to 199. Packets are lost between
-        the frames 120 and 129, and between 150 and 159; only a stream shows where."""
+        """The recorded frames are 0 to 250, but fault 31 hides the end; the judged ones 100 to 199.
+        Packets are lost in the frames 120 to 129 and 150 to 159; only a stream shows where."""
         places = [LossPlace(TICKS * at, TICKS * (at + 9), missing=9) for at in (120, 150)]
         for refusal, is_stream in itertools.product((None, 31), (True, False)):
             recording: Any = SimpleNamespace(
@@ -325,7 +330,8 @@ class PartDecisions(Case):
             self.must("named", part_causes is causes.return_value)
 
     def test_finds_the_pes_packets_that_check_skipped(self) -> None:
-        # Lines of `check`, and the first and last of consecutive skipped PES packets.
+        # Lines of `check`, and the first and last of consecutive skipped PES packets. They have the
+        # faults 33 to 40, 45 or 61. One lasts up to its first `ended` line, if no other follows.
         rows: list[tuple[tuple[str, ...], list[tuple[int, int]]]] = [
             ((), []), (("refused 38 X pes 3",), [(3, 3)]),
             (("refused 38 X pes 3", "ended 38 X pes 5"), [(3, 5)]),
