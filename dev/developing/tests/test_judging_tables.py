@@ -36,7 +36,7 @@ from subtitles.request.commands import (
     CommandPaths, ListNames, OutputNames, list_pair_files, make_pair_name, make_part_name,
     make_command)
 from subtitles.request.request import Selection, Unclear
-from subtitles.stream import gaps
+from subtitles.stream import repeats
 from subtitles.stream.gaps import ClockJump
 from subtitles.stream.repeats import find_longest_gap, repeat_distance
 from subtitles.stream.packets import Packets
@@ -485,9 +485,9 @@ class RepeatIntervals(unittest.TestCase):
             self.assertEqual(repeat_distance(frames, cues), every, (frames, cues))
 
     def test_measures_many_headers_with_few_sums(self) -> None:
-        with mock.patch.object(gaps, "sum", side_effect=sum, create=True) as summed:
+        with mock.patch.object(repeats, "sum", side_effect=sum, create=True) as summed:
             self.assertEqual(repeat_distance(range(1000), []), 1)
-        self.assertLess(summed.call_count, 3)  # fewer calls than page transmissions
+        self.assertIn(summed.call_count, (1, 2))  # fewer calls than page transmissions
 
     def test_finds_the_longest_gap_between_sorted_frames(self) -> None:
         rows: list[tuple[list[int], int]] = [([], 0), ([5], 0), ([5, 5], 0), ([9, 5, 30], 21)]
