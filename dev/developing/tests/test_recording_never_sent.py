@@ -77,7 +77,8 @@ class Announcements(Case):
         other = Announcement(1, frozenset({SECOND_PID}), None, None)
         both = Announcement(1, frozenset({FIRST_PID, SECOND_PID}), None, None)
         foreign = Announcement(2, frozenset({SECOND_PID}), None, None)
-        # Announcements, the PIDs with the page from second 10 to 20, and that of a missing page
+        # Announcements, the PIDs with the page from second 10 to 20, and the announcement of a
+        # missing page. It must begin more than 2 s before second 20, and end 2 s after second 10.
         rows: list[tuple[str, Sequence[Announcement], set[int], Announcement | None]] = [
             ("sent", [own], {FIRST_PID}, None), ("sent elsewhere", [other], {FIRST_PID}, other),
             ("one of two", [both], {FIRST_PID}, None), ("sent by none", [other], set(), None),
@@ -136,7 +137,8 @@ class Announcements(Case):
 
     def test_expects_the_page_if_a_subtitle_is_recorded(self) -> None:
         subtitles = [(100, 150), (500, 600)]
-        # The first and the last frame of the recording, and its origin (`None`: unknown)
+        # The first and the last frame of the recording, and its origin. If it is unknown (`None`),
+        # the recording must be as long as from the first TCI to the last TCO: 500 frames.
         for first, last, origin, expected in (
                 (0, 1000, 0, True), (100, 150, 0, True), (101, 599, 0, False),
                 (100, 149, 0, False), (500, 600, 0, True), (160, 490, 0, False),
@@ -218,7 +220,7 @@ class Announcements(Case):
 
 
 class JudgedStreams(ProgrammeCase):
-    """Streams whose PMT announces page 888 on the PID 0x111 (NEW), which never carries its rows."""
+    """Streams whose PMT announces page 888, mostly on PID 0x111 (NEW), which has no row of it."""
 
     qc_args = ()
 
@@ -339,7 +341,8 @@ class SourcesWithoutPage(ProgrammeCase):
                                  for origin in (0, TICKS * 2 * end, -TICKS * 2 * end))
         pts, (header, row, closing) = self.sent[10]
         stray = [*headers[:10], (pts, [header, closing, row]), *headers[11:]]
-        # What is sent, the arguments, and why the page is never sent ("": another sentence)
+        # What is sent, the arguments, and why the page is never sent ("": another sentence). With a
+        # clock, only PES packets before the last TCO count: all but the last.
         rows: dict[str, tuple[SentPes, tuple[str, ...], str]] = {
             "headers": (headers, (), f"{count} headers, no row"),
             "headers, with a clock": (headers, clock, f"{count - 1} headers, no row"),
@@ -377,11 +380,11 @@ class SourcesWithoutPage(ProgrammeCase):
         self.check("stream", (result.timed_verdict, "headers, no row" in result.verdict.sentence),
                    ("refused", True))
 
-    def test_accepts_headers_for_blank_subtitles(self) -> None:
+    def test_does_not_say_never_sent_if_all_subtitles_are_blank(self) -> None:
         stl = write_programme(self, self.cues, text=b" ", name="blank.stl")
         pes = self.write("one.pes", join_pes_packets(self.remove_rows()))
         result = judge_files(self, stl, pes, *self.qc_args, "--origin", "0")
-        self.check("verdict", "never sent while" in result.verdict.sentence, False)
+        self.check("sentence", "never sent while" in result.verdict.sentence, False)
 
 
 def make_recording(survey: Survey, *args: str, name: str = "one.ts", kind: int = stat.S_IFREG,
@@ -404,7 +407,7 @@ def make_pes_line(pid: int, flags: str = "heob", pts: int = SECOND) -> str:
 
 
 class ChosenPids(Case):
-    def test_chooses_the_only_pid_with_the_page(self) -> None:
+    def test_chooses_the_given_or_only_pid_with_the_page_or_suggests_others(self) -> None:
         page_on_first, page_on_second = make_pes_line(FIRST_PID), make_pes_line(SECOND_PID)
         rows_on_first, rows_on_second = (make_pes_line(pid, "-") for pid in (FIRST_PID, SECOND_PID))
         announced_on_first, announced_on_second = (
