@@ -96,7 +96,7 @@ class ActualTimes(ProgrammeCase):
                        [number for number, (tci, tco) in enumerate(self.cues, 1)
                         if begin <= tci and tco <= last + 1])
 
-    def test_gives_the_actual_times_of_a_moved_subtitle(self) -> None:
+    def test_gives_the_actual_times_of_a_subtitle_with_a_moved_in_cue(self) -> None:
         for name, by in (("late", 3), ("early", -3)):
             rows = self.judge(delay_subtitle(3, by)(self.sent)).result["subtitles"]
             self.check(name, [(row["actual_in"], row["actual_out"], row["verdict"])
@@ -145,7 +145,8 @@ class CueVerdicts(Case):
         severities = [make_severity(f"{faults} warning") for faults in ("67", "72", "others")]
         rows: list[tuple[str | None, list[int], int, list[str]]] = [
             # Cause, numbers of other faults, first clean frame, and three expected verdicts: if
-            # fault 67 is a warning, if fault 72 is a warning, and if all faults are warnings.
+            # fault 67 is a warning, if fault 72 is a warning, and if all faults are warnings. Each
+            # cause comes with a fault 72.
             (None, [], 100, ["right", "right", "right"]),
             (None, [], 101, ["not known", "not known", "not known"]),
             (None, [67], 100, ["waived", "wrong", "waived"]),
@@ -256,7 +257,7 @@ class RefusedFiles(Case):
         subtitle_file = SubtitleFile(path)
         fields = {11: "DFC STL25.01", 12: "DFC STL25.01", 13: "DSC 1", 14: "CCT 00", 15: "EBN 03",
                   16: "CS 04", 17: "CF 0F", 18: "JC 0E", 19: "VP 0D", 22: "SGN and SN 000102"}
-        for number in range(10, 60):
+        for number in range(10, 60):  # faults up to 14 are of the GSI block, number 0
             fault = parse_single_fault(f"refused {number} X block {int(number > 14)}")
             head, _, value = fields.get(number, "").rpartition(" ")
             self.check(f"{number}", markup_text(mark_field(subtitle_file, fault)).strip(),
@@ -265,7 +266,8 @@ class RefusedFiles(Case):
                    markup_text(mark_field(subtitle_file, parse_single_fault("refused 14 Cct"))), "")
 
     def test_marks_the_byte_or_line_that_a_fault_names(self) -> None:
-        # Faults of a subtitle whose text is "a b", and on the next line "c"
+        # Faults of a subtitle whose text is "a b", and on the next line "c". They are at a byte (50
+        # and 51) or at a line (52 and 53).
         for lines, marked in (
                 ((), "a b<br/>c"), (("refused 50 X block 2 at 0",), "<mark>a</mark> b<br/>c"),
                 (("refused 51 X block 2 at 4",), "a b<br/><mark>c</mark>"),

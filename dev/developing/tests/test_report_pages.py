@@ -129,12 +129,13 @@ class Drawings(unittest.TestCase):
                          [False, True, True, True])
 
     def test_draws_each_mark_of_the_timeline_to_its_end(self) -> None:
+        """Marks that touch are drawn as one, which is at least 2 units wide."""
         lanes: Any = SimpleNamespace(compute_x=float)
         text = markup_text(Lanes.draw_lane(lanes, "fault", "", [(0, 100), (10, 20), (200, 200)]))
         self.assertEqual(re.findall(' d="([^"]*)"', text), ["M0 0H100V10H0zM200 0H202V10H200z"])
 
-    def test_frames_neighbouring_cells_once(self) -> None:
-        # Rows and columns of cells, rows with double height, and the number of frames
+    def test_outlines_neighbouring_cells_once(self) -> None:
+        # Rows and columns of cells, rows with double height, and the number of outlines
         rows: list[tuple[list[tuple[int, int]], list[int], int]] = [
             ([], [], 0), ([(5, 1)], [], 1), ([(5, 1), (5, 2)], [], 1), ([(5, 1), (5, 3)], [], 2),
             ([(5, 1), (6, 1)], [], 1), ([(5, 1), (7, 1)], [], 2), ([(5, 1), (7, 1)], [5], 1),
@@ -185,7 +186,7 @@ class VerdictLists(Case):
         for source, words in ((GIVEN, "given: --origin"), (START, picture), (TCP, picture)):
             self.check(source, describe_given_clock(Clock(9, source)), f"Clock {words} 9.")
 
-    def test_the_box_lists_losses_and_faults_without_a_number(self) -> None:
+    def test_the_box_lists_judged_losses_and_faults_without_a_number(self) -> None:
         gaps = [Gap("00:00:01:00", None, f"{at} packets", LossPlace(1, 2, at), is_judged=at != 2)
                 for at in range(8)]
         faults = [NamedFault("not shown", f"row {at}", block=at) for at in (1, 2)]
