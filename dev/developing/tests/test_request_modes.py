@@ -129,7 +129,7 @@ class Modes(Case):
             self.check(f"{line}: options", {item: vars(args)[item] for item in expected}, expected)
             self.check(f"{line}: program name", others, ["tools/qc"] * (module is not collection))
         nothing: list[str] = []
-        for line in (nothing, [*CALLS[PAIR], "--keep"]):
+        for line in (nothing, [*CALLS[PAIR], "--keep"]):  # --keep needs -o
             with self.assertRaises(Stop):
                 main.dispatch("", "tools/qc", line)
 
@@ -353,7 +353,8 @@ class WrongArguments(Case):
                     2, b"", [f"poke: {name} is a device: give a file or a pipe"]))
 
     def test_poke_changes_bytes_up_to_the_last_one(self) -> None:
-        """The input is "abcdef". `None`: the change is outside of these 6 bytes."""
+        """The input is "abcdef", and `0=@3+2` copies 2 bytes from offset 3 to offset 0. -c limits
+        the bytes to write. `None`: the change is outside of these 6 bytes."""
         for words, expected in (
                 (["0=41", "5=5A"], b"AbcdeZ"), (["0=4142", "1=5A"], b"AZcdef"),
                 (["0=@3+3"], b"defdef"), (["3=@0+3", "0=5A"], b"Zbcabc"),

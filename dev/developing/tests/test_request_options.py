@@ -267,6 +267,7 @@ class ProfileVerdicts(Case):
                 ("--profile waive --no-allow-lost", ["--severity"]),
                 ("--profile waive --severity others --no-allow-lost", []),
                 ("--allow-lost", []), ("--profile relative", ["--relative"]),
+                # --relative has no effect with a clock.
                 ("--profile relative --origin 0", []), ("--profile relative --start tcp", [])):
             request = make_example_request("a.stl", "a.ts", *(
                 self.path(word) if word in ("some", "waive", "relative") else word
