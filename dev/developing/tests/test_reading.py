@@ -493,7 +493,7 @@ class WholeCalls(Case):
         recording = self.write("two.ts", make_stream_of_pids(*zip((0x101, 0x102), sent)))
         program = self.make_program_with_exception("survey*two.ts", "echo $* >>calls")
         self.check("status", self.read_pages(recording, "-p", program).status, 0)
-        self.check("pages of each survey", [line.count(b"--page") for line in
+        self.check("pages of the first and second", [line.count(b"--page") for line in
                                             self.read("calls").splitlines()], [1, 2])
         for name in ("777", "888"):
             self.tool("read", recording, "--page", name, "-o", "one")
