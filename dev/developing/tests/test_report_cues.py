@@ -68,7 +68,7 @@ class ActualCues(Case):
             delay = None if cues[0] is None else cues[0] - 100
             cue = add_decoded_page(Cue(FIRST, one, cause), 0, ExpectedPages(
                 [FIRST, SECOND], [one, two]), make_timeline_of_pages(*changes),
-                0 if cause else delay)
+                delay=0 if cause else delay)
             self.check(name, (cue.begin, cue.end, cue.delay_in), (*cues, delay))
 
     def test_finds_the_cue_between_equal_pages(self) -> None:
@@ -267,7 +267,7 @@ class RefusedFiles(Case):
 
     def test_marks_the_byte_or_line_that_a_fault_names(self) -> None:
         # Faults of a subtitle whose text is "a b", and on the next line "c". They are at a byte (50
-        # and 51) or at a line (52 and 53).
+        # and 51) or at a line (52 to 55).
         for lines, marked in (
                 ((), "a b<br/>c"), (("refused 50 X block 2 at 0",), "<mark>a</mark> b<br/>c"),
                 (("refused 51 X block 2 at 4",), "a b<br/><mark>c</mark>"),
