@@ -295,7 +295,7 @@ class LeadingFaults(Case):
                 self.check(f"{number}", rank, Rank.UNSEEN)
             elif notice.startswith("now"):
                 self.must(f"{number}", rank <= Rank.SOME, rank)
-            elif notice.startswith("next") and number != 61:
+            elif notice.startswith("next") and number != 61:  # 61 is about times, like 60 and 62
                 self.check(f"{number}", rank, Rank.LATER)
 
     def test_orders_causes_from_never_sent_to_not_received(self) -> None:

@@ -286,6 +286,7 @@ class PartDecisions(Case):
                    {option.bits for option in (ENGLISH, GERMAN, SWEDISH, ROMANIAN)})
 
     def test_decodes_the_pages_of_a_part_once(self) -> None:
+        """With --within 1, a PTS 5 ticks before one of the frames 10 to 50 belongs to it."""
         packets = survey_packets(self, b"".join(make_pes_packet(TICKS * at - 5, [
             HEADER, make_numbered_row(20, b"%d" % at), CLOSING]) for at in range(10, 60, 10)))
         part = make_part(10, 50, 0, packets=packets,
