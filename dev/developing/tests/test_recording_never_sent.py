@@ -418,7 +418,8 @@ class ChosenPids(Case):
                  *announced_on_second, make_pes_line(SECOND_PID, pts=60 * SECOND)]
         others = [page_on_first, f"sub {SECOND_PID} 888", f"sub {THIRD_PID} 801"]
         never_sent = [rows_on_first, *announced_on_first]
-        # Lines of `survey`, the value of --pid, and the PID, suggested options or `NeverSent`
+        # Lines of `survey` (`sub` and `subs` list pages, `subs` with their numbers of headers), the
+        # value of --pid, and the PID, suggested options (three pages at most) or `NeverSent`
         rows: list[tuple[list[str], int | None, object]] = [
             ([page_on_first], None, FIRST_PID),
             ([make_pes_line(FIRST_PID, "he")], None, FIRST_PID),

@@ -130,8 +130,8 @@ class ActualTimes(ProgrammeCase):
 
 
 def make_list(faults: list[str], trusted: list[tuple[int, int]]) -> list[str]:
-    """Return the output of `check --all` with fault 60, other faults, and trusted frames, given by
-    the first and last of each range."""
+    """Return the output of `check --all` with fault 60, which has no frame, other faults, and
+    trusted frames, given by the first and last of each range."""
     return ["refused 60 Empty", *faults, *(
         f"trusted frames {format_frame(first)} {format_frame(last)}"
         for first, last in trusted), f"{len(faults) + 1} faults"]

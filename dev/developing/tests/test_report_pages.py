@@ -328,7 +328,7 @@ class StreamReports(ProgrammeCase):
                           "--severity", severity, "-o", self.path("out"))
         page = self.read("out/one.html").decode()
         made = dict(re.findall("<dt>(.*?)</dt><dd>(.*?)</dd>", page))
-        self.must("length", ", 0:00:47 long, last changed " in made["Recording"], made)
+        self.must("of 1199 frames", ", 0:00:47 long, last changed " in made["Recording"], made)
         self.check("options", made["Options"], f"--page 888 --every 250 --origin {self.origin} "
                    "--option english --complete --pes 4-43 --from 00:00:08:00 --to 00:00:40:00")
         self.check("waived", made["Waived"], "72 Content (1); 72 in the subtitle at 00:00:12:00 "
