@@ -298,7 +298,7 @@ class WrongArguments(Case):
                 ([STL, PES, PES], usage), (["--file-only", "none.stl"], missing),
                 ([STL, PES, "-p", "none"], missing), ([STL, PES, "--severity", "none"], missing),
                 (["--batch", "none"], missing), (["--collect", "none"], missing),
-                (["--watch", "none"], usage)) * 2:
+                (["--watch", "none"], usage)) * 2:  # --watch takes none of the three
             process = self.tool("qc", *words, *files)
             reason = process.told[0].partition(": ")[2]
             known = json.loads(self.read("one.json"))

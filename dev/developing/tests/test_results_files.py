@@ -133,7 +133,7 @@ class WrittenResults(Case):
         self.check("0 bytes", (known["omitted"], known["fault_count"]), (counts, 4))
         size = sum(len(json.dumps(item, ensure_ascii=False).encode()) for name in counts
                    for item in complete[name])
-        for limit, omitted in ((size, 0), (size - 1, 1)):
+        for limit, omitted in ((size, 0), (size - 1, 1)):  # subtitles are the last list
             with mock.patch.object(files, "MAX_BYTES", limit):
                 self.check(f"{limit} bytes", judge_story(self)["omitted"]["subtitles"], omitted)
 
