@@ -22,6 +22,7 @@ PATTERN = "test_*.py"
 # The slowest tests, which start first so that none of them runs alone at the end.
 LONG = ("test_dev_layers.Hints", "test_snapshots", "test_cli_install",
         "test_clock_delays.FfmpegStreams", "test_dev_clones", "test_dev_gate.JobScripts",
+        "test_dev_scripts.SmallRepository",
         "test_stream_layouts", "test_cli_pairs")
 Error = Union[Tuple[Type[BaseException], BaseException, TracebackType], Tuple[None, None, None]]
 SeveralTests = Sequence[unittest.TestCase]

@@ -679,14 +679,22 @@ class SmallRepository(Case):
             os.makedirs(os.path.dirname(self.path(name)), exist_ok=True)
             self.write_program(name, text.rstrip("\n") + "\n")
 
-    def test_scripts_print_the_stored_output(self) -> None:
+    def check_outputs(self, name: str, ignore: Callable[[Any, list[str]], set[str]]) -> None:
+        """Compare the commands in a file of dev/vectors/ with their output."""
         self.write_files()
-        for name in ("tools", "dev", "bench"):
-            shutil.copytree(os.path.join(TOP, name), self.path(name), ignore=list_omitted_names)
+        for folder in ("tools", "dev", "bench"):
+            shutil.copytree(os.path.join(TOP, folder), self.path(folder), ignore=ignore)
         share_compiled(self.path("tools"))
-        for name in ("VERSION", "HANDLES"):
-            shutil.copy(os.path.join(TOP, name), self.folder)
-        environment = {**os.environ, "PATH": f"{self.path('bin')}:{os.environ['PATH']}"}
-        for line in find_commands(os.path.join(VECTORS, "script-outputs.txt")):
+        for copied in ("VERSION", "HANDLES"):
+            shutil.copy(os.path.join(TOP, copied), self.folder)
+        environment = {**os.environ, "PATH": f"{self.path('bin')}:{os.environ['PATH']}",
+                       "EXAMPLES": EXAMPLES, "PROGRAM": self.bench.program}
+        for line in find_commands(os.path.join(VECTORS, name)):
             result = run_command(f"{line.command}\necho status $?", self.folder, environment)
             self.check(f"line {line.number}: {line.command}", result, (line.shown, 0))
+
+    def test_scripts_print_the_stored_output(self) -> None:
+        self.check_outputs("script-outputs.txt", list_omitted_names)
+
+    def test_checks_print_the_stored_output(self) -> None:
+        self.check_outputs("check-outputs.txt", shutil.ignore_patterns("__pycache__"))
