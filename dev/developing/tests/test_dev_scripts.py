@@ -8,17 +8,23 @@ import shutil
 import signal
 import subprocess
 import sys
+import time
+from concurrent.futures import ThreadPoolExecutor
+from functools import partial
 from typing import Any, Callable
 from unittest import mock
 
 from developing.proved import Crates, format_proved, list_crate_sums, ProvedProgram
+from developing.every_place import trying
+from developing.every_place.calls import Answer, Call, KnownCall
+from developing.planting import run_forked, TOO_LONG
 from developing.shown import has_expected_status
 from developing.surveying.streams import make_random_recording, Recording
 from subtitles.common.command_line import Stop
 from subtitles.common.program import read, TOP
 from ..compiled import share_compiled
 from ..shown import find_commands, run_command
-from ..trial import RunResult, Trial
+from ..trial import Command, judge, parse_calls, RunResult, Trial
 from .bench import (
     BENCH, Bench, Case, CompletedCall, EXAMPLES, get_example_path, get_tool_path, import_script,
     read_example_file)
@@ -179,6 +185,43 @@ class FailedScripts(Case):
             call = mock.Mock(answer=mock.Mock(lines=lines))
             with mock.patch.object(script, "define_answers", lambda *_, call=call: [call]):
                 self.check(f"{numbers}", not script.try_one_rule(trial, pair).faults, is_right)
+
+    def test_check_every_place_compares_status_lines_and_written_files(self) -> None:
+        for row in read_vectors("compared-answers.tsv"):
+            trial = trying.Trial(self.write_program("program", f"#!/bin/sh\n{row['program']}\n"),
+                                 self.folder)
+            known = KnownCall(Call("", row["command"], (b"one", b"two"), row["arguments"]),
+                              Answer(row["lines"].split("; "), row["written"].encode() or None))
+            self.check(row["program"], " | ".join(trial.find_differences(known)),
+                       row["differences"])
+
+    def test_faults_prints_failed_cases_and_counts_the_others(self) -> None:
+        script = import_script("faults")
+        results = [(f"case {number}", RunResult(status, printed, None, []), faults)
+                   for number, (status, printed, faults) in enumerate((
+                       (0, b"0\n1 pes 2 gaps\n", []), (0, b"1 pes 2 frames", []), (2, b"", []),
+                       (0, b"1 pes 2", []), (1, b"2 pes", ["one", "two"]), (0, b"1 pes 2", []),
+                       (-9, None, ["three"])))]
+        with contextlib.redirect_stdout(io.StringIO()) as out:
+            for is_verbose in (False, True):
+                print(script.print_group(results, is_verbose), "failed")
+        self.check("output", out.getvalue(), read(os.path.join(VECTORS, "fault-groups.txt")))
+
+    def test_faults_compares_runs_with_failed_calls_with_the_requirements(self) -> None:
+        trial = mock.Mock(inputs={"long.pes": b"\0\0\1\xbd\0\2ab" * 3})
+        commands = {name: Command(name, [name], out, status, printed, b"12345678" if out else None)
+                    for name, out, status, printed in (
+                        ("normal", "b", 0, b"2 subtitles\n"), ("schedule", "b", 0, b"2 pes\n"),
+                        ("show", None, 0, b"one\ntwo\n2 subtitles\n"),
+                        ("usage", None, 2, b"usage 0 Words\n"),
+                        ("packets", None, 0, b"pes 0\nunit\npes 1\npes 2\n3 pes\n"))}
+        for row in read_vectors("failed-calls.tsv"):
+            calls = parse_calls(("1 " + row["calls"].replace("; ", "\n1 ")).encode())
+            result = RunResult(int(row["status"]), row["printed"].replace("; ", "\n").encode(), None
+                               if row["written"] == "-" else row["written"].encode(), calls,
+                               row["error"])
+            self.check(f"{row['command']}: {row['calls']}: {row['printed']}",
+                       "; ".join(judge(trial, commands[row["command"]], result)), row["faults"])
 
     def test_faults_requires_one_line_that_explains_wrong_arguments(self) -> None:
         script = import_script("faults")
@@ -422,6 +465,7 @@ class FailedChecks(Case):
             os.makedirs(self.path(f"{number}"))
             right = shutil.copy(self.bench.program, self.path(f"{number}/right"))
             trial = Trial(self.path(f"{number}/program"), self.path(f"{number}"))
+            trial.can_change_user = trial.has_strace = False  # the same cases on each machine
             shutil.copy(right, trial.program)
             script.prepare(trial)
             command = row["command"].replace("PROGRAM", right)
@@ -534,6 +578,44 @@ class CheckStatuses(Case):
                 status, printed = self.call_main(script, ["-p", "/bin/true", *words.split()],
                                                  **replace_check(name, script, faults))
                 self.check(f"{name} {faults}", (status, printed[-1]), (count, line))
+
+    def test_check_every_place_checks_and_counts_each_case(self) -> None:
+        script = import_script("check-every-place")
+
+        def try_case(kind: str, _: Any, *args: Any) -> Any:
+            return script.CheckResult(f"{kind} {args}", ["wrong"] * (args[-1] in (6, "late")), (),
+                                      7, kind == "pair", args[-1] == 5, args[-1] == 6)
+
+        status, lines = self.call_main(
+            script, ["-p", "/bin/true", "--refused", "--keeping", "-v",
+                     *"--count 3 --recordings 2 --first 5".split()],
+            ProcessPoolExecutor=ThreadPoolExecutor, KNOWN_CALLS=["known"],
+            TOLERANCE_CASES=["tolerance"], LATE_PAGE_CASES=["late"], ONE_FILE=["file"],
+            RECORDING_CASES=["recorded"], ONE_RULE_PAIRS=["rule"],
+            make_example_calls=lambda: ["example"],
+            **{f"try_{kind}": partial(try_case, kind)
+               for kind in ("known", "one_rule", "example", "pair", "recording")})
+        lines = [line for line in lines if not line.startswith("skipped")]
+        self.check("output", "".join(f"{line}\n" for line in [*lines, f"status {status}"]),
+                   read(os.path.join(VECTORS, "every-place.txt")))
+
+    def test_check_every_place_counts_refused_judged_and_accepted_pairs(self) -> None:
+        script = import_script("check-every-place")
+        lists: dict[str, Any] = dict.fromkeys(("KNOWN_CALLS", "TOLERANCE_CASES", "LATE_PAGE_CASES",
+                                               "ONE_FILE", "ONE_RULE_PAIRS"), [])
+        for option, line in (("--refused", "10 with refused subtitles, 7 of them judged"),
+                             ("--keeping", "2 with headers that keep the page are accepted")):
+            _, lines = self.call_main(
+                script, ["-p", self.bench.program, "--count", "12", "--recordings", "0", option],
+                make_example_calls=list, **lists)
+            self.check(option, lines[-2:], [line, "12 passed, 0 failed"])
+
+    def test_plant_ends_tests_that_take_too_long(self) -> None:
+        def fail() -> dict[str, Any]:
+            return {"failed": "a" if limit > 1 else time.sleep(600) or ""}  # type: ignore
+
+        for limit, failed in ((600, "a"), (0.1, TOO_LONG)):
+            self.check(f"limit {limit} s", run_forked(fail, limit)["failed"], failed)
 
     def test_check_every_place_keeps_each_file_of_a_failed_case(self) -> None:
         script = import_script("check-every-place")
