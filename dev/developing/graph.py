@@ -111,7 +111,7 @@ class UseGraph:
             if not any(node.kind == "clause" for node in function.used_nodes):
                 function.add(body)
             self.add_lemmas(body, text)
-            for prefix, name in set(CALL.findall(text[end:])):
+            for prefix, name in dict.fromkeys(CALL.findall(text[end:])):
                 for callee in self.find_callees(function, prefix, name):
                     body.add(callee)
 
