@@ -195,9 +195,10 @@ class SurveyAnswers(Case):
               [PageChange(100, b"AB", 0, ((20, b" A B"),)), PageChange(300, b"", 3),
                PageChange(9, b"AB", 4, ((20, b" A B"),)),
                PageChange(10, b"AB", 5, ((21, b" A B"),))])),
-            ("damaged 5 3 start", of_pid_5("damage"),
-             "PES packet 3 does not begin with 00 00 01 BD"),
-            ("damaged 5 0 cut", of_pid_5("damage"), "PES packet 0 is incomplete"),
+            ("damaged 5 3 start", of_pid_5("damage", "damage_faults"),
+             ("PES packet 3 does not begin with 00 00 01 BD", (31, 32))),
+            ("damaged 5 0 cut", of_pid_5("damage", "damage_faults"),
+             ("PES packet 0 is incomplete", (30,))),
             *((f"end 5 7 8 30 4 {refusal} {cut} {begun}",
                of_pid_5("packets", "scrambled", "refusal", "is_cut", "last_pts"),
                (30, 4, refusal, bool(cut), pts))
