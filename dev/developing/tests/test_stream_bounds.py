@@ -300,15 +300,15 @@ class ReceivedFrames(unittest.TestCase):
         # Of the PES packets 0 to 3 only number 2 is in the range.
         texts: list[tuple[int, Texts]] = [(at, ((20, text),)) for at, text in enumerate(
             (b"w", b"x", b"y", b"z"))]
-        for flags, has_own_rows in itertools.product(("he", "h"), (True, False)):
+        for flags, own in itertools.product(("he", "h"), (((20, b"y"),), (), None)):
             runs = [PacketRun(at, 1, TICKS * at, 0, item, "0") for at, item in enumerate(
                 (flags, "h", "ho", "he"))]
-            packets = Packets(5, runs,
-                              decoded_rows=texts if has_own_rows else texts[:2] + texts[3:])
+            packets = Packets(5, runs, decoded_rows=[
+                *texts[:2], *[(2, own)] * (own is not None), texts[3]])
             rows = Timeline(packets, PAGE, 0, inside=(2, 2)).states[-1].rows
-            other_rows = BLANK_PAGE if "e" in flags else OLD_PAGE
+            other = (BLANK_PAGE if "e" in flags else OLD_PAGE)[0]
             self.assertEqual((rows[0], rows[19]), (
-                other_rows[0], b"y" if has_own_rows else b"x"), (flags, has_own_rows))
+                other, b"x" if own is None else b"y" if own else other), (flags, own))
 
     def test_replaces_unsent_cells_and_parity_errors_with_spaces(self) -> None:
         for marks in ((), (OLD,), (HIT,), (HIT, OLD)):
