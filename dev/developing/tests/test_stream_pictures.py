@@ -21,7 +21,8 @@ from subtitles.stream.pictures import (
     Departure, find_steady_change, have_moved, locate_changes_of_video, locate_departures,
     mark_pcr_jumps, separate_clock_jumps, VideoLead)
 from subtitles.stream.steps import (
-    ALIKE_TICKS, find_unusual_steps, MAX_REORDER_TICKS, measure_reordering, StepRange, UnusualStep)
+    ALIKE_TICKS, find_clock_steps, find_unusual_steps, MAX_REORDER_TICKS, measure_reordering,
+    StepRange, UnusualStep)
 from subtitles.stream.survey import Survey
 from .bench import Case
 from .judged import judge_files
@@ -54,12 +55,12 @@ class PictureDepartures(Case):
     """Places (`Departure`) where the pictures leave the Teletext: the decoding times jump by some
     frames, and the lead changes by as much. The PTS of subtitles are early by that for viewers."""
 
-    def list_jumps(self, leads: Sequence[VideoLead],
-                   ahead: Sequence[int] = (9, 9)) -> list[float | None] | None:
-        """Return the size of each jump in frames, or `None` if it is unclear. The Teletext PTS are
-        `ahead` of the PCR by these frames, at first and from the 40th lead on."""
-        departures = locate_departures(leads, (), [
-            (lead.pts, TICKS * ahead[at >= 40]) for at, lead in enumerate(leads) if ahead])
+    def list_jumps(self, leads: Sequence[VideoLead], ahead: Sequence[int] = (9,) * 80,
+                   unusual: Sequence[UnusualStep] = ()) -> list[float | None] | None:
+        """Return the size of each jump in frames, or `None` if it is unclear. The Teletext PTS of
+        each lead are `ahead` of the PCR by these frames."""
+        departures = locate_departures(leads, unusual, [
+            (lead.pts, TICKS * frames) for lead, frames in zip(leads, ahead)])
         return None if departures is None else [
             item.ticks and item.ticks / TICKS for item in departures]
 
@@ -88,6 +89,9 @@ class PictureDepartures(Case):
                           change=0 if ticks else 2 * TICKS, ahead=6 * TICKS)])
         for count in (0, 1):
             self.check(f"{count} lines", locate_departures(leads[:count]), [])
+        self.check("two steps between two lines", locate_departures(make_video_leads(
+            [6.0] * 10 + [8.0] * 30), read_steps("3@240 4@245")), [
+                Departure(245 * TICKS, 239 * TICKS, None, 2 * TICKS, MAX_REORDER_TICKS)])
 
     def test_measures_a_jump_at_which_pictures_are_lost_too(self) -> None:
         for lost in (0, 1, 2, 5, 12):
@@ -97,18 +101,20 @@ class PictureDepartures(Case):
             make_video_leads([6.0, 7, 6, 7, 6] * 8 + [8.0] * 2, {40: -1})), [-1])
 
     def test_a_loss_of_a_second_is_unclear_if_teletext_may_jump_against_the_pcr(self) -> None:
-        # Lost pictures, frames by which the PTS are ahead of the PCR before and after (none: it is
-        # unknown), and jumps
+        # Lost pictures, frames by which PTS are ahead of the PCR in spans of ten leads, and jumps
         for lost, ahead, expected in (
-                (50, (9, 9), []), (50, (9, 11), [None]), (50, (), [None]), (25, (), [None]),
-                (24, (9, 11), []), (24, (), [])):
+                (50, "99999999", []), (50, "99998888", [None]), (50, "79999999", []),
+                (50, "", [None]), (25, "", [None]), (24, "99998888", []), (24, "", [])):
             self.check(f"{lost} lost, {ahead}", self.list_jumps(
-                make_video_leads([6.0] * 80, {40: lost}), ahead), expected)
+                make_video_leads([6.0] * 80, {40: lost}),
+                [int(frames) for frames in ahead for _ in range(10)]), expected)
 
     def test_finds_a_lead_that_changes_steadily_but_not_a_jump_of_the_teletext_pts(self) -> None:
-        for name, slope in (("it grows", 0.02), ("it shrinks", -0.02)):
-            leads = make_video_leads([6 + slope * at for at in range(100)])
-            self.check(name, find_steady_change(leads), round(99 * slope * TICKS))
+        for name, slope, count in (("it grows", 0.02, 100), ("it shrinks", -0.02, 100),
+                                   ("in 60 leads", 0.02, 60), ("in 59 leads", 0.02, 59)):
+            leads = make_video_leads([6 + slope * at for at in range(count)])
+            change = round((count - 1) * slope * TICKS) if count > 59 else 0
+            self.check(name, find_steady_change(leads), change)
         for slopes in ((0.04, 0.02), (0.02, 0.04)):
             self.check(f"before and after a step: {slopes}", find_steady_change(make_video_leads(
                 [6 + slope * at for slope in slopes for at in range(100)], {100: 9})),
@@ -124,11 +130,15 @@ class PictureDepartures(Case):
         new = make_video_leads([5.0] * 20)
         self.check("place", locate_changes_of_video([old, new]), [
             Departure(new[0].pts, old[-1].pts, None, change=TICKS, ahead=6 * TICKS)])
+        self.check("two leads", locate_changes_of_video([old, make_video_leads([5, 7])]), [
+            Departure(5 * TICKS, old[-1].pts, None, ahead=6 * TICKS)])
 
     def test_the_lead_may_differ_from_the_jump_by_less_than_half_a_frame(self) -> None:
-        for change, expected in ((5.0, [5]), (5.4, [5]), (0.4, []), (0.0, []), (-3.0, [None])):
-            self.check(f"the times jump by 5 frames, the lead falls by {change}", self.list_jumps(
-                make_video_leads([8.0] * 9 + [8 - change] * 9, {9: 5})), expected)
+        for jump, change, expected in (
+                (5, 5.0, [5]), (5, 5.4, [5]), (5, 0.4, []), (5, 0.0, []), (5, -3.0, [None]),
+                (0.5, 0.3, [0.5]), (0.5, 0.2, [])):
+            self.check(f"the times jump by {jump}, the lead falls by {change}", self.list_jumps(
+                make_video_leads([8.0] * 9 + [8 - change] * 9, {9: jump})), expected)
 
     def test_reports_unclear_departures(self) -> None:
         chance = random.Random(1)
@@ -146,8 +156,9 @@ class PictureDepartures(Case):
             "the extremes of leads that vary by more": (
                 make_video_leads([-2, 5, 1, 1, 1, 1] * 5 + [-1, 6, 1, 1, 2, 2] * 5, {30: -1}),
                 [None]),
-            "a line that is away alone": (
-                make_video_leads([6.0] * 20 + [3.0] + [6.0] * 20, {20: 3, 21: -3}), [None])}
+            **{f"a line that is away alone, by {by}": (make_video_leads(
+                [6.0] * 20 + [6.0 - by] + [6.0] * 20, {20: by, 21: -by}), [None])
+               for by in (3, -3)}}
         # Groups of 25 pictures, of which the first is large, and losses of 1 to 3 pictures.
         vary = [5, 5, 4, 4, 3, 3, 2, 2, 1, 1, 0, 0, -1, -1, -2, -2]
         rows["leads vary between losses"] = (
@@ -166,13 +177,13 @@ class PictureDepartures(Case):
             sizes = [item.ticks for item in locate_departures(leads, unusual) or []]
             self.check(f"{frames} frames, {others} others", sizes, [expected and expected * TICKS])
 
-    def test_needs_three_leads_before_lost_pictures_and_no_part_of_a_picture(self) -> None:
-        for leads_before, frames, expected in ((1, 12, [None]), (2, 12, [None]), (3, 12, []),
-                                               (20, 12.5, [None]), (20, 12.0, [])):
-            departures = locate_departures(make_video_leads([6.0] * 40, {leads_before: frames}), [
-                UnusualStep(SECOND * leads_before - 5, TICKS * 12, TICKS)])
-            self.check(f"{leads_before} {frames}", [item.ticks for item in departures or []],
-                       expected)
+    def test_lost_pictures_need_three_leads_before_them_and_steps_that_explain_them(self) -> None:
+        for row in read_vectors("missing-pictures.tsv"):
+            count, missing, moved = int(row["leads"]), float(row["missing"]), int(row["moved"])
+            result = self.list_jumps(make_video_leads([6.0] * count + [6.0 - moved] * 40, {
+                count: missing}), (), read_steps(row["steps"]))
+            self.check(row["name"], " ".join("?" if item is None else f"{item:g}"
+                                             for item in result or []), row["found"])
 
     def test_finds_no_jumps_at_random_decoding_times_or_at_another_picture_rate(self) -> None:
         chance = random.Random(1)
@@ -403,6 +414,12 @@ def survey_times(times: list[int], jitter: int = 0) -> tuple[list[VideoLead], li
     return leads, find_unusual_steps(list_step_ranges(times), len(times))
 
 
+def read_steps(text: str) -> list[UnusualStep]:
+    """Read steps such as `-3@210 ?1@300` (see dev/vectors/clock-steps.tsv)."""
+    return [UnusualStep(int(number), round(TICKS * float(frames.strip("?"))), TICKS, "?" not in
+                        frames) for frames, number in (item.split("@") for item in text.split())]
+
+
 class Steps(Case):
     """A video with 500 pictures and 25 pictures per second, whose decoding times jump, and regular
     Teletext PTS. There is a lead at the pictures 1, 26, .. 201, 226 and so on, up to 476."""
@@ -417,27 +434,25 @@ class Steps(Case):
                      *jumps.departures, *(locate_departures(jumps.leads, jumps.steps) or [])]]
 
     def test_finds_the_picture_and_the_size_of_each_jump(self) -> None:
-        # Pictures from which on the times are later by some frames, and the jumps found
-        self.check_rows(lambda *moves: self.locate(*survey_times(make_times(*moves))), {
-            "no jump": (({},), []),
-            "later for good": (({210: 10},), [(210, 10)]),
-            "earlier for good": (({210: -10},), [(210, -10)]),
-            "later for 20 pictures": (({203: 10, 223: -10},), [(203, 10), (223, -10)]),
-            "for 20 pictures with a lead": (({215: 10, 235: -10},), [(215, 10), (235, -10)]),
-            "half a frame": (({203: .5, 223: -.5},), [(203, .5), (223, -.5)]),
-            "earlier for 60 pictures": (({203: -10, 263: 10},), [(203, -10), (263, 10)]),
-            "from picture 6 on": (({6: 10, 20: -10},), [(6, 10), (20, -10)]),
-            "from picture 5 on, as if damaged": (({5: 10, 20: -10},), [(20, None)]),
-            "for two pictures, as if damaged": (({210: 10, 212: -10},), [(212, None)]),
-            "for one picture": (({210: 10, 211: -10},), [(211, None)]),
-            "one frame, as if a picture were lost": (({203: 1, 223: -1},), [(223, None)]),
-            "one frame, a lead between": (({203: 1, 233: -1},), [(203, 1), (233, -1)]),
-            "back by one frame, a lead between": (({203: -1, 233: 1},), [(203, -1), (233, 1)]),
-            "one frame, 1500 pictures": (({710: 1, 772: -1}, 1500), [(710, 1), (772, -1)]),
-            "three jumps before the next lead, whose Teletext is the place": (
-                ({203: 10, 213: 2, 223: -10},), [(226 + LEAD, 2)]),
-            "later after the last lead": (({490: 10},), [(490, None)]),
-            "earlier after the last lead": (({490: -10},), [(490, -10)])})
+        for row in read_vectors("video-jumps.tsv"):
+            moves = {step.number: step.ticks / TICKS for step in read_steps(row["moves"])}
+            found = self.locate(*survey_times(make_times(moves, int(row["count"] or 500))))
+            self.check(row["name"], " ".join(f"{'?' if size is None else f'{size:g}'}@{place:g}"
+                                             for place, size in found), row["found"])
+
+    def test_finds_steps_that_may_be_jumps_of_the_clock(self) -> None:
+        for row in read_vectors("clock-steps.tsv"):
+            found = find_clock_steps(read_steps(row["steps"]), 1000)
+            self.check(row["name"], " ".join("+".join(
+                str(step.number) for step in steps) for steps in found), row["found"])
+
+    def test_finds_steps_that_are_unusual(self) -> None:
+        for row in read_vectors("unusual-steps.tsv"):
+            ends = (read_steps(item.replace("..", " ")) for item in row["ranges"].split())
+            ranges = [StepRange(low.ticks, low.number, *high[1::-1]) for low, *_, high in (
+                pair * 2 for pair in ends)]
+            self.check(row["name"], [step._replace(usual=TICKS) for step in find_unusual_steps(
+                ranges, 500)], read_steps(row["unusual"]))
 
     def test_finds_jumps_before_the_first_lead(self) -> None:
         for away, back in ((10, 20), (20, 40), (20, 60)):
@@ -458,12 +473,13 @@ class Steps(Case):
             self.check(name, self.locate(later, unusual), [expected])
 
     def test_needs_few_leads_if_lost_pictures_do_not_explain_a_step(self) -> None:
-        # Two leads follow picture 450. A step by one frame may be a lost or a repeated picture.
-        for frames, found in ((-3, -3), (-.5, -.5), (-1.5, -1.5), (-1, None),
-                              (.5, .5), (1.5, 1.5), (1, None)):
-            leads, unusual = survey_times(make_times({450: frames}), jitter=3)
+        # Leads follow picture 450. A step by one frame may be a lost or a repeated picture.
+        for at, frames, found in (
+                (450, -3, -3), (450, -.5, -.5), (450, -1.5, -1.5), (450, -1, None), (450, .5, .5),
+                (450, 1.5, 1.5), (450, 1, None), (476, -.5, -.5)):
+            leads, unusual = survey_times(make_times({at: frames}), jitter=3)
             for has_clock in (True, False):
-                self.check(f"{frames} {has_clock}", [size for _, size in self.locate(
+                self.check(f"{frames} at {at} {has_clock}", [size for _, size in self.locate(
                     leads, unusual, has_clock)], [found if has_clock else None])
 
     def test_finds_no_jumps_of_a_video_with_many_steps(self) -> None:
@@ -485,7 +501,8 @@ class Steps(Case):
             if row["steps"] == "2":
                 back = steps[0].number + 30 * max(len(between), 1) - 10
                 steps.append(UnusualStep(back, -ticks, TICKS))
-            self.check(f"{name}, {ticks}", have_moved(leads, steps, steps), expected)
+            others = read_steps(row["others"])
+            self.check(f"{name}, {ticks}", have_moved(leads, steps, [*steps, *others]), expected)
             self.check(f"{name}, {ticks}, unclear since there is another step", have_moved(
                 leads, steps, [*steps, UnusualStep(25 * len(frames), TICKS, TICKS)]), False)
 
@@ -531,7 +548,7 @@ class Steps(Case):
             "the PCR jumps": (jump, True), "a loss": (jump._replace(counters="broken"), False),
             "packets for six frames": (jump._replace(packets=48), False),
             "the Teletext jumps too": (jump._replace(after=sent + 7 * TICKS), False),
-            "by ten frames": (jump._replace(ticks=11 * TICKS), False),
+            "by five and a half frames": (jump._replace(ticks=13 * TICKS // 2), False),
             "a second before": (
                 jump._replace(before=sent - SECOND_TICKS, after=sent - SECOND_TICKS), False),
             "no Teletext after it": (jump._replace(after=None), False)}
@@ -554,10 +571,17 @@ class Steps(Case):
         # The PTS of pictures from number 1 on, which is decoded at 0; `None`: it has no PTS
         steady = [StepRange(least=TICKS, least_at=2, most=TICKS, most_at=2)]
         pictures = [2 * TICKS, 5 * TICKS, 3 * TICKS, None]
-        self.check_rows(lambda pictures, steps: measure_reordering(
-            pictures, passed=0, steps=steps, decoding=0, number=1), {
-                "a picture without a PTS: the longest delay": ((pictures, steady), 4 * TICKS),
-                "I P B B P B B: the mean": (
-                    ([TICKS * at for at in (1, 4, 2, 3, 7, 5, 6)], steady), TICKS),
+        later = StepRange(least=TICKS, least_at=8, most=2 * TICKS, most_at=8)
+        self.check_rows(lambda pictures, steps, passed=0, number=1: measure_reordering(
+            pictures, passed, steps, decoding=0, number=number), {
+                "B pictures, the longest delay": ((pictures, steady), 4 * TICKS),
+                "I P B B P B B": (([TICKS * at for at in (1, 4, 2, 3, 7, 5, 6)], steady), TICKS),
+                "no reordering": (([0, TICKS], steady), 0),
+                "the third picture, and the second is decoded at 0": (
+                    ([3 * TICKS], steady, 2, 2), 2 * TICKS),
+                "another step after the pictures": (([0, TICKS], [steady[0], later], 5, 6), 0),
+                "at the last of the pictures": (
+                    ([0, TICKS], [steady[0], later], 6, 7), MAX_REORDER_TICKS),
+                "shown before it is decoded": (([0, 0], steady), MAX_REORDER_TICKS),
                 "a picture shown nine frames late": (([0, 10 * TICKS], steady), MAX_REORDER_TICKS),
                 "no steps are known": ((pictures, []), MAX_REORDER_TICKS)})
