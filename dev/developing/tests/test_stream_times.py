@@ -124,23 +124,23 @@ class TimesAndRanges(unittest.TestCase):
                           for pid in (257, 258, 259)], [(9, 11), (1, 1), None])
 
     def test_finds_unusual_pts_and_the_worst_one(self) -> None:
-        # Usually PTS are 1000 ticks ahead of the PCR. Further samples, and the anomalies: how many
-        # samples show them, and the worst distance (`changed`: over 0.5 s away from the usual one)
-        rows: list[tuple[list[int], list[tuple[str, int, int]]]] = [
-            ([], []), ([0], []), ([-1], [("behind", 1, -1)]),
-            ([-5, -700, -20], [("behind", 3, -700)]),
-            ([SECOND, SECOND + 1], [("early", 1, SECOND + 1), ("changed", 2, SECOND - 999)]),
-            ([1000 + SECOND // 2], []), ([1001 + SECOND // 2] * 20, [("changed", 20, 45_001)]),
-            ([-45_000, 47_000], [("behind", 1, -45_000), ("changed", 2, -46_000)])]
+        # Usually PTS are 1000 ticks ahead of the PCR. Further samples, one a second, and anomalies:
+        # the first sample, how many show it, and the worst distance (`changed`: over 0.5 s away from
+        # the usual one)
+        rows: list[tuple[list[int], list[tuple[str, int, int, int]]]] = [
+            ([], []), ([0], []), ([-1], [("behind", 0, 1, -1)]),
+            ([0, -5, -700, -20], [("behind", 1, 3, -700)]),
+            ([SECOND, SECOND + 1], [("early", 1, 1, SECOND + 1), ("changed", 0, 2, SECOND - 999)]),
+            ([1000 + SECOND // 2], []), ([1001 + SECOND // 2] * 20, [("changed", 0, 20, 45_001)]),
+            ([-45_000, 47_000], [("behind", 0, 1, -45_000), ("changed", 0, 2, -46_000)])]
         # The samples come after the first minute, or before a PTS wrap in the first minute.
         for begin, (more, expected) in itertools.product((61, -100), rows):
             ahead = [*enumerate([*[30_000] * 3, *[1000] * 6]), *enumerate(more, begin)]
             samples = [(SECOND * (at - 3) % CLOCK, item) for at, item in ahead]
             result = list(find_pts_anomalies(make_packets([], samples=samples)))
-            self.assertEqual([(item.kind, item.number, item.worst) for item in result],
-                             expected, more)
-            self.assertTrue(all(item.total == len(samples) and item.pts in dict(samples[9:])
-                                for item in result), (begin, more))
+            self.assertEqual([tuple(item) for item in result], [
+                (kind, samples[9 + first][0], number, len(samples), worst)
+                for kind, first, number, worst in expected], (begin, more))
 
     def test_lists_gap_markers_and_losses_once(self) -> None:
         late = make_pcr_step(500, ticks=99_000, counters="broken")
