@@ -161,7 +161,7 @@ class ReceivedFrames(unittest.TestCase):
     """PES packets as a receiver gets them, with the page 888 and frame 0 at the PTS 0."""
 
     # Runs of PES packets: the number of the first packet, and the frame of each packet.
-    RUNS = ((0, [10]), (1, [11, 12, 13]), (6, [20, 20, 21]), (9, [30]))
+    RUNS = ((0, [10]), (1, [11, 12, 13]), (6, [20, 20, 24]), (9, [30]))
 
     def test_finds_the_frames_around_a_pes_packet(self) -> None:
         received = Timeline(Packets(5), PAGE, 0)
@@ -180,6 +180,7 @@ class ReceivedFrames(unittest.TestCase):
             self.assertEqual([run.first for run in received.list_frame_runs(frame)],
                              [number for number, item in known.items() if item == frame], frame)
         self.assertEqual((received.first, received.last, received.count), (10, 30, 8))
+        self.assertEqual([*received.pauses], [Span(14, 19), Span(21, 23), Span(25, 29)])
 
     def test_a_span_was_received_before_a_step_back_and_away_from_gaps_and_losses(self) -> None:
         # The frames of four PES packets, and the one before which there is a gap marker (4: none)
@@ -236,6 +237,7 @@ class ReceivedFrames(unittest.TestCase):
             ("two headers in a later frame", "10:heo:a 20:ho:b 20:ho", "10 a 20 b", [10], [10, 20]),
             ("a faulty one", "10:heo:a 15!:heo:b 30:ho", "10 a", [10], [10, 30]),
             ("two faulty ones", "10:heo:a 15!:heo:b 16!:- 30:ho", "10 a", [10], [10, 30]),
+            ("a faulty one with rows", "10:heo:a 15!:o:b 30:ho", "10 a", [10], [10, 30]),
             ("one off the frames", "10:heo:a 15.5:heo:b 30:ho", "10 a", [10], [10, 30]),
             ("a faulty first header", "5:o:a 10!:h 20:ho", "", [20], [20]),
             ("erased after a faulty one", "10:heo:a 15!:heo:b 30:heo", "10 a 30 b", [10], [10, 30]),
@@ -305,7 +307,7 @@ class ReceivedFrames(unittest.TestCase):
                 (flags, "h", "ho", "he"))]
             packets = Packets(5, runs, decoded_rows=[
                 *texts[:2], *[(2, own)] * (own is not None), texts[3]])
-            rows = Timeline(packets, PAGE, 0, inside=(2, 2)).states[-1].rows
+            rows = Timeline(packets, PAGE, 0, inside=(2, 2)).get_state_after(2).rows
             other = (BLANK_PAGE if "e" in flags else OLD_PAGE)[0]
             self.assertEqual((rows[0], rows[19]), (
                 other, b"x" if own is None else b"y" if own else other), (flags, own))
