@@ -2,6 +2,7 @@
 from __future__ import annotations
 
 import itertools
+from collections import Counter
 from typing import Iterable, NamedTuple, Sequence
 
 from developing.pes import decode_address
@@ -12,9 +13,9 @@ from subtitles.formats.layout import (
 from subtitles.formats.listing import parse_fault_line
 from subtitles.formats.teletext import ENGLISH, OPTION_BY_WORD, Page
 from subtitles.stream.layout import (
-    add_items, choose_layouts, count_misdrawn, draws_as_sent, Evidence, find_questionable_items,
-    is_found, ItemEvidence, LayoutChoice, list_items, match_lines, MAX_ITEMS, remove_items,
-    SentSubtitle)
+    add_items, choose_layouts, count_misdrawn, draws_as_sent, Evidence, find_ends,
+    find_questionable_items, is_found, ItemEvidence, LayoutChoice, list_items, match_lines,
+    MAX_ITEMS, remove_items, SentSubtitle)
 from ..every_place.on_air import find_page_span, Packet, read_rows
 from ..every_place.reading import decode_header, read_packet, split_packets
 from .bench import Case
@@ -405,6 +406,10 @@ class ProposedItems(Case):
             self.must(f"{lines} {rows}", len(pairs) == count and all(
                 lines[pair.number] == pair.cells and rows[pair.row - 1] == pair.sent and
                 pair.place == 7 for pair in pairs), pairs)
+
+    def test_the_end_of_most_lines_comes_first_even_if_their_texts_are_equal(self) -> None:
+        sent = Counter({(b"yes", b"yes\x0a"): 9, (b"cat", b"cat\7"): 1, (b"dog", b"dog\7"): 1})
+        self.check("ends", find_ends(sent), [b"\x0a", b"\7"])
 
     def test_tests_items_that_cancel_each_other_together(self) -> None:
         # In a text of two lines `last` moves the lines one row up, and `row=1` one row down.
