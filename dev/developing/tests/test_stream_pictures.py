@@ -420,6 +420,13 @@ def read_steps(text: str) -> list[UnusualStep]:
                         frames) for frames, number in (item.split("@") for item in text.split())]
 
 
+def read_ranges(text: str) -> list[StepRange]:
+    """Read ranges of steps such as `1@2 1@100..11@110` (see dev/vectors/unusual-steps.tsv)."""
+    ends = (read_steps(item.replace("..", " ")) for item in text.split())
+    return [StepRange(least.ticks, least.number, most.ticks, most.number)
+            for least, *_, most in (steps * 2 for steps in ends)]
+
+
 class Steps(Case):
     """A video with 500 pictures and 25 pictures per second, whose decoding times jump, and regular
     Teletext PTS. There is a lead at the pictures 1, 26, .. 201, 226 and so on, up to 476."""
@@ -448,11 +455,9 @@ class Steps(Case):
 
     def test_finds_steps_that_are_unusual(self) -> None:
         for row in read_vectors("unusual-steps.tsv"):
-            ends = (read_steps(item.replace("..", " ")) for item in row["ranges"].split())
-            ranges = [StepRange(low.ticks, low.number, *high[1::-1]) for low, *_, high in (
-                pair * 2 for pair in ends)]
-            self.check(row["name"], [step._replace(usual=TICKS) for step in find_unusual_steps(
-                ranges, 500)], read_steps(row["unusual"]))
+            unusual = find_unusual_steps(read_ranges(row["ranges"]), 500)
+            self.check(row["name"], [step._replace(usual=TICKS) for step in unusual],
+                       read_steps(row["unusual"]))
 
     def test_finds_jumps_before_the_first_lead(self) -> None:
         for away, back in ((10, 20), (20, 40), (20, 60)):
@@ -568,20 +573,8 @@ class Steps(Case):
             self.check(name, survey_times(times)[1], [])
 
     def test_measures_the_reordering_of_pictures(self) -> None:
-        # The PTS of pictures from number 1 on, which is decoded at 0; `None`: it has no PTS
-        steady = [StepRange(least=TICKS, least_at=2, most=TICKS, most_at=2)]
-        pictures = [2 * TICKS, 5 * TICKS, 3 * TICKS, None]
-        later = StepRange(least=TICKS, least_at=8, most=2 * TICKS, most_at=8)
-        self.check_rows(lambda pictures, steps, passed=0, number=1: measure_reordering(
-            pictures, passed, steps, decoding=0, number=number), {
-                "B pictures, the longest delay": ((pictures, steady), 4 * TICKS),
-                "I P B B P B B": (([TICKS * at for at in (1, 4, 2, 3, 7, 5, 6)], steady), TICKS),
-                "no reordering": (([0, TICKS], steady), 0),
-                "the third picture, and the second is decoded at 0": (
-                    ([3 * TICKS], steady, 2, 2), 2 * TICKS),
-                "another step after the pictures": (([0, TICKS], [steady[0], later], 5, 6), 0),
-                "at the last of the pictures": (
-                    ([0, TICKS], [steady[0], later], 6, 7), MAX_REORDER_TICKS),
-                "shown before it is decoded": (([0, 0], steady), MAX_REORDER_TICKS),
-                "a picture shown nine frames late": (([0, 10 * TICKS], steady), MAX_REORDER_TICKS),
-                "no steps are known": ((pictures, []), MAX_REORDER_TICKS)})
+        for row in read_vectors("reordering.tsv"):
+            pictures = [None if pts == "-" else TICKS * int(pts) for pts in row["pts"].split()]
+            result = measure_reordering(pictures, int(row["before"]), read_ranges(row["steps"]),
+                                        0, int(row["decoded"]))
+            self.check(row["name"], result, TICKS * int(row["frames"]))
