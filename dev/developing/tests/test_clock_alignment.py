@@ -61,15 +61,16 @@ class RepeatedPages(Case):
             self.check(f"{origin}: not erased", find(changes, 2, 5), None)
 
     def test_ignores_an_erasure_that_is_shorter_than_the_expected_pause(self) -> None:
-        # The expected pause between the subtitles, and for how long the page is erased in frame
-        # 110. An erasure of more than MAX_ERASED_FRAMES is never ignored.
-        for pause, erased in itertools.product(range(1, 9), repeat=2):
+        # The expected pause before the second subtitle, for how long the page is erased in frame
+        # 110, and the text of the second subtitle. A pause before another text does not matter. An
+        # erasure of more than MAX_ERASED_FRAMES is never ignored.
+        for pause, erased, text in itertools.product(range(1, 9), range(1, 9), (b"text", b"new")):
             cues = find_expected_cues([ExpectedSubtitle(100, 130, 1, b"text"),
-                                       ExpectedSubtitle(130 + pause, 160, 1, b"text")])
+                                       ExpectedSubtitle(130 + pause, 160, 1, text)])
             frames = [100, 110, 110 + erased, 130, 130 + pause, 160]
-            base = make_time_base(cues, [(TICKS * frame, text) for frame, text in zip(
-                frames, (b"text", b"") * 3)], 1000)
-            if erased <= min(MAX_ERASED_FRAMES, pause - 1):
+            base = make_time_base(cues, [(TICKS * frame, sent) for frame, sent in zip(
+                frames, (b"text", b"", b"text", b"", text, b""))], 1000)
+            if erased <= min(MAX_ERASED_FRAMES, 9 if text == b"new" else pause - 1):
                 del frames[1:3]
             self.check(f"{pause} {erased}", [*base.changes], frames)
             self.check(f"{pause} {erased}: copy without the first and last", [
