@@ -116,10 +116,11 @@ class OriginLines(unittest.TestCase):
         # three texts, and fewer than a quarter of the smaller number are the same.
         for count, own, others, is_other in ((8, 1, 7, True), (8, 2, 6, False), (3, 0, 9, True),
                                              (2, 0, 9, False), (9, 0, 2, False)):
-            cues, sent = ([SimpleNamespace(letters=b"%d" % at) for at in texts] for texts in (
-                range(count), range(count - own, count + others)))
-            base: Any = SimpleNamespace(cues=cues, changes=dict(enumerate(sent)))
-            self.assertEqual(describe_mismatch(self.part(4, 9, 4), [base]), "probably another "
+            cues, *sent = ([SimpleNamespace(letters=b"%d" % at if at else b"") for at in texts]
+                           for texts in (range(count + 1), range(count - own + 1, count + 1),
+                                         (0, *range(count + 1, count + others + 1))))
+            bases: Any = [SimpleNamespace(cues=cues, changes=dict(enumerate(it))) for it in sent]
+            self.assertEqual(describe_mismatch(self.part(4, 9, 4), bases), "probably another "
                              "programme's subtitle file: 4 of 9 cues match" * is_other, count)
 
     def test_needs_one_part_more_than_breaks(self) -> None:

@@ -336,22 +336,24 @@ class Requests(Case):
 
     def test_searches_only_the_requested_subtitles_and_packets(self) -> None:
         twice = [*self.send([0] * 24), *self.send([EACH] * 24)]
+        twice[24] = twice[24][0], b"other"  # instead of the first text
         half, rest = self.times[6][0], FrameRange(self.times[6][0])
-        # The options of the search, the number of cues that match, and the origin in frames
-        rows: dict[str, tuple[dict[str, Any], int, int]] = {
-            "the first airing": ({"inside": (0, 23)}, 24, 0),
-            "the second airing": ({"inside": (24, 47)}, 24, EACH),
-            "the first half": ({"between": FrameRange(0, half), "inside": (0, 23)}, 12, 0),
+        # The options of the search, the matching cues, the origin in frames, and whether all match
+        rows: dict[str, tuple[dict[str, Any], int, int, bool]] = {
+            "the first airing": ({"inside": (0, 23)}, 24, 0, True),
+            "the second airing": ({"inside": (24, 47)}, 24, EACH, False),
+            "half of the first airing": ({"inside": (0, 11)}, 12, 0, False),
+            "the first half": ({"between": FrameRange(0, half), "inside": (0, 23)}, 12, 0, True),
             "the second half, of the second airing": (
-                {"between": rest, "inside": (24, 47)}, 12, EACH),
+                {"between": rest, "inside": (24, 47)}, 12, EACH, True),
             "the second half without two subtitles": (
-                {"between": rest, "left_out": (7, 8), "inside": (0, 23)}, 8, 0)}
-        for name, (options, count, origin) in rows.items():
+                {"between": rest, "left_out": (7, 8), "inside": (0, 23)}, 8, 0, True)}
+        for name, (options, count, origin, is_every) in rows.items():
             result = self.find(twice, **options)
             self.check(f"{name}: airings", result.airings, [])
             self.check(f"{name}: matching cues", [
-                (part.origin, part.matches, part.total) for part in result.parts], [
-                (TICKS * origin, count, count)])
+                (part.origin, part.matches, part.total, result.matches_every_cue)
+                for part in result.parts], [(TICKS * origin, count, count, is_every)])
 
     def test_a_given_origin_excludes_an_airing_with_other_texts(self) -> None:
         twice = [*self.send([0] * 24), *self.send([EACH] * 24)]
@@ -409,9 +411,9 @@ class Requests(Case):
         for delays, is_unclear in (([0] * 24, False), ([0, 0, 0, *[2] * 21], True)):
             packets = make_sent_packets(self.send(delays))
             packets.stray_rows.append((0, ()))
-            packets.runs[0] = packets.runs[0]._replace(flags="hs")
+            packets.runs[0] = packets.runs[0]._replace(flags="hs", length=2)
             result = estimate_origin(OriginSearch(self.stl, "one.pes", within=2), packets)
-            line = "rows came while page 888 was not open, in 1 PES packet"
+            line = "rows came while page 888 was not open, in 2 PES packets"
             self.assertEqual(result.status, 1 if is_unclear else 0, delays)
             self.assertEqual(result.lines[0] == line, is_unclear, result.lines)
             self.assertEqual(any("rows came" in line for line in result.lines), is_unclear, delays)
