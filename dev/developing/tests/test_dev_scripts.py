@@ -41,48 +41,7 @@ GATE = os.path.join(TOP, ".ci", "run")
 STAGES = {"dev/edits": "1 passed, 0 failed", "dev/graph": "20 passed, 0 failed",
           "rt": "300 passed, 0 failed", "tools/check-program": "4000 passed, 0 failed",
           "dev/release": "50000 passed, 0 failed"}
-ALL_PASSED = "54321 passed, 0 failed"
-
-# Calls of scripts. The first stages stop the gate if they fail. The call that stores the prover's
-# lines has the first line of each of its files in place of their names.
-NOTE_CALL = "dev/release --note first line of rt sum"
-FIRST_CALLS = ["dev/edits --applies", "dev/graph --heads", "rt ci", NOTE_CALL]
-LAST_CALLS = ["tools/check-program -p crates/subttx/out/subttx", "dev/release --compare"]
 INSTALLER = "dev/install-test-tools"  # CI is set in the rows about it
-ALL_CALLS = [*FIRST_CALLS, "dev/release --keep", *LAST_CALLS]
-
-# The arguments of the gate; the stage that differs from STAGES, its last line and its status; the
-# last line of the gate, whose status is 1 if anything failed; and the calls
-GATE_CASES: dict[str, tuple[str, str, str, int, str, list[str]]] = {
-    "all stages pass": ("", "rt", STAGES["rt"], 0, ALL_PASSED, ALL_CALLS),
-    "with --anew": ("--anew", "rt", STAGES["rt"], 0, ALL_PASSED, [
-        *FIRST_CALLS[:2], "rt ci --anew", *ALL_CALLS[3:]]),
-    "two named crates": ("low high", "rt", STAGES["rt"], 0, STAGES["rt"], [
-        "rt ci low high", NOTE_CALL]),
-    "a named crate is not proved": ("low", "rt", "0 passed, 1 failed", 1, "0 passed, 1 failed", [
-        "rt ci low", NOTE_CALL]),
-    "the sources change meanwhile": ("", "tools/sources", "", 0, ALL_PASSED, [
-        *FIRST_CALLS, *LAST_CALLS]),
-    "with --anew, which rt lacks": ("--anew", "bin/rt", STAGES["rt"], 0, ALL_PASSED, [
-        *FIRST_CALLS[:2], "bin/rt ci", NOTE_CALL.replace("rt", "bin/rt"), *ALL_CALLS[4:]]),
-    "in CI": ("", INSTALLER, "", 0, ALL_PASSED, [*ALL_CALLS[:-2], INSTALLER, *LAST_CALLS]),
-    "in CI, apt-get fails": ("", INSTALLER, "", 1, ALL_PASSED, [
-        *ALL_CALLS[:-2], INSTALLER, *LAST_CALLS]),
-    "the edits fail": ("", "dev/edits", "1 passed, 2 failed", 1, "321 passed, 2 failed",
-                       FIRST_CALLS),
-    "the proof fails": ("", "rt", "299 passed, 1 failed", 1, "320 passed, 1 failed", FIRST_CALLS),
-    "the tests fail": ("", "tools/check-program", "3999 passed, 1 failed", 1,
-                       "54320 passed, 1 failed", ALL_CALLS),
-    "dist/ holds another program": ("", "dev/release", "0 passed, 1 failed", 1,
-                                    "4321 passed, 1 failed", ALL_CALLS),
-    "status 1 with no failure": ("", "tools/check-program", STAGES["tools/check-program"], 1,
-                                 "54321 passed, 1 failed", ALL_CALLS),
-    "status 0 with a failure": ("", "tools/check-program", "3999 passed, 1 failed", 0,
-                                "54320 passed, 1 failed", ALL_CALLS),
-    "no counts": ("", "tools/check-program", "killed", 0, "50321 passed, 1 failed", ALL_CALLS),
-    "counts within a line": ("", "rt", "of 300 passed, 0 failed", 0, "21 passed, 1 failed",
-                             FIRST_CALLS),
-}
 
 
 def make_stage(name: str, line: str, status: int) -> str:
@@ -120,33 +79,24 @@ class Gate(Case):
             2, b"", ["run: this toolchain's rt ci takes no names: call .ci/run alone"]))
 
     def test_adds_the_counts_of_its_stages_and_stops_if_one_of_the_first_three_fails(self) -> None:
-        for name, row in GATE_CASES.items():
-            folder, last, expected_calls = name.replace(" ", "-").replace("/", ""), row[4], row[5]
-            process = self.call_gate(folder, *row[:4])
-            self.check(f"{name}: last line", process.out.decode().splitlines()[-1], last)
-            self.check(f"{name}: status", process.status, int(not last.endswith(" 0 failed")))
+        for row in read_vectors("gate.tsv"):
+            name, folder = row["name"], row["name"].replace(" ", "-").replace("/", "")
+            process = self.call_gate(folder, row["arguments"], row["stage"], row["line"],
+                                     int(row["status"]))
+            self.check(f"{name}: last line", process.out.decode().splitlines()[-1], row["last"])
+            self.check(f"{name}: status", process.status,
+                       int(not row["last"].endswith(" 0 failed")))
             self.check(f"{name}: calls", self.read(f"{folder}/calls").decode().splitlines(),
-                       expected_calls)
-
-
-# A command in a document, its output, and each status that agrees with it; `None` is the status of
-# a command that exceeded a time limit
-STATUS_CASES: dict[str, tuple[str, str, list[int | None]]] = {
-    "an answer": ("./subttx show a", "3 subtitles\n", [0]),
-    "a refusal": ("./subttx check a b", "refused 45 Lost pes 1\n", [1]),
-    "counted faults": ("./subttx check a b --all", "2 faults\n", [1]),
-    "a usage fault": ("./subttx check a", "usage 0 Words\n", [2]),
-    "no clock": ("tools/qc a b", "relative 3 frames 1 transmissions\n", [3]),
-    "a pipe at the end": ("./subttx check a b | tail", "refused 45 Lost pes 1\n", [0, 1, 2, 3]),
-    "a pipe before the end": ("cat a | tail; ./subttx check a b", "refused 45 Lost pes 1\n", [1]),
-}
+                       row["calls"].split("; "))
 
 
 class DocumentStatuses(Case):
     def test_compares_the_status_unless_a_pipe_hides_it(self) -> None:
-        for name, (command, output, statuses) in STATUS_CASES.items():
-            self.check(name, [status for status in (None, 0, 1, 2, 3)
-                              if has_expected_status(status, command, output)], statuses)
+        for row in read_vectors("document-statuses.tsv"):
+            self.check(row["name"], " ".join(
+                "none" if status is None else f"{status}" for status in (None, 0, 1, 2, 3)
+                if has_expected_status(status, row["command"], row["output"] + "\n")),
+                row["statuses"])
 
 
 class FailedScripts(Case):

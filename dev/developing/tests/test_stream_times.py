@@ -125,8 +125,8 @@ class TimesAndRanges(unittest.TestCase):
 
     def test_finds_unusual_pts_and_the_worst_one(self) -> None:
         # Usually PTS are 1000 ticks ahead of the PCR. Further samples, one a second, and anomalies:
-        # the first sample, how many show it, and the worst distance (`changed`: over 0.5 s away from
-        # the usual one)
+        # the first sample, how many show it, and the worst distance (`changed`: from the usual one,
+        # if it is over 0.5 s)
         rows: list[tuple[list[int], list[tuple[str, int, int, int]]]] = [
             ([], []), ([0], []), ([-1], [("behind", 0, 1, -1)]),
             ([0, -5, -700, -20], [("behind", 1, 3, -700)]),
