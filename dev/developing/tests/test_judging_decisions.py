@@ -222,11 +222,12 @@ class DecodedPages(Case):
     def test_a_page_must_be_closed_before_its_tco(self) -> None:
         """The page of a subtitle in the frames 100 to 149 is sent in frame 100."""
         subtitle = Subtitle(1, 1, 100, 150, 20, 2, b"a")
-        # The frame of the header that closes the page, and the delay if the page must be closed.
-        for closed, expected in ((100, 0), (101, 1), (149, 49), (150, None), (170, None)):
-            page = [HEADER, make_numbered_row(20, b"a")]
+        # The frame of the header that closes the page (120: of another page), and the delay
+        for closed, expected in ((100, 0), (101, 1), (120, None), (149, 49), (150, None)):
+            page, end = [HEADER, make_numbered_row(20, b"a")], [CLOSING]
+            end[:0] = [HEADER, make_numbered_row(20, b"b")] * (closed == 120)
             data = make_pes_packet(TICKS * 100, page + [CLOSING]) if closed == 100 else \
-                make_pes_packet(TICKS * 100, page) + make_pes_packet(TICKS * closed, [CLOSING])
+                make_pes_packet(TICKS * 100, page) + make_pes_packet(TICKS * closed, end)
             decoded = decode_packets(self, make_pes_packet(0, [CLOSING]) + data)
             for is_complete, frames in ((True, expected), (False, 0)):
                 delay = measure_delay(subtitle, decoded.get_page_at(100), decoded, is_complete)

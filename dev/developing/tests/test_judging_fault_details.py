@@ -283,6 +283,8 @@ class ParsedWaivers(Case):
             with self.subTest(number), self.assertRaisesRegex(
                     Stop, f"{number} can't be waived for one subtitle"):
                 make_severity("", LINE.replace("72", f"{number}"))
+        for number in (*range(50, 58), *range(64, 74), 77, 78):  # these may be waived
+            make_severity(LINE.replace("72", f"{number}"))
 
     def test_uses_waivers_for_the_file_up_to_their_day(self) -> None:
         waiver = parse_waiver("", 1, LINE)
@@ -382,10 +384,11 @@ class WaivedSubtitles(Case):
 
     def test_a_refused_subtitle_needs_a_waiver_for_the_unknown_page_too(self) -> None:
         # Byte 9F is a fault 51, and makes the expected page unknown, which is fault 78.
-        programme = replace_subtitles({4: (400, 460, b"Number \x9f 4")})
-        refused, unknown = make_waiver(51, 4), make_waiver(78, 4)
+        programme = replace_subtitles({2: (200, 260, b"\x9f"), 4: (400, 460, b"Number \x9f 4")})
+        refused, unknown = ([make_waiver(number, at) for at in (2, 4)] for number in (51, 78))
         rows: list[tuple[list[str], str]] = [
-            ([], REFUSED), ([refused], REFUSED), ([unknown], REFUSED), ([refused, unknown], WAIVED)]
+            ([], REFUSED), (refused, REFUSED), (unknown, REFUSED), ([*refused, *unknown], WAIVED),
+            ([*refused, unknown[0]], REFUSED), ([*refused, unknown[1]], REFUSED)]
         for lines, verdict in rows:
             result = self.judge(PROGRAMME, lines, programme)
             self.check(f"{lines}", result["verdict"], verdict)

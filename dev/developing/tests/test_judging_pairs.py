@@ -427,21 +427,25 @@ class Pictures(Case):
             "only audio": (([], {259: AUDIO}), [NO_VIDEO]),
             "private data with pictures": (([has_pictures], {VIDEO_PID: PRIVATE}), [UNREAD]),
             "video of another programme": (([has_pictures, *of_programme_2], {}), [NO_VIDEO]),
-            "only one of two videos": ((make_leads(500, 4500), TWO_VIDEOS), [UNREAD])})
+            "only one of two videos": ((make_leads(500, 4500), TWO_VIDEOS), [UNREAD]),
+            **{f"pictures of stream_type {kind} beside them": (
+                ([f"pictures {SECOND_VIDEO_PID} 0 0 9 0", *make_leads(500, 4500)],
+                 {**ONE_VIDEO, SECOND_VIDEO_PID: kind}), kinds)
+               for kind, kinds in ((PRIVATE, [UNREAD]), (0x20, []))}})
 
     def test_says_where_no_picture_was_compared(self) -> None:
         # Teletext without a picture is reported after 5 seconds, and three usual intervals.
         self.check_kinds({
             "all": ((make_leads(500, 4500),), []),
             "none in the first 20 seconds": ((make_leads(1500, 4500),), [HOLE]),
-            "none in the first 3 seconds": ((make_leads(1075, 4500),), []),
+            "none in the first 4 seconds": ((make_leads(1100, 4500),), []),
             "none in the last 40 seconds": ((make_leads(500, 3000),), [HOLE]),
             "none for 20 seconds": ((make_leads(500, 2000) + make_leads(2500, 4500),), [HOLE]),
             "only after the part": ((make_leads(5000, 9000),), [HOLE]),
             "only after a part of three seconds": (
                 (make_leads(5000, 9000), ONE_VIDEO, SENT[:3]), [HOLE]),
             "none for 40 seconds without Teletext": (
-                (make_leads(500, 2000) + make_leads(3000, 4500), ONE_VIDEO, SENT[:40] + SENT[80:]),
+                (make_leads(500, 1900) + make_leads(3000, 4500), ONE_VIDEO, SENT[:40] + SENT[80:]),
                 []),
             "stills, one in 10 seconds": ((make_leads(500, 4500)[::10],), [])})
 
@@ -457,16 +461,16 @@ class Pictures(Case):
                 (first + for_20_seconds + make_leads(2500, 4500), TWO_VIDEOS), [JUMP, JUMP]),
             "3.2 frames in 160 seconds": ((make_leads(500, 4500, growth=0.02),), [STEADY]),
             "0.8 frames in 160 seconds": ((make_leads(500, 4500, growth=0.005),), [])}
-        # PTS are 20 frames ahead of the PCR. From frame 2500 on, pictures are missing, but decoding
-        # times go on where they stopped: a larger lead shows pictures behind the PCR.
-        ahead = [f"ahead {TELETEXT_PID} {TICKS * frame} {TICKS * 20}"
+        # PTS are 20 or 5 frames ahead of the PCR. From frame 2500 on, pictures are missing, but
+        # decoding times go on where they stopped: a larger lead shows pictures behind the PCR.
+        ahead = [f"ahead {TELETEXT_PID} {TICKS * frame} {TICKS * (20 if frame % 2 else 5)}"
                  for frame in range(505, 4500, SECOND)]
         for change, kinds in ((10, []), (15, []), (16, [JUMP]), (50, [JUMP]), (-50, [])):
             rows[f"the lead grows by {change} frames without a jump"] = (
                 ([*ahead, *make_leads(500, 2500), *make_leads(2500, 4500, 6 + change)],), kinds)
-        rows["the lead grows by 16 frames for 20 seconds"] = (
-            ([*ahead, *make_leads(500, 2500), *make_leads(2500, 3000, 6 + 16),
-              *make_leads(3000, 4500)],), [JUMP])
+        rows["the lead grows by 16 frames for 3 seconds"] = (
+            ([*ahead, *make_leads(500, 2500), *make_leads(2500, 2575, 6 + 16),
+              *make_leads(2575, 4500)],), [JUMP])
         rows["only one picture in 20 seconds is more than a frame behind the PCR"] = (([*ahead, *(
             make_leads(frame, frame + SECOND, 21.1 if frame % 500 == 0 else 20.9)[0]
             for frame in range(500, 4500, SECOND))],), [])

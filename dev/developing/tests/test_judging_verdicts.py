@@ -3,6 +3,7 @@ from __future__ import annotations
 
 import dataclasses
 import itertools
+import json
 from types import SimpleNamespace
 from typing import Any, Sequence
 from unittest import mock
@@ -110,6 +111,16 @@ class Verdicts(Case):
             verdict = make_part_verdict([make_part(0, 9, 0)], Severity(self.write("mild", lines)))
             verdict.unchecked.append(Unchecked(JUMP, "", change=MIN_UNJUDGED_CHANGE))
             self.check(f"{lines!r}", verdict.word, word)
+
+    def test_lists_each_check_of_a_part_that_was_neither_made_nor_found_a_fault(self) -> None:
+        for row in read_vectors("unmade-checks.tsv"):
+            parts = [make_part(0, 9, 0, make_answer([row[f"part {number}"], "1 faults"]), number,
+                               pes=(0, 9)) for number in (1, 2)]
+            verdict = dataclasses.replace(
+                make_part_verdict(parts), made_checks={*map(tuple, json.loads(row["made"]))},
+                named_faults=[NamedFault(PICTURES_LEFT, "", part=int(row["pictures left"]))])
+            self.check(row["name"], [[item.kind, item.part] for item in verdict.list_unchecked()],
+                       json.loads(row["entries"]))
 
     def test_keeps_each_warning_once(self) -> None:
         notice, other = Notice("pause", "1", None), Notice("pause", "2", None)

@@ -2,8 +2,10 @@
 from __future__ import annotations
 
 import csv
+import json
 from types import SimpleNamespace
 from typing import Any
+from unittest import mock
 
 from developing.stl import make_gsi_block
 from subtitles.common.times import Span, TICKS, format_frame
@@ -23,6 +25,7 @@ from subtitles.stream.receiver import BLANK_PAGE, Rows, Timeline
 from .bench import Case
 from .judged import ProgrammeCase, judge_files
 from .parts import make_answer, make_part, markup_text, parse_single_fault
+from .stories import read_vectors
 from .transmissions import delay_subtitle, join_pes_packets
 from .test_judging_status import make_severity
 
@@ -168,6 +171,18 @@ class CueVerdicts(Case):
             result = [CueJudge(make_part(0, 300, 0, output, causes=causes, severity=severity)
                                ).judge(cue).word for severity in severities]
             self.check(f"{name}, {numbers}, trusted from {first} on", result, expected)
+
+    def test_a_cause_is_waived_if_its_subtitle_has_no_error(self) -> None:
+        due = ExpectedPages([FIRST, SECOND], [page(b"one"), page(b"two")])
+        for row in read_vectors("waived-causes.tsv"):
+            owners, ends, at = (json.loads(row[name]) for name in ("owners", "ends", "cause"))
+            causes: Any = SimpleNamespace(expected=due, frames_by_end_fault=dict(ends))
+            causes.find_owners = mock.Mock(return_value=[*map(set, owners)])
+            severity = make_severity(*row["severity"].split("; ")).limit_to_file("a.stl", str, "")
+            part = make_part(0, 300, 0, make_answer(row["lines"].split("; "), path=self.path(
+                "list")), causes=causes, severity=severity)
+            self.check(row["name"], part.is_cause_waived(Cause(at[0], LATE, 3, None, None, "", 0,
+                                                               at[1])), row["waived"] == "yes")
 
     def test_marks_subtitles_with_losses_as_unknown(self) -> None:
         cue = Cue(FIRST, page(b"one"), None)
