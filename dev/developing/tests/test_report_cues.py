@@ -11,8 +11,8 @@ from developing.stl import make_gsi_block
 from subtitles.common.times import Span, TICKS, format_frame
 from subtitles.formats.stl import NamedSubtitle, Subtitle, SubtitleFile
 from subtitles.judging.causes import (
-    Cause, EARLY, LATE, NEVER, NOT_RECEIVED, UNKNOWN_CAUSE, WRONG_TEXT)
-from subtitles.judging.cues import Cue, CueJudge, CueVerdict, SubtitleFaults, add_decoded_page
+    Cause, LATE, NEVER, NOT_RECEIVED, UNKNOWN_CAUSE, WRONG_TEXT)
+from subtitles.judging.cues import Cue, CueJudge, CueVerdict, SubtitleFaults, find_cues
 from subtitles.judging.status import (
     ACCEPTED, AS_SHOWN, DIFFERS, LOST, NOT_JUDGED, NOT_READ, REFUSED, RELATIVE, SAME, VALID, WAIVED,
     WARNED, WITH_FAULTS)
@@ -20,67 +20,41 @@ from subtitles.judging.transmissions import ExpectedPages
 from subtitles.report.blocks import mark_field, mark_text, mark_times, show_byte
 from subtitles.report.cue_list import CueList, CueRow, mark_difference
 from subtitles.report.page import draw_verdict, keep_options_together
-from subtitles.stream.packets import Packets, PES
-from subtitles.stream.receiver import BLANK_PAGE, Rows, Timeline
+from subtitles.stream.receiver import BLANK_PAGE, Rows
 from .bench import Case
 from .judged import ProgrammeCase, judge_files
 from .parts import make_answer, make_part, markup_text, parse_single_fault
 from .stories import read_vectors
 from .transmissions import delay_subtitle, join_pes_packets
+from .test_judging_causes import decode, make_page_named, make_programme
+from .test_judging_faults import parse_causes
 from .test_judging_status import make_severity
 
 
-# Subtitles in frames 100 to 199 and 200 to 299
-FIRST, SECOND = Subtitle(1, 1, 100, 200, 20, 2, b""), Subtitle(2, 2, 200, 300, 20, 2, b"")
+FIRST = Subtitle(1, 1, 100, 200, 20, 2, b"")  # in frames 100 to 199
 
 
 def page(text: bytes) -> Rows:
     return (*BLANK_PAGE[:19], text.ljust(40), *BLANK_PAGE[20:])
 
 
-def make_timeline_of_pages(*changes: tuple[int, Rows]) -> Timeline:
-    decoded = Timeline(Packets(PES), (0, 0x88), 0)
-    decoded.first, decoded.last = 0, 1000
-    for frame, rows in changes:
-        decoded.record_page(frame, rows)
-    return decoded
-
-
 class ActualCues(Case):
-    """Two subtitles with the pages `ONE` and `TWO`, from frames 100 and 200 on."""
-
-    ONE, TWO = page(b"one"), page(b"two")
-
-    def test_finds_the_frames_in_which_a_subtitle_was_decoded(self) -> None:
-        one, blank, two, wrong = self.ONE, BLANK_PAGE, self.TWO, page(b"onf")
-        late, text, never = (Cause(0, name, frames, sent, None, "", 0) for name, frames, sent in (
-            (LATE, 7, one), (WRONG_TEXT, None, wrong), (NEVER, None, None)))
-        # The cause of a fault of the first subtitle, the decoded pages by their first frame, and
-        # its decoded in-cue and out-cue
-        for name, cause, changes, cues in (
-                ("right", None, [(100, one), (200, two)], (100, 200)),
-                ("late", late, [(107, one), (207, two)], (107, 207)),
-                ("early", late._replace(name=EARLY, frames=60), [(40, one), (90, two)], (40, 90)),
-                ("late within the limit", None, [(103, one), (203, two)], (103, 203)),
-                ("wrong text", text, [(101, wrong), (199, two)], (101, 199)),
-                ("never sent", never, [(0, blank), (200, two)], (None, None)),
-                ("damaged", None, [(100, one), (150, wrong), (200, two)], (100, 200)),
-                ("erased", None, [(100, one), (150, blank), (200, two)], (100, 150)),
-                ("replaced by the next", None, [(100, one), (150, two)], (100, 150)),
-                ("up to the end", None, [(100, one)], (100, None))):
-            delay = None if cues[0] is None else cues[0] - 100
-            cue = add_decoded_page(Cue(FIRST, one, cause), 0, ExpectedPages(
-                [FIRST, SECOND], [one, two]), make_timeline_of_pages(*changes),
-                delay=0 if cause else delay)
-            self.check(name, (cue.begin, cue.end, cue.delay_in), (*cues, delay))
-
-    def test_finds_the_cue_between_equal_pages(self) -> None:
-        """Equal pages are divided at the second subtitle's TCI, whatever the usual delay."""
-        decoded = make_timeline_of_pages((100, self.ONE), (300, BLANK_PAGE))
-        due = ExpectedPages([FIRST, SECOND], [self.ONE, self.ONE])
-        cues = [add_decoded_page(Cue(item, self.ONE, None), place, due, decoded, 0)
-                for place, item in enumerate((FIRST, SECOND))]
-        self.check("frames", [(cue.begin, cue.end) for cue in cues], [(100, 200), (200, 300)])
+    def test_finds_the_frames_in_which_subtitles_were_decoded(self) -> None:
+        for row in read_vectors("cues.tsv"):
+            programme = make_programme(row["subtitles"])
+            causes = {cause.subtitle_index: cause._replace(
+                sent_page=make_page_named(cause.details) if cause.details else None)
+                for cause in parse_causes(row["causes"])}
+            part = make_part(0, 999, 0, delays=[int(delay) for delay in row["delays"].split()],
+                             expected_pages=mock.Mock(return_value=programme),
+                             causes=SimpleNamespace(cause_by_index=causes, timeline=decode(
+                                 row["sent"], programme, first=int(row["first"] or 0))))
+            cues = [(cue.begin, cue.end, cue.delay_in) for cue in find_cues(part)]
+            self.check(row["name"], "; ".join(f"{begin} {end}" for begin, end, _ in cues).replace(
+                "None", "-"), row["cues"])
+            self.check(f"{row['name']}: delays", [delay for _, _, delay in cues], [
+                None if begin is None else begin - subtitle.begin
+                for (begin, _, _), subtitle in zip(cues, programme.subtitles)])
 
 
 class ActualTimes(ProgrammeCase):
@@ -152,6 +126,7 @@ class CueVerdicts(Case):
             # cause comes with a fault 72.
             (None, [], 100, ["right", "right", "right"]),
             (None, [], 101, ["not known", "not known", "not known"]),
+            (None, [63], 100, ["right", "right", "right"]),
             (None, [67], 100, ["waived", "wrong", "waived"]),
             (LATE, [], 100, ["wrong", "waived", "waived"]),
             (LATE, [63], 100, ["wrong", "wrong", "waived"]),
@@ -205,11 +180,12 @@ class CueVerdicts(Case):
         # Trusted frames, in-cue and out-cue of the decoded page, and the reason.
         rows: dict[str, tuple[list[tuple[int, int]], int | None, int | None, str]] = {
             "all frames are trusted": ([(100, 199)], 100, 200, ""),
-            "all but the first": ([(101, 199)], 100, 200, "check does not trust 1 of its frames"),
+            "all but the first": ([(101, 199)], 101, 200, "check does not trust 1 of its frames"),
             "two holes": ([(100, 119), (130, 189)], 100, 200,
                           "check does not trust 20 of its frames"),
             "a late end": ([(100, 189)], 100, 203,
                            "check does not trust 10 of its frames: the out-cue is moved"),
+            "only the end": ([(110, 199)], None, 200, "check does not trust 10 of its frames"),
             "nothing": ([], None, None, "not received")}
         for name, (spans, begin, end, reason) in rows.items():
             part = make_part(0, 300, 0, make_answer(make_list([], spans)))
