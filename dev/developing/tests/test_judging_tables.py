@@ -98,7 +98,7 @@ class PartClocks(unittest.TestCase):
                 (50, 5 * TICKS), (60, None), (70, None), (5, 2 * TICKS), (101, None)))
         departures = {1: [earlier], 2: [drift, unclear, second, later], 3: [drift], 4: [drift]}
         survey: Any = SimpleNamespace(
-            leads={(9, video): several for video, several in departures.items()},
+            leads={**{(9, video): departures[video] for video in departures}, (8, 3): []},
             get_packets=Survey().get_packets, find_programmes=lambda pid: [
                 SimpleNamespace(kinds={pid: 6, 1: 2, 2: 2}),
                 SimpleNamespace(kinds={pid: 6, 3: 27})])

@@ -8,7 +8,7 @@ from types import SimpleNamespace
 from typing import Any, Mapping, Sequence
 
 from developing.pes import decode_pts
-from subtitles.clock.start import Clock, GIVEN, RECORDING, START, TimedPart
+from subtitles.clock.start import Clock, GIVEN, RECORDING, START, TCP, TimedPart
 from subtitles.common.checks import DRIFT
 from subtitles.common.times import CLOCK, format_frame, pts_of, subtract_pts, TICKS
 from subtitles.formats.listing import PICTURES_LEFT
@@ -252,9 +252,14 @@ class DepartureFaults(Case):
             [(2, 900)], source=START)[0], [("00:00:40:00", "00:01:19:24", "2 frames early")])
         several = [Departure(pts=TICKS * (earlier + 1), earlier_pts=TICKS * earlier, ticks=9)
                    for earlier in (899, 999, 1000, 1998, 1999, 2000)]
-        # It is unclear if a jump between frames 999 and 1000, or 1999 and 2000, is in the part.
-        for source, expected in ((GIVEN, [None, 9, 9, None]), (START, [9, 9, 9, 9, None])):
-            departures = find_departures(several, TimedPart(1000, 2000, Clock(0, source)))
+        later = [Departure(TICKS * frame, TICKS * frame, 9, margin=2 * TICKS)
+                 for frame in (997, 998, 1997, 1998)]
+        # It is unclear if a jump between frames 999 and 1000, or 1999 and 2000, is in the part, and
+        # if one before frame 1000 or 2000 is up to two frames later.
+        for jumps, source, expected in (
+                (several, GIVEN, [None, 9, 9, None]), (several, START, [9, 9, 9, 9, None]),
+                (later, GIVEN, [None, 9, None]), (later, TCP, [9, 9, 9, None])):
+            departures = find_departures(jumps, TimedPart(1000, 2000, Clock(0, source)))
             self.check(source, [item.ticks for item in departures], expected)
 
     def test_counts_a_jump_before_the_part_if_the_pictures_come_back_within(self) -> None:
@@ -268,13 +273,16 @@ class DepartureFaults(Case):
         # A step back by two frames to picture 2480 is a jump if five pictures follow it. The last
         # lead is that of frame 2475, and the Teletext goes on up to frame `last`. The fault begins
         # when picture 2480 is decoded, in frame 2474, since the Teletext is six frames ahead.
-        for last, expected in ((2484, []), (2485, ["00:01:38:24"])):
+        # A usual step to a later picture shows too that pictures follow.
+        for last, usual, at, expected in (
+                (2484, 2476, 2480, []), (2485, 2476, 2480, ["00:01:38:24"]),
+                (2475, 2485, 2480, ["00:01:38:24"]), (2600, 2476, 2496, [])):
             lines = [*make_lead_survey_lines([]), f"steps {VIDEO} 3600 501 3600 501",
-                     f"steps {VIDEO} -3600 2480 3600 2476",
+                     f"steps {VIDEO} -3600 {at} 3600 {usual}",
                      f"end {PID} 9 0 9 0 0 0 {TICKS * last}"]
-            part = TimedPart(1000, 2490, Clock(0, GIVEN))
+            part = TimedPart(1000, 2500, Clock(0, GIVEN))
             desync = find_desync(survey_extra_lines(lines), PID, part, 0, 1, (), [TICKS * 2480])
-            self.check(str(last), [fault.time for fault in desync.faults], expected)
+            self.check(f"{last} {at}", [fault.time for fault in desync.faults], expected)
 
     def test_notes_a_missing_usual_step(self) -> None:
         chance = random.Random(1)
@@ -285,8 +293,8 @@ class DepartureFaults(Case):
                  [f"{DRIFT}: the video's decoding times have no usual step"]),
                 ("no line", Survey(), [])):
             desync = find_desync(survey, PID, TimedPart(1000, 2000, Clock(0, GIVEN)), 0, 1)
-            self.check(name, (desync.faults, desync.notes, [*summarize_pictures(desync.unchecked)]),
-                       ([], [], expected))
+            self.check(name, (desync.faults, desync.notes, [*summarize_pictures(desync.unchecked)],
+                              desync.is_made), ([], [], expected, bool(expected)))
 
 
 class Pairs(Case):
@@ -527,9 +535,18 @@ class Steps(Case):
             "in each 25th frame": ((once, regular[::25], []), True),
             "in each 25th frame, both jump": ((once, jumping[::25], []), False),
             "in each 10th frame, both jump": ((once, jumping[::10], []), False),
+            "away and back, then both": (
+                (twice, [pts - 10 * TICKS * (pts >= TICKS * 160) for pts in regular], []), False),
+            "only one PTS after the jump": (
+                (once, [TICKS * at for at in (90, 95, 100)], []), False),
+            "at irregular frames, closer than the jump": (
+                (once, [TICKS * at for at in (90, 95, 103, 110)], []), True),
             "at irregular frames": ((once, [TICKS * at for at in (90, 99, 117, 130)], []), False),
             "no PTS": ((once, [], []), False),
             "a subtitle after the jump": ((once, [], [TICKS * 150]), True),
+            "a subtitle at the jump": ((once, [], [TICKS * 100]), True),
+            "a subtitle after a jump by a frame": (
+                (jump_at(100, by=-1), [], [TICKS * 150]), True),
             "a subtitle before the jump": ((once, [], [TICKS * 50]), False),
             "a subtitle between two jumps": ((twice, [], [TICKS * 110]), True),
             "a subtitle after two jumps": ((twice, [], [TICKS * 120]), False),
