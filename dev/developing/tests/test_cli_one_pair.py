@@ -461,9 +461,17 @@ class Pages(Case):
             verdict.gaps = gaps
             self.check(f"{gaps}", "".join(describe_unchecked(verdict)).count(
                 "3 TS packets were lost, outside"), count)
-        verdict.parts = [make_part(0, 9, 7, packets=mock.MagicMock(count=9), pes=(2, 4))]
-        text = "".join(describe_unchecked(verdict))
-        self.must("PES packets 2-4 of 9", "6 PES packets of 9, before" in text, text)
+        # The judged PES packets of each part, and what was not checked of a recording with nine,
+        # besides two checks that are not made
+        first, last = "row 0, the header line of the page", ", before and after the subtitles"
+        for ranges, expected in (
+                (((2, 4),), (first, f"6 PES packets of 9{last}")), (((0, 8),), (first,)),
+                (((0, 4), (6, 8)), ("the transmission between the parts", first,
+                                    f"1 PES packet of 9{last}"))):
+            verdict.parts = [make_part(0, 9, 7, packets=mock.MagicMock(count=9), pes=pes)
+                             for pes in ranges]
+            self.check(f"PES packets {ranges}", [*describe_unchecked(verdict)][2:],
+                       [*expected])
 
     def test_names_the_programme_and_its_range(self) -> None:
         """The second subtitle file was read from a pipe, and stored."""
