@@ -106,7 +106,7 @@ class Sentences(Case):
         long_line = b"A line of thirty-eight letters and a b"
         # The second of three subtitles, whose SN is 8, the fault, and the text in the sentence
         for name, (text, fault, shown) in {
-                "a letter": (b"To \xe6 morrow\x8a\x8anow", "the national option lacks",
+                "a letter": (b"To \xe6\x03 morrow\x8a\x8anow", "the national option lacks",
                              "To \u0132 morrow / now"),
                 "a long line": (long_line, "a line has more than 40 cells", long_line.decode()),
                 "an accent": (b"\xc2e\xe6", "the national option lacks", "\u00e9\u0132")}.items():
