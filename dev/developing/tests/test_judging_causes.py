@@ -264,7 +264,8 @@ class CausesByHand(unittest.TestCase):
         have another fault: its page changes before frame 260, or is not erased then."""
         # The second page and the pages after it, with their frames, and its cause.
         for sent, expected in (
-                ("210:b 260:-", "late 10, b"), ("210:b 230:b,p 260:-", "wrong place, b,p"),
+                ("210:b 260:-", "late 10, b"), ("220:b 240:z 260:-", "late 20, b"),
+                ("210:b 230:b,p 260:-", "wrong place, b,p"),
                 ("210:b 230:b,a 260:-", "wrong colour or attribute, b,a"),
                 ("210:b 230:z 260:-", "wrong text, z"), ("210:b 268:-", "not erased, b"),
                 ("210:b 230:a 260:-", "another subtitle's text of 1, a")):
@@ -275,6 +276,7 @@ class CausesByHand(unittest.TestCase):
             causes.classify_by_delay(10)
             self.assertEqual([format_cause(cause, sent) for cause in causes.list_causes()],
                              ["1 late 10, a", f"2 {expected}", "3 late 10, c"])
+            self.assertEqual(causes.delay_of_all, 0 if expected == "late 20, b" else 10)
 
     def test_a_recording_covers_the_frames_of_its_pes_packets_and_of_its_pcr(self) -> None:
         for pcr_frames, expected in ((None, (10, 20)), ((5, 30), (5, 30)), ((12, 18), (10, 20)),
