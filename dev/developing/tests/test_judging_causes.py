@@ -260,23 +260,17 @@ class CausesByHand(unittest.TestCase):
                     self.assertIn(item and item.subtitle_index, places)
 
     def test_finds_causes_behind_a_delay_of_all_subtitles(self) -> None:
-        """Three subtitles are 10 frames late. By a clock that is 10 frames later, the second may
-        have another fault: its page changes before frame 260, or is not erased then."""
-        # The second page and the pages after it, with their frames, and its cause.
-        for sent, expected in (
-                ("210:b 260:-", "late 10, b"), ("220:b 240:z 260:-", "late 20, b"),
-                ("210:b 230:b,p 260:-", "wrong place, b,p"),
-                ("210:b 230:b,a 260:-", "wrong colour or attribute, b,a"),
-                ("210:b 230:z 260:-", "wrong text, z"), ("210:b 268:-", "not erased, b"),
-                ("210:b 230:a 260:-", "another subtitle's text of 1, a")):
-            programme, sent = make_programme("100-150 a;200-250 b;300-350 c"), \
-                f"0:- 110:a 160:- {sent} 310:c 360:-"
-            causes = Causes(programme, decode(sent, programme))
+        """By a clock that is as late as all subtitles, the second may have another fault: its page
+        changes before its delayed TCO, or is not erased then."""
+        for row in read_vectors("delayed-causes.tsv"):
+            programme = make_programme(row["subtitles"])
+            causes = Causes(programme, decode(row["sent"], programme, last=int(row["last"] or 999)))
             causes.classify_faults(fake_check_output(find_wrong_spans(causes)))
-            causes.classify_by_delay(10)
-            self.assertEqual([format_cause(cause, sent) for cause in causes.list_causes()],
-                             ["1 late 10, a", f"2 {expected}", "3 late 10, c"])
-            self.assertEqual(causes.delay_of_all, 0 if expected == "late 20, b" else 10)
+            causes.classify_by_delay(int(row["delay"]))
+            with self.subTest(row["name"]):
+                self.assertEqual("; ".join(format_cause(cause, row["sent"])
+                                           for cause in causes.list_causes()), row["causes"])
+                self.assertEqual(causes.delay_of_all, int(row["delay of all"]))
 
     def test_a_recording_covers_the_frames_of_its_pes_packets_and_of_its_pcr(self) -> None:
         for pcr_frames, expected in ((None, (10, 20)), ((5, 30), (5, 30)), ((12, 18), (10, 20)),
