@@ -176,6 +176,19 @@ class CueVerdicts(Case):
             faults = [parse_single_fault(f"refused {number} X block 1 at 0") for number in numbers]
             self.check(f"{numbers}", SubtitleFaults(None, faults).is_waived(part), expected)
 
+    def test_the_reason_has_the_cause_and_all_faults_and_the_doubt(self) -> None:
+        frame = f"frame {format_frame(150)} packet 0"
+        judge = CueJudge(make_part(0, 300, 0, make_answer([
+            f"refused 67 Control {frame}", f"refused 68 Parity {frame}", "2 faults"])))
+        # The cause, the numbers of other faults, the doubt and the reason
+        for cause, numbers, doubt, expected in (
+                ("", (), "", ""), ("late", (), "", "late"),
+                ("", (67, 68), "", "67 Control, 68 Parity"),
+                ("late", (68,), "", "late; also 68 Parity"),
+                ("", (68,), "not received", "68 Parity; not received")):
+            reason = judge.describe_reason(CueVerdict("wrong", cause, numbers, doubt))
+            self.check(f"{cause} {numbers} {doubt}", reason, expected)
+
     def test_explains_why_a_subtitle_is_not_known(self) -> None:
         # Trusted frames, in-cue and out-cue of the decoded page, and the reason.
         rows: dict[str, tuple[list[tuple[int, int]], int | None, int | None, str]] = {
