@@ -13,7 +13,7 @@ from subtitles.formats.listing import parse_fault_line
 from subtitles.formats.stl import Subtitle
 from subtitles.judging.causes import (
     Cause, CAUSE_NAMES, CauseDescriber, Causes, EARLY, LATE, NEVER, NOT_ERASED, OTHER_TEXT,
-    WRONG_TEXT, count_causes, format_cause_counts, list_cause_counts)
+    TEXT_IN_PAUSE, WRONG_TEXT, count_causes, format_cause_counts, list_cause_counts)
 from subtitles.judging.transmissions import ExpectedPages
 from subtitles.judging.verdict import measure_delay
 from subtitles.stream.packets import Packets
@@ -237,6 +237,12 @@ class StoredRows(unittest.TestCase):
 
 
 class CausesByHand(unittest.TestCase):
+    def find_causes(self, subtitles: str, sent: str, last: int = 999) -> Causes:
+        programme = make_programme(subtitles)
+        causes = Causes(programme, decode(sent, programme, last=last))
+        causes.classify_faults(fake_check_output(find_wrong_spans(causes)))
+        return causes
+
     def test_keeps_the_first_wrong_frame_of_a_subtitle(self) -> None:
         causes: Any = SimpleNamespace(
             finder=SimpleNamespace(find_text_in_pause=lambda *_: None),
@@ -263,14 +269,27 @@ class CausesByHand(unittest.TestCase):
         """By a clock that is as late as all subtitles, the second may have another fault: its page
         changes before its delayed TCO, or is not erased then."""
         for row in read_vectors("delayed-causes.tsv"):
-            programme = make_programme(row["subtitles"])
-            causes = Causes(programme, decode(row["sent"], programme, last=int(row["last"] or 999)))
-            causes.classify_faults(fake_check_output(find_wrong_spans(causes)))
+            causes = self.find_causes(row["subtitles"], row["sent"], int(row["last"] or 999))
             causes.classify_by_delay(int(row["delay"]))
             with self.subTest(row["name"]):
                 self.assertEqual("; ".join(format_cause(cause, row["sent"])
                                            for cause in causes.list_causes()), row["causes"])
                 self.assertEqual(causes.delay_of_all, int(row["delay of all"]))
+
+    def test_leaves_out_causes_of_subtitles_and_of_pauses(self) -> None:
+        sent = "0:- 103:a 150:- 170:z 190:- 203:b 250:-"
+        causes = self.find_causes("100-150 a;200-250 b", sent)
+        late, pause = ["1 late 3, a", "2 late 3, b"], "1 another text in a pause, z"
+        for name, expected in (("", [late[0], pause, late[1]]), (LATE, [pause]),
+                               (TEXT_IN_PAUSE, late)):
+            rest = causes.leave_out(lambda cause, name=name: cause.name == name)
+            self.assertEqual([format_cause(cause, sent) for cause in rest.list_causes()], expected)
+
+    def test_an_early_subtitle_was_replaced_if_the_next_page_was_recorded(self) -> None:
+        for sent, expected in (("0:- 90:a 140:-", True), ("0:- 90:a", False),
+                               ("0:- 110:a 160:-", False), ("0:- 100:a 150:-", False)):
+            causes = self.find_causes("100-150 a", sent)
+            self.assertEqual(causes.was_replaced_early(0), expected, sent)
 
     def test_a_recording_covers_the_frames_of_its_pes_packets_and_of_its_pcr(self) -> None:
         for pcr_frames, expected in ((None, (10, 20)), ((5, 30), (5, 30)), ((12, 18), (10, 20)),
