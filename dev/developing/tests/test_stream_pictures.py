@@ -281,7 +281,7 @@ class DepartureFaults(Case):
                      f"steps {VIDEO} -3600 {at} 3600 {usual}",
                      f"end {PID} 9 0 9 0 0 0 {TICKS * last}"]
             part = TimedPart(1000, 2500, Clock(0, GIVEN))
-            desync = find_desync(survey_extra_lines(lines), PID, part, 0, 1, (), [TICKS * 2480])
+            desync = find_desync(survey_extra_lines(lines), PID, part, 0, 1, (), [TICKS * 2495])
             self.check(f"{last} {at}", [fault.time for fault in desync.faults], expected)
 
     def test_notes_a_missing_usual_step(self) -> None:
