@@ -260,7 +260,8 @@ class JudgedProgrammes(AirCase):
         self.delete_all("segments")
         judge = self.make_judge(FakeChecker(ON_TIME))
         with mock.patch.object(judging, "MIN_RECORDED_LATER", 3600.0):
-            judge.look(DAY + 3900)  # before the programme, with a clock that is ahead
+            for now in (0, 3900):  # before the programme, the second with a clock that is ahead
+                judge.look(DAY + now)
             self.put_segments(0, 900)
             for now, is_wrong in ((610, True), (3950, False)):
                 judge.monitor.is_clock_wrong = is_wrong
