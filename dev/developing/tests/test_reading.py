@@ -647,13 +647,15 @@ class TwoRecordings(Case):
     def test_rejects_arguments_that_two_recordings_do_not_take(self) -> None:
         self.write_stream("a.ts", [(0, NO_TEXT), (25, TEXT), (50, NO_TEXT)])
         self.write_stream("b.ts", [(0, NO_TEXT), (25, TEXT), (60, NO_TEXT)])
+        self.write("copy.ts", self.read("a.ts"))
         clocks = "--start", "--reference-start"
         for name, args, status in (
                 *((f"only {option}", ("b.ts", option, "10:00:00:00"), 64) for option in clocks),
                 *((f"two clocks, {option}", ("b.ts", "--same-start", option, "10:00:00:00"), 64)
                   for option in clocks),
                 ("a layout", ("b.ts", "--layout", "up"), 64), ("no other recording", (), 64),
-                ("the same bytes", ("a.ts",), 2), ("three files", ("b.ts", "a.ts"), 64),
+                ("the same file", ("a.ts",), 2), ("three files", ("b.ts", "a.ts"), 64),
+                ("the same bytes", ("copy.ts", "--same-start"), 2),
                 ("an output over the reference", ("b.ts", "--json", "a.ts"), 2),
                 ("an output over the recording", ("b.ts", "--json", "b.ts"), 2)):
             call = self.tool("qc", "--reference", "a.ts", *args)
