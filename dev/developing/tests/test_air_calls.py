@@ -95,9 +95,10 @@ class Checks(Feeds):
             self.check("reason", self.check_frames(self.make_feed()).reason, "refused 72")
 
     def test_a_killed_program_gives_no_result(self) -> None:
-        program = self.make_program_with_exception("check*", "kill -9 $$")
-        outcome = self.check_frames(self.make_feed(), program=program)
-        self.check("result", outcome.result, None)
+        for command in ("kill -9 $$", "kill -9 $PPID"):  # the program, and the process that runs it
+            program = self.make_program_with_exception("check*", command)
+            outcome = self.check_frames(self.make_feed(), program=program)
+            self.check(command, outcome.result, None)
 
     def test_a_refusal_because_of_an_invalid_subtitle_file_is_not_final(self) -> None:
         frames = self.make_feed()
@@ -146,9 +147,11 @@ class Calls(Feeds):
         return [get_tool_path("air"), "judge", self.path("schedule"), self.path("segments"), "-o",
                 self.path("out"), "-p", self.bench.program, *args]
 
-    def judge_recorded_feed(self, is_wrong: bool) -> None:
+    def judge_recorded_feed(self, is_wrong: bool, *options: str) -> list[str]:
         """Record a feed, let its segments begin 200 seconds ago, and judge one.stl, which is
-        scheduled 120 seconds ago, with a margin of 110 seconds."""
+        scheduled 120 seconds ago, with a margin of 110 seconds. Return the endings of the
+        files in the folder of results, in which there is no state.json, since `setUp` replaces
+        `write_state`."""
         now = time.time()
         process = self.tool("air", "record", self.path("segments"), "--free", "0",
                             data=b"".join(self.make_feed(is_wrong)))
@@ -159,8 +162,9 @@ class Calls(Feeds):
             path = self.path(f"segments/{make_segment_name(now - 200 + number)}")
             os.rename(self.path(f"segments/{name}"), path)
             os.utime(path, (now, now))
-        process = self.call(self.make_judge_command("--once", "--margin", "110"))
+        process = self.call(self.make_judge_command("--once", "--margin", "110", *options))
         self.check("judge", (process.status, process.told), (0, []))
+        return sorted(os.path.splitext(name)[1] for name in os.listdir(self.path("out")))
 
     def test_records_a_file(self) -> None:
         self.write("feed.ts", b"feed")
@@ -173,18 +177,17 @@ class Calls(Feeds):
     def test_judges_a_recorded_feed(self) -> None:
         for is_wrong, verdict in ((False, "relative"), (True, "refused")):
             self.delete_all("segments", "out")
-            self.judge_recorded_feed(is_wrong)
+            endings = self.judge_recorded_feed(is_wrong, "--keep")
             self.check("verdicts", [*self.verdicts().values()], [verdict])
+            self.check("--keep", endings, [".html", ".json", ".pes", ".txt"])
 
     def test_deletes_only_the_temporary_files_of_earlier_calls(self) -> None:
         os.makedirs(self.path("out/.work-of-an-earlier-call"))
         self.write("out/.work-of-an-earlier-call/other.json", b"{}")
         for name in (".subttx-of-an-earlier-call", "a.subttx-b", "a.work-b"):
             self.write(f"out/{name}", b"")
-        self.judge_recorded_feed(is_wrong=False)
-        endings = [os.path.splitext(name)[1] for name in os.listdir(self.path("out"))]
-        # There is no state.json, since `setUp` replaces `write_state`.
-        self.check("endings", sorted(endings), [".html", ".json", ".subttx-b", ".txt", ".work-b"])
+        self.check("endings", self.judge_recorded_feed(is_wrong=False),
+                   [".html", ".json", ".subttx-b", ".txt", ".work-b"])
 
     def test_writes_one_result_although_the_judge_is_killed(self) -> None:
         """The judge is killed before the programme, in it and after it."""
