@@ -130,17 +130,17 @@ class Proposals(Case):
 
     def test_names_a_cue_that_is_later_than_proposed(self) -> None:
         """If it is one of 20, --within 5 is proposed, but it is named, since it may be wrong."""
-        usual, unusual = Counter({0: 90}), Counter({0: 89, 5: 1})
-        for begins, ends, words in ((usual, unusual, "x ends late"),
-                                    (unusual, usual, "x begins late")):
-            late = Delays(begins, ends, [], [], [LateCue(5, words, ends is usual)])
-            result = [*propose_lateness([late], [])]
-            self.check(f"one of 90: {words}", (join_options(result), result[0].lines[1]), (
-                "", f"later than usual, which check refuses with this --within: {words}"))
-        late = late._replace(begins=Counter({0: 19, 5: 1}))
+        late = Delays(Counter({0: 89, 5: 1}), Counter({0: 90}), [], [],
+                      [LateCue(5, "x begins late")])
+        result = [*propose_lateness([late], [])]
+        self.check("one of 90", ("".join(item.text for item in result), result[0].lines[1]), (
+            "", "later than usual, which check refuses with this --within: x begins late"))
+        late = Delays(Counter({0: 19, 5: 1}), Counter({0: 19, 5: 1, 9: 1}), [], [], [
+            LateCue(5, "x"), LateCue(5, "y", False), LateCue(9, "z", False)])
         self.check("one of 20", next(propose_lateness([late], [])).lines[1:], [
-            "1 of 20 in-cues is at least 5 frames late, the others at most 0; they may be wrong: x "
-            "begins late"])
+            "later than usual, which check refuses with this --within: z",
+            *(f"1 of 20 {cues} is at least 5 frames late, the others at most 0; they may be wrong: "
+              f"{name}" for cues, name in (("in-cues", "x"), ("out-cues", "y")))])
 
     def test_names_the_cues_whose_delays_are_separate(self) -> None:
         # The number of in-cues with each delay in frames, and the line that names the cues after
