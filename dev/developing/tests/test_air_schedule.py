@@ -35,8 +35,10 @@ HOUR = 90_000  # frames in an hour
 LENGTHS = {
     "one subtitle": ([(0, 250)], "", 10.0),
     "two subtitles": ([(0, 250), (500, 1000)], "", 40.0),
+    "the second begins before the first ends": ([(0, 250), (200, 1000)], "", 40.0),
+    "the second ends before the first": ([(0, 1000), (200, 250)], "", 40.0),
     "from a time on": ([(HOUR, HOUR + 50), (2 * HOUR, 2 * HOUR + 250)], "--from 01:30:00:00", 10.0),
-    "up to a time": ([(HOUR, HOUR + 50), (2 * HOUR, 2 * HOUR + 250)], "--to 01:30:00:00", 2.0),
+    "up to a time": ([(HOUR, HOUR + 50), (2 * HOUR, 2 * HOUR + 250)], "--to 01:00:01:00", 2.0),
     "the third is not in order": ([(500, 1000), (1500, 2000), (0, 250)], "", 60.0),
     "the second is ten hours later": ([(0, 50), (10 * HOUR, 10 * HOUR + 250)], "", 2.0),
     "the second ends before its begin": ([(0, 250), (500, 400)], "", 10.0),
