@@ -38,6 +38,7 @@ MARGINS = {
     "the same subtitles": (["0 one", "100 one", "130 one"], [(60, 50), (50, 15), (15, 60)]),
     "the same file by another path": (["0 one", "30 ./one"], [(60, 15), (15, 60)]),
     "no file": (["0 one", "30 three"], [(60, 15), (60, 60)]),
+    "no file, but a result": (["0 one", "30 four"], [(60, 60), (60, 60)]),
     "other pages": (["0 one", "0 one --page 889", "40 one --page 889"],
                     [(60, 60), (60, 20), (20, 60)]),
     "other parts": (["0 one --to 00:00:01:00", "30 one --from 00:00:01:00"], [(60, 60), (60, 60)]),
@@ -180,6 +181,24 @@ class JudgedProgrammes(AirCase):
             judge.look(DAY + now)
             self.check(f"pages on air at {now}", [*judge.monitor.pages_on_air], pages)
 
+    def test_monitors_the_folders_the_pages_and_the_segments_that_are_needed(self) -> None:
+        """The last segments, of twice the margin, are needed, and those of a programme's window.
+        The state is also written while a programme is judged, here for 7 seconds."""
+        clock = [0]
+
+        def report_later(_: Programme) -> None:
+            clock[0] = 7
+            judge.checker.report()  # type: ignore
+
+        judge = self.make_judge(FakeChecker(ON_TIME, report_later))
+        with mock.patch.object(judge.monitor, "look") as look, \
+                mock.patch.object(time, "monotonic", lambda: clock[0]):
+            for now in (600, 800, 900):
+                judge.look(DAY + now)
+        self.check("calls", [call.args for call in look.call_args_list], [
+            (self.path("segments"), self.path("out"), DAY + now, "/bin/true", {PAGE}, DAY + needed)
+            for now, needed in ((600, 480), (800, 540), (807, 540), (900, 780))])
+
     def test_reads_few_segments_while_a_subtitle_file_is_missing(self) -> None:
         self.put_segments(0, 4000)
         os.unlink(self.path("one.stl"))
@@ -237,6 +256,7 @@ class JudgedProgrammes(AirCase):
             self.check(f"{name}: corrected", self.verdicts(), {NAME: "relative"})
 
     def test_a_file_that_is_not_corrected_is_refused_ten_seconds_after_the_margin(self) -> None:
+        self.write_schedule("2026-12-01T08:10:00Z one.stl", "2026-12-01T08:11:59Z missing.stl")
         for name in FILE_FAULTS:
             refusal = self.make_refusal(name)
             self.run_judge(FakeChecker(ON_TIME, lambda _: refusal), until=1500)
@@ -365,6 +385,7 @@ class JudgedProgrammes(AirCase):
             self.check(name, self.verdicts().get(NAME), late)
 
     def test_an_airing_counts_for_the_nearest_line(self) -> None:
+        self.write("out/20261201T080030Z-four.json", b"")
         for name, (lines, expected) in MARGINS.items():
             self.write_schedule(*(
                 f"2026-12-01T08:{int(begin) // 60:02}:{int(begin) % 60:02}Z {stl}.stl "
