@@ -150,8 +150,7 @@ class Calls(Feeds):
     def judge_recorded_feed(self, is_wrong: bool, *options: str) -> list[str]:
         """Record a feed, let its segments begin 200 seconds ago, and judge one.stl, which is
         scheduled 120 seconds ago, with a margin of 110 seconds. Return the endings of the
-        files in the folder of results, in which there is no state.json, since `setUp` replaces
-        `write_state`."""
+        files in `out`, in which there is no state.json, since `setUp` replaces `write_state`."""
         now = time.time()
         process = self.tool("air", "record", self.path("segments"), "--free", "0",
                             data=b"".join(self.make_feed(is_wrong)))
