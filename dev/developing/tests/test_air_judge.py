@@ -182,8 +182,7 @@ class JudgedProgrammes(AirCase):
             self.check(f"pages on air at {now}", [*judge.monitor.pages_on_air], pages)
 
     def test_monitors_the_folders_the_pages_and_the_segments_that_are_needed(self) -> None:
-        """The last segments, of twice the margin, are needed, and those of a programme's window.
-        The state is also written while a programme is judged, here for 7 seconds."""
+        """The state is also written while the programme is judged, here for 7 seconds."""
         clock = [0]
 
         def report_later(_: Programme) -> None:
@@ -564,12 +563,12 @@ JUMP_CASES: dict[str, tuple[list[tuple[float, float]], float, bool]] = {
     "back to what almost agreed": ([(30, -300), (-300, 31)], 31, False)}
 
 # The begin and the last write of each segment, whether the clock is wrong at the latest write, and
-# the number of segments that are used
+# the number of segments that are used from 25 on
 LONG_SEGMENTS = {
     "half an hour each": ([(0, 1800), (1800, 3600), (3600, 4800)], False, 3),
     "after a pause": ([(0, 1800), (2000, 3600), (3600, 4800)], False, 3),
     "named in another zone": ([(0, 3610), (10, 3620), (20, 3630)], True, 0),
-    "one copied without its time": ([(0, 10), (10, 3600), (20, 30), (30, 40)], True, 3)}
+    "one copied without its time": ([(0, 10), (10, 3600), (20, 30), (30, 40)], True, 2)}
 
 
 class State(AirCase):
@@ -643,7 +642,7 @@ class State(AirCase):
                 self.put_segment(begin, write)
             now = max(write for _, write in times)
             self.check(name, (self.look(now).is_clock_wrong, len(find_segments(
-                self.path("segments"), DAY, DAY + now))), (is_wrong, count))
+                self.path("segments"), DAY + 25, DAY + now))), (is_wrong, count))
 
     def test_reports_segments_that_are_deleted_early(self) -> None:
         # Whether the name of the oldest segment, which begins at 10, reports a possible loss; the
