@@ -403,10 +403,11 @@ class Profiles(Case):
                  "one recording: for several, give a list"),
                 ([stl, pes, stl, pes, "--start", "00:00:01:00"], "give the clock of one recording"),
                 ([stl, self.write("none.pes", b"")], "none.pes is empty"),
+                ([self.write("list", f"{stl} none.ts\n".encode())], "none.ts"),
                 ([stl, pes, "--every", "25"], "--every may be given with a recording"),
                 ([stl, pes, "--batch", "x"], "can't be given together")):
             process = self.tool("qc", "--measure", *words)
-            status = 2 if "is empty" in printed else 64
+            status = 2 if "none." in printed else 64
             self.must(printed, process.status == status and not process.out
                       and len(process.told) == 1 and printed in process.told[0], process)
 
