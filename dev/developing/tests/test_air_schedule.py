@@ -280,7 +280,7 @@ class Bugs(Case):
                 self.check(f"{name}: status", run_main(lambda words: service(), []), status)
             state, alarms = State(), list[bool]()
             for seconds in (1, 86_400 - 10, 86_400 + 100):
-                state.look_at_folders(now + seconds, results=self.path(folder))
+                state.look_at_folders(now + seconds, a=self.path(folder), b=self.path("in"))
                 alarms.append(state.find_alarms()["bug"])
             self.check(f"{name}: alarms", alarms, [*has_alarm])
             if any(has_alarm):
