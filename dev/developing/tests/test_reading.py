@@ -595,6 +595,8 @@ class TwoRecordings(Case):
                 self.write_stream(name, read_transmissions(row[name]))
             self.check(row["name"], self.compare("a.ts", "b.ts", *row["arguments"].split()),
                        (int(row["status"]), row["last line"]))
+            causes = json.loads(self.read("out/b.json"))["causes"]
+            self.check(f"{row['name']}: a cause", bool(causes), row["last line"] == "differs")
 
     def test_describes_by_how_much_later_the_pts_are_than_in_the_reference(self) -> None:
         self.check_rows(lambda ticks: ReferenceVerdict.describe_shift(

@@ -163,9 +163,11 @@ class ReferenceJudge(RangeJudge):
 
     def explain(self, part: Part) -> Part:
         """Return a copy of a part with the causes of its faults, if there is a subtitle. If the
-        range ends during a subtitle, fault 74 alone is no difference, so it has no cause."""
-        output, timeline = part.check_output, part.decoded_pages
-        is_only_cut = self.judged.is_cut and output.fault_count == 1 and END in output.fault_numbers
+        range ends during a subtitle and `check` trusts all its frames, fault 74 alone is no
+        difference, so it has no cause."""
+        output, timeline, judged = part.check_output, part.decoded_pages, self.judged
+        is_only_cut = judged.is_cut and output.fault_count == 1 and END in output.fault_numbers \
+            and part.trusted_frames.total() == judged.end - judged.begin
         if timeline and is_only_cut:
             part = dataclasses.replace(
                 part, causes=Causes(part.expected_pages(), timeline),
