@@ -12,7 +12,7 @@ from unittest import mock
 from developing import TOOLS
 from developing.pes import decode_pts, encode_triplet, make_packet, make_pes_packet
 from subtitles.common.checks import CLOCK as CLOCK_KIND, OPTION, OUTSIDE, PHRASES
-from subtitles.common.times import CLOCK, FRAMES_OF_A_DAY, Span, TICKS
+from subtitles.common.times import CLOCK, FRAMES_OF_A_DAY, Spans, TICKS
 from subtitles.formats.layout import PLAIN, draw_text, make_page_rows
 from subtitles.formats.stl_writer import (
     StoredPage, make_gsi_block, make_subtitle_blocks, store_page)
@@ -20,14 +20,14 @@ from subtitles.formats.teletext import (
     CROATIAN, ENGLISH, FRENCH, GERMAN, OPTIONS, NationalOption)
 from subtitles.judging.cues import CERTAIN, NOT_CERTAIN
 from subtitles.judging.status import (
-    ACCEPTED, AS_SHOWN, CheckSummary, DIFFERS, Grounds, NOT_READ, SAME, Severity, WITH_FAULTS,
-    decide_reading)
+    ACCEPTED, AS_SHOWN, CheckSummary, DIFFERS, Grounds, NOT_READ, REFUSED, SAME, Severity,
+    WITH_FAULTS, decide_reading)
 from subtitles.reading.judge import AFTER, BEFORE, is_trusted, list_doubts
 from subtitles.recording.dates import find_date
 from subtitles.reading.received import (
-    ShownPage, choose_header_option, choose_language, find_header_bits, find_likely_errors,
-    find_recorded_day, find_step_back, find_undecided_option, join_late_pages, mark_cuts,
-    prefer_option, store_pages)
+    ShownPage, choose_header_option, choose_language, find_header_bits, find_header_range,
+    find_likely_errors, find_recorded_day, find_step_back, find_undecided_option, join_late_pages,
+    mark_cuts, prefer_option, store_pages)
 from subtitles.reading.reference import ReferenceVerdict
 from subtitles.results.schema import find_misfit
 from subtitles.stream.packets import PES, PacketRun, Packets
@@ -143,23 +143,31 @@ class ReceivedPages(Case):
             self.check(name, find_recorded_day(sent, (0, count - 1), 0), expected)
 
     def test_finds_the_first_step_back_of_a_frame_or_more(self) -> None:
-        def find(*runs: tuple[int, int, int]) -> int | None:
-            """Search runs of PES packets, given by length, first PTS and step in ticks."""
+        def find(*runs: tuple[int, ...]) -> int | None:
+            """Search runs given by length, first PTS, step in ticks, and fault if they have one."""
             firsts = itertools.accumulate((length for length, *_ in runs), initial=0)
-            sent = [PacketRun(first, *run, "h", "") for first, run in zip(firsts, runs)]
+            sent = [PacketRun(first, run[0], run[1], run[2], "h", "", fault=sum(run[3:]))
+                    for first, run in zip(firsts, runs)]
             return find_step_back(Packets(PES, sent), (0, 99))
 
         self.check_rows(find, {
             "a tick less than a frame": (((1, TICKS - 1, 0), (1, 0, 0)), None),
             "a frame": (((1, TICKS, 0), (1, 0, 0)), 1),
             "after the last of a run": (((9, 0, TICKS), (1, 7 * TICKS, 0)), 9),
+            "not read": (((1, TICKS, 0), (1, 0, 0, 33), (1, TICKS, 0)), None),
             "in a run": (((2, 9 * TICKS, TICKS), (4, 11 * TICKS, -TICKS)), 3),
             "over the wrap": (((1, CLOCK - TICKS, 0), (1, 0, 0)), None)})
 
     def test_takes_the_option_of_most_headers(self) -> None:
         runs = [PacketRun(0, 1, 0, 0, "h", "88080810+88080810"),
-                PacketRun(1, 3, TICKS, TICKS, "h", "88080818")]
-        self.check("C12 to C14", find_header_bits(Packets(PES, runs), (0, 3)), GERMAN.bits)
+                PacketRun(1, 3, TICKS, TICKS, "h", "88080818"),
+                PacketRun(4, 9, TICKS, TICKS, "h", "88080810", fault=33)]
+        self.check("C12 to C14", find_header_bits(Packets(PES, runs), (0, 12)), GERMAN.bits)
+
+    def test_begins_with_the_first_header_that_can_be_read(self) -> None:
+        runs = [PacketRun(0, 1, 0, 0, "h", "", fault=33), PacketRun(1, 1, None, 0, "h", ""),
+                PacketRun(2, 1, 0, 0, "", ""), PacketRun(3, 2, 0, TICKS, "h", "")]
+        self.check("PES packets", find_header_range(Packets(PES, runs), None), (3, 4))
 
     def test_marks_no_blank_page_as_cut(self) -> None:
         self.check("cuts", [page.cut for page in mark_cuts(show_in_turn([BLANK, ONE, BLANK]))],
@@ -238,11 +246,13 @@ class ReceivedPages(Case):
 
 class Decisions(Case):
     def test_trusts_no_frame_of_a_loss_without_a_gap_marker(self) -> None:
-        part: Any = SimpleNamespace(check_output=SimpleNamespace(verdict=ACCEPTED),
-                                    unmarked_losses=[Span(10, 12), Span(99, 99)])
+        part: Any = SimpleNamespace(trusted_frames=Spans([(6, 9), (13, 98), (100, 199)]))
+        part.unmarked_losses = Spans([(3, 5), (10, 12), (99, 99), (200, 201)])
         reading: Any = SimpleNamespace(first=5, last=200)
-        self.check("frames", [frame for frame in range(300)
-                              if not is_trusted(part, reading, frame)], [10, 11, 12, 99])
+        for verdict in ACCEPTED, REFUSED:
+            part.check_output = SimpleNamespace(verdict=verdict)
+            self.check(verdict, [frame for frame in range(300) if not is_trusted(
+                part, reading, frame)], [5, 10, 11, 12, 99, 200])
         reading.written_pages = [SimpleNamespace(begin=begin, end=end, cut="") for begin, end in (
             (5, 9), (5, 10), (13, 20), (14, 20))]
         self.check("subtitles next to it", dict(list_doubts(part, reading)), {2: AFTER, 3: BEFORE})
@@ -376,6 +386,7 @@ class WholeCalls(Case):
             self.check(f"{row['name']}: the option", (PHRASES[OPTION] in result["sentence"], any(
                 "not checked: the characters of" in text for text in call.told)),
                 (line.endswith("option"),) * 2)
+            self.check(f"{row['name']}: counts", not result["subtitle_counts"], call.status == 2)
             if row["name"] == "row 24":
                 self.check("counts", [result["subtitles"], result["subtitle_counts"],
                                       result["reading"]["shown"]],
@@ -414,6 +425,7 @@ class WholeCalls(Case):
             self.check(f"{pes}: others", (result["subtitles"][0]["expected_in"], *(
                 (item["from"], item["to"], item["text"]) for item in result["not_checked"]
                 if item["kind"] == OUTSIDE)), (begin, others))
+            self.must(f"{pes}: line", f"read: not checked: {others[2]}" in call.told, call)
 
     def test_reports_which_subtitles_may_differ_from_what_receivers_show(self) -> None:
         not_stored = [[HEADER, make_packet(0, 24, (), text * 40), CLOSING] for text in (b"x", b"y")]
