@@ -20,6 +20,7 @@ from subtitles.judging.transmissions import ExpectedPages
 from subtitles.report.blocks import mark_field, mark_text, mark_times, show_byte
 from subtitles.report.cue_list import CueList, CueRow, mark_difference
 from subtitles.report.page import draw_verdict, keep_options_together
+from subtitles.report.timeline import find_cue_span
 from subtitles.stream.receiver import BLANK_PAGE, Rows
 from .bench import Case
 from .judged import ProgrammeCase, judge_files
@@ -55,6 +56,12 @@ class ActualCues(Case):
             self.check(f"{row['name']}: delays", [delay for _, _, delay in cues], [
                 None if begin is None else begin - subtitle.begin
                 for (begin, _, _), subtitle in zip(cues, programme.subtitles)])
+
+    def test_a_mark_lasts_from_the_earlier_in_cue_to_the_later_out_cue(self) -> None:
+        self.check_rows(lambda *cues: find_cue_span(
+            Cue(FIRST, page(b"one"), None, None, *cues)), {
+            "not decoded": ((None, None), (100, 200)), "early": ((90, 190), (90, 200)),
+            "late": ((110, 210), (100, 210)), "no out-cue": ((110, None), (100, 200))})
 
 
 class ActualTimes(ProgrammeCase):

@@ -15,7 +15,7 @@ from developing.pes import make_packet, make_pes_packet
 from subtitles.clock.start import Clock, GIVEN, START, TCP
 from subtitles.common.files import SummedFile
 from subtitles.common.markup import escape
-from subtitles.common.times import CLOCK, TICKS
+from subtitles.common.times import CLOCK, Span, TICKS
 from subtitles.formats.listing import NamedFault
 from subtitles.formats.stl import GSI, TTI
 from subtitles.formats.teletext import ENGLISH
@@ -198,10 +198,20 @@ class VerdictLists(Case):
             self.check(line, escape(line) in box, is_listed)
         self.must("number of judged losses", "<summary>7 places</summary>" in box, box)
 
+    def test_a_timeline_shows_the_judged_losses_of_its_part(self) -> None:
+        part = make_part(100, 200, 0, program_stl=get_example_path("story.stl"))
+        gaps = [Gap(None, None, "", LossPlace(at * TICKS, at * TICKS + 1), is_judged=is_judged)
+                for at, is_judged in ((50, True), (150, True), (160, False), (250, True))]
+        view = PartView(dataclasses.replace(make_part_verdict([part]), gaps=gaps), part)
+        with mock.patch("subtitles.report.page.Lanes") as lanes:
+            view.draw_timeline()
+        self.check("losses", lanes.call_args[0][2], [Span(150, 150)])
+
     def test_counts_the_waived_faults_of_all_parts(self) -> None:
         verdict = make_part_verdict([self.make_refused_part(at) for at in (1, 2)],
-                                    make_severity("68 warning"))
-        self.check("waived", [*list_waived(verdict)], ["68 Parity (4)"])
+                                    make_severity("68 warning", "pictures left warning"))
+        verdict.named_faults = [NamedFault(name, "") for name in ("not shown", "pictures left")]
+        self.check("waived", [*list_waived(verdict)], ["68 Parity (4)", "pictures left: "])
 
     def test_lists_the_pes_file_of_each_part(self) -> None:
         parts = [dataclasses.replace(part, judged_file=SummedFile(f"{part.number}.pes", 5, "sum"))
