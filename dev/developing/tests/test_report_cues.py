@@ -155,7 +155,8 @@ class CueVerdicts(Case):
             self.check(f"{name}, {numbers}, trusted from {first} on", result, expected)
 
     def test_a_cause_is_waived_if_its_subtitle_has_no_error(self) -> None:
-        due = ExpectedPages([FIRST, SECOND], [page(b"one"), page(b"two")])
+        second = Subtitle(2, 2, 200, 300, 20, 2, b"")
+        due = ExpectedPages([FIRST, second], [page(b"one"), page(b"two")])
         for row in read_vectors("waived-causes.tsv"):
             owners, ends, at = (json.loads(row[name]) for name in ("owners", "ends", "cause"))
             causes: Any = SimpleNamespace(expected=due, frames_by_end_fault=dict(ends))
