@@ -29,25 +29,6 @@ NIGHTS = {"2026-10-25T02:30:00+02:00": "20261025T003000Z-a",
           "2026-10-25T02:30:00+01:00": "20261025T013000Z-a",
           "2027-03-28T01:59:59+01:00": "20270328T005959Z-a",
           "2027-03-28T03:00:00+02:00": "20270328T010000Z-a"}
-HOUR = 90_000  # frames in an hour
-# TCI and TCO of each subtitle in frames, options of its line, and the programme's length in seconds
-# (it ends before a subtitle that is out of order or ends over six hours after the TCI before it)
-LENGTHS = {
-    "one subtitle": ([(0, 250)], "", 10.0),
-    "two subtitles": ([(0, 250), (500, 1000)], "", 40.0),
-    "the second begins before the first ends": ([(0, 250), (200, 1000)], "", 40.0),
-    "the second ends before the first": ([(0, 1000), (200, 250)], "", 40.0),
-    "from a time on": ([(HOUR, HOUR + 50), (2 * HOUR, 2 * HOUR + 250)], "--from 01:30:00:00", 10.0),
-    "up to a time": ([(HOUR, HOUR + 50), (2 * HOUR, 2 * HOUR + 250)], "--to 01:00:01:00", 2.0),
-    "the third is not in order": ([(500, 1000), (1500, 2000), (0, 250)], "", 60.0),
-    "the second is ten hours later": ([(0, 50), (10 * HOUR, 10 * HOUR + 250)], "", 2.0),
-    "the second ends before its begin": ([(0, 250), (500, 400)], "", 10.0),
-    "over midnight": ([(24 * HOUR - 250, 24 * HOUR - 200), (0, 250)], "", 20.0),
-    "up to a time after midnight": ([(24 * HOUR - 250, 24 * HOUR - 200), (0, 250), (500, 750)],
-                                    "--to 00:00:20:00", 20.0),
-    "from midnight on": ([(24 * HOUR - 250, 24 * HOUR - 200), (0, 250), (500, 750)],
-                         "--from 00:00:00:00", 30.0),
-}
 
 
 def format_seconds(time: float | None) -> str:
@@ -136,10 +117,12 @@ class Lengths(AirCase):
         return data
 
     def test_a_programme_lasts_from_first_tci_to_last_tco(self) -> None:
-        for name, (times, options, seconds) in LENGTHS.items():
-            self.write_stl(*times)
-            delivery = self.read_delivery(options)
-            self.check(name, (delivery.fault, delivery.content.length), ("", seconds))
+        for row in read_vectors("programme-lengths.tsv"):
+            self.write_stl(*((int(tci), int(tco)) for tci, _, tco in (
+                subtitle.partition("-") for subtitle in row["subtitles"].split())))
+            delivery = self.read_delivery(row["options"])
+            self.check(row["name"], (delivery.fault, delivery.content.length),
+                       ("", float(row["seconds"])))
 
     def test_an_invalid_file_has_no_length(self) -> None:
         self.write("one.stl", b"no subtitle file" * 99)

@@ -15,7 +15,7 @@ from subtitles.air.segments import (
     make_segment_name, parse_segment_begin)
 from .air import AirCase, DAY, make_tdt
 from .programmes import BEGIN, SECOND
-from .stories import read_table, read_vectors
+from .stories import read_vectors
 from .streams import change_packet_size, multiplex_frames
 
 # Names of files, and the times at which their segments begin, or `None` if they are no segments
@@ -35,46 +35,6 @@ NAMES = {
     "٢٠٢٦1201T080000Z.ts": None,
 }
 
-# Segments as begin-end in seconds after DAY, with ! if their names report a possible loss before
-# them; the longest allowed pause in seconds; and the intervals without losses
-RUN_CASES = {
-    "none": ("", 2, ""),
-    "the clock was set back in one": ("10-5 12-20 20-30", 2, "10-30"),
-    "the longest pause": ("0-10 12-20", 2, "0-20"),
-    "a longer pause": ("0-10 13-20", 2, "0-10 13-20"),
-    "the same with more patience": ("0-10 13-20", 3, "0-20"),
-    "more patience than a recorder can stall": ("0-10 80-90", 75, "0-90"),
-    "two gaps": ("0-10 20-30 30-40 50-60", 2, "0-10 20-40 50-60"),
-    "one that begins before the end of the last": ("0-15 10-20", 2, "0-20"),
-    "new ones": ("!0-10 10-20 !20-30 30-40", 2, "0-20 20-40"),
-}
-
-# A feed of `make_feeds`; in its TS packets, where the second last segment ends and the last begins;
-# the times of all segments, in the notation above; and the intervals without losses. A pause of
-# more than 60 seconds is a loss. So is a ! or a pause of more than 5 seconds, unless counters and
-# PCR show that the feed goes on. If only the TS packets show a loss, by a long PCR step or (without
-# PCR) by most counters, the segment before it is left out.
-JOINT_CASES = """
-case                                | feed           | end   | begin | segments         | runs
-it goes on                          | without PCR    | 900.5 | 900.5 | 0-10 10-20       | 0-20
-the recorder stalled                | complete       | 900.5 | 900.5 | 0-10 18-20       | 0-20
-the same, and no PCR shows it       | without PCR    | 900.5 | 900.5 | 0-10 18-20       | 0-10 18-20
-the clock was set forward           | complete       | 900.5 | 900.5 | 0-10 75-85       | 0-10 75-85
-it started again, and lost nothing  | complete       | 900.5 | 900.5 | 0-10 !11-20      | 0-20
-it started again, and lost a packet | complete       | 900   | 901   | 0-10 !11-20      | 0-10 11-20
-15 packets are lost in a stall      | complete       | 895   | 910   | 0-10 18-20       | 0-10 18-20
-a frame is lost in a stall          | complete       | 900   | 917   | 0-10 18-20       | 0-10 18-20
-a frame is lost near a PCR jump     | jump at 700    | 900   | 917   | 0-10 18-20       | 0-10 18-20
-a packet is lost on air             | complete       | 900   | 901   | 0-10 10-20       | 0-20
-a packet is lost on the only PID    | only video     | 900   | 901   | 0-10 10-20       | 0-20
-the first is cut in a packet        | complete       | 880.3 | 900.5 | 0-10 10-20 20-30 | 0-10 20-30
-the first is cut between packets    | complete       | 880   | 900   | 0-10 10-20       | 10-20
-more is cut                         | without PCR    | 880   | 1150  | 0-10 10-20       | 10-20
-it stalled, tables do not count     | equal counters | 900.5 | 900.5 | 0-10 18-20       | 0-20
-the second is cut, starts later     | complete       | 900.5 | 930.3 | 0-10 18-20       | 0-10 18-20
-the first is too short to tell      | complete       | 3.5   | 3.5   | 0-10 18-20       | 0-10 18-20
-it stalled, and the PCR goes back   | back at 900    | 900   | 900   | 0-10 18-20       | 0-10 18-20
-"""
 
 
 def make_feeds() -> dict[str, bytes]:
@@ -115,20 +75,21 @@ class Segments(AirCase):
         self.check("order", names, sorted(names))
 
     def test_splits_at_possible_losses(self) -> None:
-        for name, (text, pause, expected) in RUN_CASES.items():
-            self.check(name, self.describe_runs(text, pause), expected)
+        for row in read_vectors("runs.tsv"):
+            self.check(row["name"], self.describe_runs(row["segments"], int(row["pause"])),
+                       row["intervals"])
 
     @mock.patch.object(segments, "BLOCK", 100_000)
     def test_detects_losses_by_counters_between_segments(self) -> None:
         feeds = make_feeds()
-        for row in read_table(JOINT_CASES):
+        for row in read_vectors("joined-segments.tsv"):
             for size in (188, 192, 204):  # bytes of a packet in the file
                 data = change_packet_size(feeds[row["feed"]], size)
                 last_two = [data[:int(float(row["end"]) * size)],
                             data[int(float(row["begin"]) * size):]]
                 others = [b""] * (len(row["segments"].split()) - len(last_two))
                 result = self.describe_runs(row["segments"], 5, *others, *last_two)
-                self.check(f"{row['case']}, {size} bytes a packet", result, row["runs"])
+                self.check(f"{row['name']}, {size} bytes a packet", result, row["intervals"])
 
     def describe_runs(self, text: str, pause: float, *data: bytes) -> str:
         """Write segments with the times in `text` and the contents `data`. Return the intervals
