@@ -17,7 +17,7 @@ from subtitles.judging.causes import Causes, NEVER
 from subtitles.judging.faults import (
     describe_first_hint, describe_parity_fault, FaultPlace, find_code, list_hints, make_faults)
 from subtitles.judging.part import Part
-from subtitles.judging.status import CheckSummary, decide, Grounds, REFUSED, Severity, WAIVED
+from subtitles.judging.status import REFUSED, Severity, WAIVED
 from subtitles.judging.transmissions import ExpectedPages
 from subtitles.judging.waivers import choose_waivers, is_waiver, parse_waiver, Waiver
 from subtitles.results.files import describe_inputs, is_current

@@ -20,8 +20,8 @@ from subtitles.formats.teletext import (
     CROATIAN, ENGLISH, FRENCH, GERMAN, OPTIONS, NationalOption)
 from subtitles.judging.cues import CERTAIN, NOT_CERTAIN
 from subtitles.judging.status import (
-    ACCEPTED, AS_SHOWN, CheckSummary, DIFFERS, Grounds, NOT_READ, REFUSED, SAME, Severity,
-    WITH_FAULTS, decide_reading)
+    ACCEPTED, AS_SHOWN, CheckSummary, Grounds, NOT_READ, REFUSED, Severity, WITH_FAULTS,
+    decide_reading)
 from subtitles.reading.judge import AFTER, BEFORE, is_trusted, list_doubts
 from subtitles.recording.dates import find_date
 from subtitles.reading.received import (

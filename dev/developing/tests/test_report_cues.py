@@ -10,8 +10,7 @@ from unittest import mock
 from developing.stl import make_gsi_block
 from subtitles.common.times import Span, TICKS, format_frame
 from subtitles.formats.stl import NamedSubtitle, Subtitle, SubtitleFile
-from subtitles.judging.causes import (
-    Cause, LATE, NEVER, NOT_RECEIVED, UNKNOWN_CAUSE, WRONG_TEXT)
+from subtitles.judging.causes import Cause, LATE, NEVER
 from subtitles.judging.cues import Cue, CueJudge, CueVerdict, SubtitleFaults, find_cues
 from subtitles.judging.status import (
     ACCEPTED, AS_SHOWN, DIFFERS, LOST, NOT_JUDGED, NOT_READ, REFUSED, RELATIVE, SAME, VALID, WAIVED,
@@ -127,22 +126,10 @@ class CueVerdicts(Case):
     def test_considers_the_cause_and_simultaneous_faults(self) -> None:
         programme = ExpectedPages([FIRST], [page(b"one")])
         severities = [make_severity(f"{faults} warning") for faults in ("67", "72", "others")]
-        rows: list[tuple[str | None, list[int], int, list[str]]] = [
-            # Cause, numbers of other faults, first clean frame, and three expected verdicts: if
-            # fault 67 is a warning, if fault 72 is a warning, and if all faults are warnings. Each
-            # cause comes with a fault 72.
-            (None, [], 100, ["right", "right", "right"]),
-            (None, [], 101, ["not known", "not known", "not known"]),
-            (None, [63], 100, ["right", "right", "right"]),
-            (None, [67], 100, ["waived", "wrong", "waived"]),
-            (LATE, [], 100, ["wrong", "waived", "waived"]),
-            (LATE, [63], 100, ["wrong", "wrong", "waived"]),
-            (LATE, [67], 100, ["wrong", "wrong", "waived"]),
-            (WRONG_TEXT, [68], 100, ["wrong", "wrong", "waived"]),
-            (UNKNOWN_CAUSE, [], 100, ["not known", "waived", "waived"]),
-            (NOT_RECEIVED, [], 100, ["not known", "waived", "waived"]),
-            (UNKNOWN_CAUSE, [67], 100, ["wrong", "wrong", "waived"])]
-        for name, numbers, first, expected in rows:
+        for row in read_vectors("cue-verdicts.tsv"):
+            name = "" if row["cause"] == "-" else row["cause"]
+            first, numbers = int(row["trusted from"]), [*map(int, row["faults"].split())]
+            expected = [row[f"{faults} warning"] for faults in ("67", "72", "others")]
             cause = name and Cause(0, name, 3, None, None, "", 0)
             faults = [f"refused {number} Name frame {format_frame(150)}"
                       for number in [*numbers, *[72] * bool(cause)]]
