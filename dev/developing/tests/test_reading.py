@@ -5,6 +5,7 @@ import hashlib
 import itertools
 import json
 import os
+import time
 from types import SimpleNamespace
 from typing import Any, Iterable, cast
 from unittest import mock
@@ -526,7 +527,10 @@ FEBRUARY_2001 = 981_173_106, 981_173_106  # atime and mtime: 3 February 2001
 
 
 class WrittenFiles(Case):
+    @mock.patch.dict(os.environ, TZ="WEST5")  # five hours behind UTC: still 2 February
     def test_takes_the_date_from_the_tdt(self) -> None:
+        self.addCleanup(time.tzset)
+        time.tzset()
         # A TS packet on PID 0x14, and the date YYMMDD, without a TDT that of the file: 010203
         table = b"\x70\x70\x05" + DAY_2000 + b"\x12\x34\x56"
         other = b"\x71\x70\x05\xff\xff\x12\x34\x56"
