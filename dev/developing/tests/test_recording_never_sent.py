@@ -13,8 +13,9 @@ from developing.pes import decode_pts, make_pes_packet
 from subtitles.common.command_line import ReportedError
 from subtitles.common.times import CLOCK, find_frame_of_day, TICKS
 from subtitles.recording.notices import (
-    Announcement, find_announcements, find_origin, find_silent_pids, find_timing_notices,
-    find_unsent, is_page_expected, NeverSent, Notice, refuse_other_pid, refuse_unsent_page)
+    Announcement, find_announcements, find_origin, find_recorded_time, find_silent_pids,
+    find_timing_notices, find_unsent, is_all_read, is_page_expected, NeverSent, Notice,
+    refuse_other_pid, refuse_unsent_page)
 from subtitles.recording.recording import Recording, refuse_stream
 from subtitles.request.commands import OutputNames
 from subtitles.request.request import Unclear
@@ -23,7 +24,7 @@ from subtitles.stream.packets import GapMarker, PacketRun, Packets, PES
 from subtitles.stream.survey import Survey
 from .bench import Case
 from .judged import judge_files, JudgedPair, ProgrammeCase
-from .parts import make_example_request, read_survey
+from .parts import make_example_request, make_packets, read_survey
 from .streams import (
     CarriedPackets, make_planned_stream, multiplex_programmes, NEW, OLD, Programme, VIDEO_PID)
 from .test_correct_recordings import make_service_stream
@@ -151,6 +152,19 @@ class Announcements(Case):
         self.must("no PCR", not is_page_expected(None, subtitles, 0))
         self.must("no subtitle", not is_page_expected((0, CLOCK // 2), [], 0))
 
+    def test_a_recording_is_all_read_without_loss_damage_and_refused_pes_packets(self) -> None:
+        run, markers = PacketRun(0, 1, 0, 0, "-", ""), [GapMarker(9, 0, 1, 0)]
+        rows: list[tuple[dict[str, Any], bool]] = [
+            ({}, True), ({"gap_markers": markers}, False), ({"damage": "is damaged"}, False),
+            ({"refusal": 31}, False), ({"runs": [run, run._replace(fault=33)]}, False),
+            ({"runs": [run, run._replace(pts=None)]}, False)]
+        for more, expected in rows:
+            self.check(f"{more}", is_all_read(Packets(1, **{"runs": [run], **more})), expected)
+
+    def test_without_a_pcr_only_one_time_base_shows_the_recorded_time(self) -> None:
+        for pts, expected in (([5, 6, 7], (5, 7)), ([5, 6, 7, 0, 1], None), ([], None)):
+            self.check(f"{pts}", find_recorded_time(Survey(), make_packets(pts)), expected)
+
     def check_refusals(self, rows: Mapping[str, tuple[list[str], list[str], bool]], is_sent: bool
                        ) -> None:
         """Check which recordings of 60 s are refused. The rows have lines of `survey`, arguments,
@@ -194,6 +208,7 @@ class Announcements(Case):
                 [*of_short, *make_pmt_lines(2, SECOND_PID), *short], [], True),
             "the only programme is too short for a subtitle": ([*of_short, *short], [], False),
             "a picture without --start": ([*first, *picture], [], True),
+            "--start without a picture": (first, ["--start", "00:00:00:00"], True),
             "by --start, all subtitles are later": (
                 [*first, *picture], ["--start", "00:00:00:00"], False),
             "by --start, the first picture is after a subtitle": (
