@@ -166,6 +166,17 @@ class StoredResults(Case):
             self.check(f"{text!r}", read_result(self.write("one.json", text)), None)
         self.check("missing", (read_result(self.path("none.json")) or {}).get("name"), "none")
 
+    def test_follows_no_link_to_a_result(self) -> None:
+        write_result_file(self.path("one.json"), make_result("accepted"))
+        os.symlink("one.json", self.path("link.json"))
+        self.check("link", (read_result(self.path("link.json")) or {})["verdict"], "not judged")
+
+    def test_stores_the_kind_of_the_error_that_prevents_reading_a_result(self) -> None:
+        for error, kind in ((OSError(5, "a"), "resource"), (MemoryError(), "resource"),
+                            (RecursionError(), "input"), (Stop("a"), "input")):
+            with mock.patch("subtitles.results.files.read_json", side_effect=error):
+                self.check(f"{error!r}", (read_result("a") or {})["not_judged_kind"], kind)
+
     def test_collect_refuses_another_format(self) -> None:
         for name, number in (("a", 8), ("b", 7), ("c", 7)):
             write_result_file(self.path(f"{name}.json"), {**make_result(), "format": number})
