@@ -4,6 +4,7 @@ from __future__ import annotations
 import dataclasses
 import hashlib
 import itertools
+import time
 from typing import Any, Sequence
 from unittest import mock
 
@@ -305,18 +306,17 @@ class ParsedWaivers(Case):
 
     def test_a_result_is_judged_again_after_the_day_of_a_waiver(self) -> None:
         request = make_example_request("one.stl", "one.ts")
-        # The last day of a waiver, whether it was over when the pair was judged, the current day,
+        # Whether the waiver, until 2027-01-31, was over when the pair was judged, the current day,
         # and whether the result is still up to date
-        for until, had_ended, day, expected in (
-                ("2027-01-31", False, "2027-01-31", True),
-                ("2027-01-31", False, "2027-02-01", False),
-                ("2027-01-31", True, "2027-02-01", True)):
+        for had_ended, day, expected in ((False, "2027-01-31", True), (False, "2027-02-01", False),
+                                         (True, "2027-02-01", True)):
             result = make_result(
                 "waived", request=REQUEST.to_json(request), program=PROGRAM._asdict(),
                 files_at_start=describe_inputs(request),
-                waivers=[{"until": until, "ended": had_ended}])
-            self.check(f"{until} {had_ended} {day}", is_current(result, request, PROGRAM, day),
-                       expected)
+                waivers=[{"until": "2027-01-31", "ended": had_ended}])
+            self.check(f"{had_ended} {day}", is_current(result, request, PROGRAM, day), expected)
+            with mock.patch("time.gmtime", return_value=time.strptime(day, "%Y-%m-%d")):
+                self.check(f"{day} UTC", is_current(result, request, PROGRAM), expected)
 
 
 class WaivedSubtitles(Case):
