@@ -536,25 +536,24 @@ class WrittenFiles(Case):
         other = b"\x71\x70\x05\xff\xff\x12\x34\x56"
         null = b"\x47\x1f\xff\x10".ljust(188, b"\xff")
         path = self.write("one.ts", b"")
+        os.utime(path, FEBRUARY_2001)
         for name, packet, date in (
                 ("a TDT", b"\x47\x40\x14\x10\x00" + table, b"000101"),
                 ("a TOT", b"\x47\x40\x14\x1f\x00\x73" + table[1:], b"000101"),
                 ("after a pointer", b"\x47\x40\x14\x10\x02\xff\xff" + table, b"000101"),
-                ("after an adaptation field", b"\x47\x40\x14\x31\x02\x00\xff\x00" + table,
-                 b"000101"),
+                ("an adaptation field", b"\x47\x40\x14\x31\x02\x00\xff\x00" + table, b"000101"),
                 ("another table", b"\x47\x40\x14\x10\x00" + other, b"010203"),
                 ("no decimal digits", b"\x47\x40\x14\x10\x00" + table[:-1] + b"\x5a", b"010203"),
                 ("no payload", b"\x47\x40\x14\x20\x00" + table, b"010203"),
                 ("no section", b"\x47\x00\x14\x10\x00" + table, b"010203"),
                 ("a long pointer", b"\x47\x40\x14\x10\xfe" + table, b"010203"),
                 ("another PID", b"\x47\x40\x15\x10\x00" + table, b"010203")):
-            data = null * 3 + packet.ljust(188, b"\xff") + null * 3
-            self.write("one.ts", data)
-            os.utime(path, FEBRUARY_2001)
-            for at in (len(data), 570):  # the end of the first chunk: of the file, or in the packet
+            for size, is_cut in itertools.product((188, 192, 204), (False, True)):
+                data = b"".join(item.ljust(size, b"\xff") for item in (null, packet, null))
+                at = size + 6 if is_cut else len(data)  # the end of the first chunk
                 with mock.patch("subtitles.recording.dates.read_chunks", return_value=[
                         data[:at], data[at:]]):
-                    self.check(f"{name}, {at}", find_date(path, 188), date)
+                    self.check(f"{name}, {size}, {at}", find_date(path, size), date)
         self.check("PES packets", find_date(path, 0), b"010203")
 
     def test_writes_the_same_file_again(self) -> None:
