@@ -9,7 +9,7 @@ import os
 from typing import Any
 
 from subtitles.common.command_line import (
-    Lateness, Stop, ToolParser, format_lateness, parse_lateness)
+    Lateness, Stop, ToolParser, UsageError, format_lateness, parse_lateness)
 from subtitles.common.times import FRAMES_OF_A_DAY
 from subtitles.request.commands import CommandPaths, format_profile, make_command
 from subtitles.request.lines import read_pairs, read_profile, make_line_request
@@ -79,9 +79,9 @@ class OptionRows(Case):
     def test_an_advised_command_for_two_recordings_gives_no_pid_or_clock_of_only_one(self) -> None:
         # Options of the call, the advised option, and the options of the advised command
         for options, more, expected in (
-                ("", "--pid 0x101", " --pid 0x101"), ("--pid 0x102", "--pid 0x101", ""),
-                ("", "--origin T", " --start TIME --reference-start TIME"),
-                ("--start 10:00:00:00", "--origin T", "")):
+                ("--option german", "--pid 0x101", " --pid 0x101"),
+                ("--pid 0x102", "--pid 0x101", ""), ("--start 10:00:00:00", "--pes 0-9", ""),
+                ("", "--origin T", " --start TIME --reference-start TIME")):
             request = make_example_request("a.stl", "a.ts", *options.split())
             request.reference_call = ["--reference", "b.ts", "a.ts"]
             paths = CommandPaths("tools/qc", self.bench.program)
@@ -227,9 +227,10 @@ class Overrides(Case):
 
     def test_refuses_two_clocks(self) -> None:
         two = self.write("two", b"--start tcp\n--origin 0\n")
-        for words in ("--start tcp --origin 0", f"--profile {two}"):
-            with self.assertRaisesRegex(Stop, "--start and --origin both give the clock"):
+        for words, error in (("--start tcp --origin 0", UsageError), (f"--profile {two}", Stop)):
+            with self.assertRaisesRegex(Stop, "--start and --origin both give") as refused:
                 make_example_request("a.stl", "a.ts", *words.split())
+            self.check(words, type(refused.exception), error)
 
     def test_requires_a_tolerance_for_delay_counts(self) -> None:
         for words, delay, within in (("--late 0:1,1:1/0:1", "1 frame", 0),
