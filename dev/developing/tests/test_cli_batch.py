@@ -50,8 +50,7 @@ class Lists(Case):
         self.make_socket("socket")
         here = f"{self.folder}/"
         rows = (  # a line of the list, the name of its pair if any, the beginning of the reason
-            ("# none", None, ""),
-            ("", None, ""),
+            ("# none", None, ""), ("", None, ""),
             (f"{here}one.stl {here}one.ts --every 50 # more", "one", ""),
             (f"{here}two.stl {here}one.ts", "two", ""),
             (f"{here}one.stl {here}one.ts", "one~2", ""),
@@ -69,7 +68,9 @@ class Lists(Case):
         lines_with_pairs = [row for row in rows if row[1]]
         self.check("pairs", len(items), len(lines_with_pairs))
         for (line, name, reason), item in zip(lines_with_pairs, items):
-            self.check(line, (item.name, (item.reason or "")[:len(reason) or None]), (name, reason))
+            kind = "usage" if f"{name}".startswith("line ") else "input"
+            self.check(line, (item.name, (item.reason or "")[:len(reason) or None],
+                              item.reason_kind), (name, reason, kind))
         self.check("--every of the valid lines", [
             item.request.every for item in items if item.request], [50, 250, 250])
 
