@@ -187,7 +187,7 @@ class JudgedProgrammes(AirCase):
 
         def report_later(_: Programme) -> None:
             clock[0] = 7
-            judge.checker.report()  # type: ignore
+            judge.checker.report()
 
         judge = self.make_judge(FakeChecker(ON_TIME, report_later))
         with mock.patch.object(judge.monitor, "look") as look, \

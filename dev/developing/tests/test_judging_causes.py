@@ -282,7 +282,7 @@ class CausesByHand(unittest.TestCase):
         late, pause = ["1 late 3, a", "2 late 3, b"], "1 another text in a pause, z"
         for name, expected in (("", [late[0], pause, late[1]]), (LATE, [pause]),
                                (TEXT_IN_PAUSE, late)):
-            rest = causes.leave_out(lambda cause, name=name: cause.name == name)
+            rest = causes.leave_out(lambda cause: cause.name == name)
             self.assertEqual([format_cause(cause, sent) for cause in rest.list_causes()], expected)
 
     def test_an_early_subtitle_was_replaced_if_the_next_page_was_recorded(self) -> None:

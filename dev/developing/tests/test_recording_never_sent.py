@@ -159,10 +159,13 @@ class Announcements(Case):
             ({"refusal": 31}, False), ({"runs": [run, run._replace(fault=33)]}, False),
             ({"runs": [run, run._replace(pts=None)]}, False)]
         for more, expected in rows:
-            self.check(f"{more}", is_all_read(Packets(1, **{"runs": [run], **more})), expected)
+            given: dict[str, Any] = {"runs": [run], **more}
+            self.check(f"{more}", is_all_read(Packets(1, **given)), expected)
 
     def test_without_a_pcr_only_one_time_base_shows_the_recorded_time(self) -> None:
-        for pts, expected in (([5, 6, 7], (5, 7)), ([5, 6, 7, 0, 1], None), ([], None)):
+        rows: list[tuple[list[int], object]] = [
+            ([5, 6, 7], (5, 7)), ([5, 6, 7, 0, 1], None), ([], None)]
+        for pts, expected in rows:
             self.check(f"{pts}", find_recorded_time(Survey(), make_packets(pts)), expected)
 
     def check_refusals(self, rows: Mapping[str, tuple[list[str], list[str], bool]], is_sent: bool

@@ -302,11 +302,12 @@ class ReceivedFrames(unittest.TestCase):
         # Of the PES packets 0 to 3 only number 2 is in the range.
         texts: list[tuple[int, Texts]] = [(at, ((20, text),)) for at, text in enumerate(
             (b"w", b"x", b"y", b"z"))]
-        for flags, own in itertools.product(("he", "h"), (((20, b"y"),), (), None)):
+        rows_of_own: tuple[Texts | None, ...] = (((20, b"y"),), (), None)
+        for flags, own in itertools.product(("he", "h"), rows_of_own):
             runs = [PacketRun(at, 1, TICKS * at, 0, item, "0") for at, item in enumerate(
                 (flags, "h", "ho", "he"))]
             packets = Packets(5, runs, decoded_rows=[
-                *texts[:2], *[(2, own)] * (own is not None), texts[3]])
+                *texts[:2], *([] if own is None else [(2, own)]), texts[3]])
             rows = Timeline(packets, PAGE, 0, inside=(2, 2)).get_state_after(2).rows
             other = (BLANK_PAGE if "e" in flags else OLD_PAGE)[0]
             self.assertEqual((rows[0], rows[19]), (
