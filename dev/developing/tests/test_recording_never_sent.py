@@ -191,7 +191,7 @@ class Announcements(Case):
         # A programme whose PCRs, on PID 200, are only a second apart
         short, of_short = ["pcr 200 0", f"pcr 200 {SECOND}"], make_pmt_lines(
             1, FIRST_PID, clock=200)
-        # Its first picture has the PTS 90 s.
+        # The video of any programme, whose first picture has the PTS 90 s.
         picture = [f"stream {THIRD_PID} 2", f"video {THIRD_PID} 0",
                    f"picture {THIRD_PID} {90 * SECOND}"]
         self.check_refusals({

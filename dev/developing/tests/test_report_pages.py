@@ -280,7 +280,7 @@ class Reports(StoryCase):
         "from subtitle 3 on": lambda sent: [item for item in sent if item[0] > get_tci_pts("3")]}
 
     def report(self, story: Story) -> tuple[JudgedPair, str]:
-        """Judge a recording. Return the judged pair and its report."""
+        """Judge a pair, or with --file-only a file. Return the judged pair and its report."""
         self.stl = write_programme(self, subtitle_times(int(story["count"])), self.lines, self.text)
         self.sent = schedule_pages(self, self.stl, origin=ORIGIN)
         stl = bytearray(self.read("one.stl"))

@@ -252,6 +252,7 @@ class TimesAndRanges(unittest.TestCase):
 
     def test_extends_a_range_by_the_longer_limit(self) -> None:
         for (every, within), more in itertools.product(((25, 2), (25, 40), (2, 40)), (0, 1)):
+            # The first header after the programme, in the last frame of the range or one later
             last = 100 + max(every, within) + more
             packets = make_packets([TICKS * frame for frame in (
                 *range(80), last, last + 1, last + 2)], "heo")
