@@ -79,7 +79,7 @@ def read_survey(*lines: str) -> Survey:
 
 
 def make_packets(pts: Iterable[int | None], flags: str = "h", **more: Any) -> Packets:
-    """Return PES packets with these PTS and flags. `None` stands for a gap marker."""
+    """Return PES packets with these PTS and flags. `None` makes a gap marker."""
     return Packets(0x101, [
         PacketRun(at, 1, None, 0, "m", "") if item is None else
         PacketRun(at, 1, item % CLOCK, 0, flags, "") for at, item in enumerate(pts)], **more)
