@@ -86,6 +86,12 @@ class Installation(Case):
     def install(self, folder: str) -> CompletedCall:
         return self.tool("install", "-p", self.bench.program, folder)
 
+    def install_from_private_clone(self, change: str = "true") -> CompletedCall:
+        """Copy the repository to clone/, run the command `change`, and install from the copy."""
+        return self.call(["sh", "-c", f"""umask 077 && mkdir clone &&
+            cp -r "$1"/tools "$1"/docs "$1"/examples "$1"/*.md "$1"/VERSION clone && {change} &&
+            clone/tools/install -p "$2" prefix""", "sh", TOP, self.bench.program])
+
     def test_installed_tools_run_from_a_moved_folder(self) -> None:
         process = self.install("first/prefix")
         self.check("status", process.status, 0)
@@ -98,12 +104,17 @@ class Installation(Case):
         check_installation(self, self.path("moved"))
 
     def test_others_can_use_what_a_private_clone_installs(self) -> None:
-        self.call(["sh", "-c", """umask 077 && mkdir clone &&
-            cp -r "$1"/tools "$1"/docs "$1"/examples "$1"/*.md "$1"/VERSION clone &&
-            clone/tools/install -p "$2" prefix""", "sh", TOP, self.bench.program])
+        self.install_from_private_clone()
         modes = {os.stat(path).st_mode & 0o777
                  for path in glob.glob(self.path("prefix/**"), recursive=True)}
         self.check("modes of files and folders", modes, {0o644, 0o755})
+
+    def test_a_missing_man_page_is_reported_before_anything_is_copied(self) -> None:
+        page = "clone/docs/subttx-air.1"
+        process = self.install_from_private_clone(f"rm {page}")
+        self.check("status and output", process, (2, b"", [
+            f"install: {self.path(page)}: No such file or directory"]))
+        self.must("nothing is installed", not os.path.exists(self.path("prefix")))
 
     def test_removes_and_lists_what_was_installed(self) -> None:
         installed = self.install("own/prefix").out.decode().splitlines()

@@ -234,8 +234,19 @@ def copy_completion(prefix: str) -> None:
         link("subttx", os.path.join(folder, INSTALLED + name))
 
 
+def check_sources(program: str) -> None:
+    """Raise `OSError` for the first missing file of an installation, before anything is copied."""
+    names = [*(os.path.join("tools", name) for name in TOOLS), COMPLETION, *INSTALLED_DOCUMENTS,
+             *(os.path.join("docs", page) for page in PAGES),
+             *(os.path.join("docs", "manual", unit) for unit in UNITS)]
+    for path in (program, *(os.path.join(TOP, name) for name in names)):
+        with open(path, "rb"):
+            pass
+
+
 def install(program: str, prefix: str) -> list[str]:
     """Install everything in a folder. Return the paths of the commands and the man pages."""
+    check_sources(program)
     copy(program, os.path.join(prefix, "bin", "subttx"), 0o755)
     pages = [os.path.join(prefix, MAN, page) for page in PAGES]
     for page in pages:
