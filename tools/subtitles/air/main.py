@@ -31,8 +31,8 @@ def make_record_parser() -> ToolParser:
 
 def make_judge_parser() -> ToolParser:
     """Return the argument parser of the command `judge`."""
-    parser = ToolParser("Judge each programme of a schedule from segments of a feed, as soon as it "
-                        "is over.")
+    parser = ToolParser("Judge each programme of a schedule from segments of a feed, once it is "
+                        "over.")
     parser.add_argument("schedule", metavar="SCHEDULE", help="read air times from this file")
     parser.add_argument("segments", metavar="SEGMENTS", help="read segments from this folder")
     parser.add_argument("-o", dest="out", metavar="OUT", required=True,

@@ -256,7 +256,7 @@ def read_packets_between(packets: Packets, low: int, high: int, origin: int, wit
 
 
 def is_outside(run: PacketRun, low: int, high: int) -> bool:
-    """Return whether a run lies a frame or more before PTS `low` or after PTS `high`. A simple
+    """Return whether a run lies more than a frame before PTS `low` or after PTS `high`. A simple
     comparison is not possible: `low` and `high` may be a day apart, more than half of the clock's
     range."""
     first, last = run.pts, run.last
