@@ -75,7 +75,7 @@ class Verdicts(Case):
                 make_part(0, 99, 0, make_answer(outputs[word]), number,
                           RECORDING if word == "estimated" else GIVEN)
                 for number, word in enumerate(filter(None, row["parts"].split(", ")), 1)],
-                Severity(request.severity))
+                Severity(request.severity, request.is_loss_allowed))
             verdict = dataclasses.replace(
                 verdict, request=request, gaps=[lost] * bool(row["lost"]),
                 warnings=[Notice(kind, kind, None) for kind in row["warnings"].split()],
