@@ -18,7 +18,7 @@ from subtitles.formats.layout import PLAIN, draw_text, make_page_rows
 from subtitles.formats.stl_writer import (
     StoredPage, make_gsi_block, make_subtitle_blocks, store_page)
 from subtitles.formats.teletext import (
-    CROATIAN, ENGLISH, FRENCH, GERMAN, OPTIONS, NationalOption)
+    CROATIAN, ENGLISH, FRENCH, GERMAN, OPTIONS, OPTION_BY_WORD, NationalOption)
 from subtitles.judging.cues import CERTAIN, NOT_CERTAIN
 from subtitles.judging.status import (
     ACCEPTED, AS_SHOWN, CheckSummary, Grounds, NOT_READ, REFUSED, Severity, WITH_FAULTS,
@@ -34,7 +34,7 @@ from subtitles.results.schema import find_misfit
 from subtitles.stream.packets import PES, PacketRun, Packets
 from subtitles.stream.receiver import BLANK_PAGE, Rows
 from .bench import Case, CompletedCall
-from .stories import read_vectors
+from .stories import read_vectors, repeat_words
 from .streams import Shape, add_pictures, join_packets, make_multiplex, make_stream_of_pids
 from .transmissions import (
     CLOSING, HEADER, join_pes_packets, make_numbered_row, make_random_stl, packets, replace_pts)
@@ -51,36 +51,27 @@ def boxed(text: bytes) -> bytes:
 class StoredPages(Case):
     """Pages, and the text, the row and the justification with which subtitle files store them."""
 
-    def test_stores_rows_as_the_text_that_draws_them(self) -> None:
-        double = b"\x0d" + boxed(b"a"), b"\x0d" + boxed(b"b")
-        self.check_rows(lambda rows, option: store_page(make_page(rows), option), {
-            "centred": (({22: b" " * 16 + boxed(b"Hi!!")}, ENGLISH), StoredPage(22, 2, b"Hi!!")),
-            "left": (({22: boxed(b"Hi")}, ENGLISH), StoredPage(22, 1, b"Hi")),
-            "right": (({22: b" " * 34 + boxed(b"Hi")}, ENGLISH), StoredPage(22, 3, b"Hi")),
-            "at no margin": (({22: b" " * 5 + boxed(b"Hi")}, ENGLISH),
-                             StoredPage(22, 1, b"     " + boxed(b"Hi"))),
-            "double height": (({20: double[0], 22: double[1]}, ENGLISH),
-                              StoredPage(20, 1, b"\x8a\x8a".join(double))),
-            "one box": (({1: b"\x0bHi"}, ENGLISH), StoredPage(1, 1, b"\x0bHi")),
-            "a dollar": (({23: boxed(b"\x24")}, ENGLISH), StoredPage(23, 1, b"\xa4")),
-            "an accent": (({23: boxed(b"caf\x40")}, FRENCH), StoredPage(23, 1, b"caf\xc1a"))})
+    def test_stores_rows_as_the_text_that_draws_them_or_says_why_it_can_not(self) -> None:
+        for row in read_vectors("stored-pages.tsv"):
+            pages = (item.split(maxsplit=2) for item in repeat_words(row["page"]).split("; "))
+            rows = {int(number): b" " * int(column) + bytes.fromhex(codes)
+                    for number, column, codes in pages}
+            self.check(row["name"], store_page(make_page(rows), OPTION_BY_WORD[row["option"]]),
+                       row["reason"] or StoredPage(int(row["row"]), int(row["justify"]),
+                                                   bytes.fromhex(repeat_words(row["text"]))))
 
-    def test_says_why_a_page_can_not_be_stored(self) -> None:
-        no_byte = "for which the national option english has no byte in a text"
-        for rows, reason in (
-                ({22: boxed(b"a"), 24: b"b"}, "row 24 has text"),
-                ({21: b"Hi"}, "row 21 has no start box (0B)"),
-                ({21: b"\x0b\x11a"}, f"row 21 has the code 11, {no_byte}"),  # a mosaic colour
-                ({21: b"\x0b\x7e"}, f"row 21 has the code 7E, {no_byte}"),
-                ({20: b"\x0d\x0ba", 21: b"\x0bb"},
-                 "row 21 is directly below a row of double height (0D)"),
-                ({23: b"\x0d\x0ba"}, "row 23 has double height (0D)")):
-            self.check(reason, store_page(make_page(rows), ENGLISH), reason)
+    def test_writes_each_field_of_the_gsi_block(self) -> None:
+        block = make_gsi_block(b"t" * 33, 5, 3, 979_331, b"08", b"p" * 33, b"991231").decode()
+        for row in read_vectors("gsi-block.tsv"):
+            size = int(row["bytes"])
+            self.check(row["field"], block[:size], row["value"].ljust(size))
+            block = block[size:]
+        self.check("the rest", block, "")
 
-    def test_counts_blocks_before_subtitles_and_numbers_those_of_a_subtitle(self) -> None:
-        self.check("TNB and TNS", make_gsi_block(b"", 5, 3)[238:248], b"0000500003")
-        blocks = make_subtitle_blocks(1, 0, 25, 20, 2, b"a" * 3 * 112)  # 112 bytes fill a block
-        self.check("EBN of each block of 128 bytes", blocks[3::128], b"\x00\x01\xff")
+    def test_numbers_the_blocks_of_a_subtitle(self) -> None:
+        for count, numbers in ((0, b"\xff"), (1, b"\xff"), (3, b"\x00\x01\xff")):
+            blocks = make_subtitle_blocks(1, 0, 25, 20, 2, b"a" * count * 112)  # 112 fill a block
+            self.check(f"EBN of {count} blocks of 128 bytes", blocks[3::128], numbers)
 
     def test_draws_each_stored_character_as_its_code(self) -> None:
         national_codes = bytes.fromhex("23 24 40 5B 5C 5D 5E 5F 60 7B 7C 7D 7E")
