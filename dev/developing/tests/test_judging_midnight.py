@@ -14,7 +14,7 @@ from subtitles.common.times import (
     format_origin, format_program_time, parse_frame, restore_times)
 from subtitles.formats.listing import parse_place_time
 from subtitles.formats.midnight import find_day_begin, move_times
-from subtitles.formats.stl import GSI, TCP_PLACE, get_subtitle_times, read_stored_subtitles
+from subtitles.formats.stl import TCP_PLACE, get_subtitle_times, read_stored_subtitles
 from .air import AirCase, DAY, SEGMENT_SECONDS
 from .bench import Case
 from .judged import JudgedPair, judge_files
@@ -60,8 +60,9 @@ class Times(Case):
 
     def test_a_title_at_the_beginning_keeps_its_time(self) -> None:
         title = "00:00:00:00-00:00:01:00"
-        self.check("times", move_times(make_stl(title, EVENING, title), NOON, True)[GSI:],
-                   make_stl(title, "10:00:00:00-10:00:02:00", "12:00:00:00-12:00:01:00")[GSI:])
+        self.check("times", move_times(make_stl(title, EVENING, title), NOON, True),
+                   make_stl(title, "10:00:00:00-10:00:02:00", "12:00:00:00-12:00:01:00",
+                            first=b"12000000"))
 
     def test_prints_the_times_of_a_subtitle_file_whose_day_begins_at_noon(self) -> None:
         with begin_day_at(NOON):
