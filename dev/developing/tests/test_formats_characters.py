@@ -97,11 +97,11 @@ class NationalOptions(unittest.TestCase):
                 "estonian": "0C", "lithuanian": "1A"}.items():
             for code in (item.encode() for item in codes.split()):
                 self.assertEqual(choose_language_option(code).word, word, code)
-        for code in (b"", b"\xff\x00"):
+        for code in (b"", b" 2", b"\xff\x00"):
             self.assertEqual(choose_language_option(code), ENGLISH, code)
 
     def test_chooses_the_option_of_a_language_that_the_pmt_announces(self) -> None:
-        for track, named in (("FRE", FRENCH), ("gre", None), ("lav", None)):
+        for track, named in (("FRE", FRENCH), ("gre", None), ("lav", None), ("", None)):
             self.assertEqual(choose_track_option(track), named, track)
 
 
@@ -123,7 +123,8 @@ class Advice(unittest.TestCase):
         # A text, the place of a byte, and the bytes of the character there. C9 is no mark.
         for text, at, letter in ((b"a\xc2eb", 1, b"\xc2e"), (b"a\xc2", 1, b"\xc2"),
                                  (b"\xc2\x80e", 0, b"\xc2"), (b"ab", 1, b"b"),
-                                 (b"\xc2 e", 0, b"\xc2"), (b"\xc9e", 0, b"\xc9")):
+                                 (b"\xc2 e", 0, b"\xc2"), (b"\xc2\x31", 0, b"\xc2"),
+                                 (b"\xc9e", 0, b"\xc9")):
             self.assertEqual(read_character_bytes(text, at), letter, text)
 
 
