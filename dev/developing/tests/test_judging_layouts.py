@@ -18,12 +18,18 @@ from .transmissions import (
 
 FIRST_TCI, DISTANCE, DURATION = 3000, 60, 45  # first TCI, interval between TCIs, in frames
 CENTRED, VP = 2, 18  # justification code, and vertical position (row)
+# Items of --layout that are not valid, and the values that the item takes
+INVALID_ITEMS = {
+    "left=40": "0 to 39", "right=40": "0 to 39", "free=0": "1, 2 or 3", "row=23": "-22 to 22",
+    "strip=0000": "codes 00 to 1F, each once", "fit=1": "no value",
+    "before=0E": "up to 6 codes 01 to 0D and one * at most", "after=0E": "up to 4 codes 01 to 0D"}
 # Values of --layout, and the message about each, or `None` if the value is valid
 FAULTS = [
-    ("left=40", "left=40 is not valid: left takes 0 to 39"), ("fit,fit", "fit is given twice"),
-    ("fit=1", "fit=1 is not valid: fit takes no value"), ("pitch=1", "pitch=1 is an unknown item"),
+    *((f"up,{item}", f"{item} is not valid: {item.partition('=')[0]} takes {values}")
+      for item, values in INVALID_ITEMS.items()),
+    ("left=1,left=2", "left is given twice"), ("pitch=1", "pitch=1 is an unknown item"),
     ("", "an empty word is an unknown item"), ("fit,", "an empty word is an unknown item"),
-    ("up,after=0E", "after=0E is not valid: after takes up to 4 codes 01 to 0D"), ("fit,up", None)]
+    ("fit,up", None)]
 
 
 def write_texts(case: Case, texts: Sequence[bytes], name: str, dsc: bytes = b"1") -> str:
