@@ -232,23 +232,6 @@ ITEMS = [
     ("after=0A,fit,left=2", [("after=0A", "fit,left=2"), ("fit", "after=0A,left=2"),
                              ("left=2", "after=0A,fit")]),
     ("", [])]
-# Codes that overrule a line's own codes (`*`) if a layout puts them after these: alphanumeric
-# colours, steady, normal size
-OVERRULING = (*range(0x01, 0x08), 0x09, 0x0C)
-# Layouts, and their items that only the operator can accept: these may hide something from viewers
-# (colour, flash, double height, a box) or move lines by more than two rows.
-QUESTIONABLE_ITEMS = [
-    ("strip=0A0B", ""), ("strip=0D", "strip=0D"), ("strip=0D,before=0D0B0B", ""),
-    ("strip=0D,before=0B0B*0D", ""), ("strip=0A0B,before=", "before=,strip=0B"),
-    ("strip=0A,before=", "before="), ("before=0B", "before=0B"), ("before=0B06", "before=0B06"),
-    ("before=0B0B08", "before=0B0B08"), ("before=08*0B0B", "before=08*0B0B"), ("row=2", ""),
-    ("row=-2", ""), ("row=3", "row=3"), ("row=-10,fit", "row=-10"),
-    ("strip=070001090A0C", "strip=01"), ("strip=0106081C1D", "strip=0106081C1D"),
-    ("strip=03,before=030B0B", "strip=03"), ("text,up", ""), ("before=07*0B0B", ""),
-    ("strip=03,before=*070B0B", "before=*070B0B,strip=03"),
-    *((text, text if code in (*OVERRULING, 0x08) else "")
-      for code in range(0x01, 0x0E)
-      for text in (f"before=0B*{code:02X}0B", f"before=0B*0B{code:02X}"))]
 
 
 def read_intended_layout(text: str) -> Layout:
@@ -292,10 +275,10 @@ class ItemDecisions(Case):
                 PLAIN, list_items(layout), layout)), (PLAIN, layout))
 
     def test_finds_items_that_only_the_operator_can_accept(self) -> None:
-        for text, questionable in QUESTIONABLE_ITEMS:
-            layout = read_intended_layout(text)
-            self.check(text, format_layout(add_items(PLAIN, find_questionable_items(layout),
-                                                     layout)), questionable)
+        for row in read_vectors("questionable-items.tsv"):
+            layout = read_intended_layout(row["layout"])
+            self.check(row["layout"], format_layout(add_items(PLAIN, find_questionable_items(
+                layout), layout)), row["items"])
 
     def test_an_item_needs_ten_redrawn_subtitles_of_which_nine_in_ten_are_as_sent(self) -> None:
         for redrawn, as_sent, has_evidence in (
