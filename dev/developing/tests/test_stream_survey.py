@@ -4,6 +4,7 @@ from __future__ import annotations
 import operator
 import os
 import sys
+from types import SimpleNamespace
 from typing import Any, Callable, Iterable, Sequence
 from unittest import mock
 
@@ -14,7 +15,7 @@ from subtitles.common.program import read, TOP
 from subtitles.common.times import CLOCK, TICKS
 from subtitles.formats.teletext import Page
 from subtitles.judging.pair import PairJudge
-from subtitles.recording.recording import find_unreadable_packets
+from subtitles.recording.recording import find_unreadable_packets, Recording
 from subtitles.stream.gaps import explain_refusal
 from subtitles.stream.packets import GapMarker, PacketRun, Packets, PageChange, PCRStep, Texts
 from subtitles.stream.pictures import VideoLead
@@ -386,6 +387,20 @@ class Comparison(Case):
             number = find_unproved_number(command, packets, (0, last))
             self.check(f"0 to {last}", (number, command.list_packets.call_count),
                        (first_not_compared, calls))
+
+    def test_compares_a_range_unless_the_last_one_of_its_pid_ends_with_it(self) -> None:
+        recording: Any = SimpleNamespace(compared={}, make_packets_command=mock.Mock())
+        # The PID, the range, the number from which on it can't be compared, and whether it is new
+        for pid, pes, number, is_new in (
+                (PID, (0, 8), 3, True), (PID, (0, 8), None, True), (PID, (0, 8), None, False),
+                (PID, (4, 8), None, False), (PID, (0, 4), None, True), (PID, (0, 8), None, True),
+                (VIDEO_PID, (0, 8), None, True), (PID, (0, 8), None, False)):
+            recording.packets = Packets(pid, [PacketRun(0, 9, 0, 5, "h", "")])
+            with mock.patch(f"{Recording.__module__}.find_unproved_number", return_value=number
+                            ) as compare:
+                found = Recording.find_unproved_number(recording, pes)
+            self.check(f"{pid} {pes}", (found, compare.call_args_list), (number, [mock.call(
+                recording.make_packets_command(), recording.packets, pes)] * is_new))
 
 
 class JudgedRecordings(ProgrammeCase):
