@@ -58,11 +58,12 @@ class Times(Case):
             first=b"00000005"))
         self.check("moved back", move_times(moved, NOON), data)
 
-    def test_a_title_at_the_beginning_keeps_its_time(self) -> None:
-        title = "00:00:00:00-00:00:01:00"
-        self.check("times", move_times(make_stl(title, EVENING, title), NOON, True),
-                   make_stl(title, "10:00:00:00-10:00:02:00", "12:00:00:00-12:00:01:00",
-                            first=b"12000000"))
+    def test_only_a_title_at_the_beginning_keeps_its_time(self) -> None:
+        title, moved = "00:00:00:00-00:00:01:00", "12:00:00:00-12:00:01:00"
+        for may_have_title, first in ((True, title), (False, moved)):
+            self.check(f"may be a title: {may_have_title}", move_times(
+                make_stl(title, EVENING, title), NOON, may_have_title), make_stl(
+                    first, "10:00:00:00-10:00:02:00", moved, first=b"12000000"))
 
     def test_prints_the_times_of_a_subtitle_file_whose_day_begins_at_noon(self) -> None:
         with begin_day_at(NOON):

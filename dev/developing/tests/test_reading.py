@@ -69,7 +69,7 @@ class StoredPages(Case):
         self.check("the rest", block, "")
 
     def test_numbers_the_blocks_of_a_subtitle(self) -> None:
-        for count, numbers in ((0, b"\xff"), (1, b"\xff"), (3, b"\x00\x01\xff")):
+        for count, numbers in ((0, b"\xff"), (1, b"\xff"), (9, bytes(range(8)) + b"\xff")):
             blocks = make_subtitle_blocks(1, 0, 25, 20, 2, b"a" * count * 112)  # 112 fill a block
             self.check(f"EBN of {count} blocks of 128 bytes", blocks[3::128], numbers)
 
