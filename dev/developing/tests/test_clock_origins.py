@@ -11,12 +11,14 @@ from developing.stl import make_box_line
 from subtitles.clock.alignment import (
     ExpectedCue, ExpectedSubtitle, TimeBase, count_delays, find_expected_cues)
 from subtitles.clock.origin import (
-    OriginEstimate, OriginSearch, estimate_origin, read_subtitles_between)
-from subtitles.clock.stretches import Stretch, Track, find_best_stretches, find_stretches
+    OriginEstimate, OriginSearch, estimate_origin, prefer_known_origin, read_subtitles_between)
+from subtitles.clock.stretches import (
+    EstimatedPart, Stretch, Track, find_best_stretches, find_stretches, select_other_origins)
 from subtitles.common.command_line import Lateness, Stop
 from subtitles.common.times import ALL_DAY, CLOCK, FrameRange, TICKS
 from .bench import Case
 from .parts import make_example_request, survey_packets
+from .stories import read_vectors
 from .transmissions import (
     CLOSING, HEADER, ShownSubtitle, make_numbered_row, schedule_pes, write_programme,
     write_subtitle_file)
@@ -162,6 +164,26 @@ class Origins(Case):
             self.must(f"{late}: times", f"subtitles are expected from 11:06:40:00 to 11:07:12:10; "
                       f"the page was received from 11:06:40:00 to 11:07:12:{10 + late[-1]}"
                       in result.lines, result.lines)
+
+
+class KnownOrigins(unittest.TestCase):
+    cues = [ExpectedCue(frame, text, text != b"") for frame, text in (
+        (100, b"a"), (150, b""), (200, b"b"), (250, b""), (400, b"c"))]
+
+    def test_prefers_a_known_origin_if_only_the_first_page_matches_the_estimated_one(self) -> None:
+        for row in read_vectors("known-origins.tsv"):
+            sent = [(TICKS * int(frame), text.replace("blank", "").encode()) for frame, _, text in (
+                item.partition(" ") for item in row["sent"].split(", "))]
+            begin, within = int(row["begin"]), int(row["--within"])
+            base = make_time_base(self.cues, sent, int(row["last"]), within)
+            frame, _, ticks = row["known"].partition(" ")
+            part = prefer_known_origin(EstimatedPart(
+                0, 0, base.compare(100), select_other_origins(base, 100), base, 0, []),
+                                       int(ticks) - TICKS * int(frame) if frame else None)
+            self.assertEqual((part.best.start, part.best.matches, len(part.time_base.changes)), (
+                begin, int(row["matches"]), len(sent) - (begin != 100)), row["name"])
+            self.assertEqual([fit.start for fit in part.others], [
+                fit.start for fit in base.fits if abs(fit.start - begin) > within], row["name"])
 
 
 class Tracks(Case):
@@ -390,6 +412,11 @@ class Requests(Case):
         self.check("first frame", result.first_shift, self.cues[8].frame)
         self.check("delays", [text.partition(" subtitles are ")[2] for text in result.shift_texts],
                    ["6.00 s (150 frames) late", "7.60 s (190 frames) late"])
+
+    def test_names_no_time_of_a_pts_outside_of_the_day(self) -> None:
+        result = self.find([(-TICKS, b"other"), *self.send([0] * 24)])
+        self.check("last line", result.lines[-1], "subtitles are expected from 00:00:00:00 to "
+                   "00:01:16:08; the page was received from a time outside the day to 00:01:16:08")
 
     def test_a_delay_before_a_break_begins_no_part(self) -> None:
         # A break has at least 125 frames.
