@@ -20,6 +20,7 @@ from subtitles.stream.packets import GapMarker, PacketRun, Packets, PageChange
 from subtitles.stream.survey import Survey
 from .streams import HEVC, H_264, MPEG_2
 from .parts import make_example_request, read_survey
+from .stories import read_vectors
 from .test_formats_files import refusal
 
 ORIGIN = CLOCK - 5 * TICKS
@@ -176,22 +177,16 @@ class OriginLines(unittest.TestCase):
                              early)
 
     def test_compares_an_origin_with_a_given_one(self) -> None:
-        # The given origin, by how many ticks the estimated origin is later than it (or than 0), and
-        # the delay in the line about them. If none is given, there is a line only about delays from
-        # one to 250 frames.
-        rows: list[tuple[int | None, int, str]] = [
-            (None, 0, ""), (None, TICKS - 1, ""), (None, 251 * TICKS, ""),
-            (None, 250 * TICKS, "250 frames late"), (None, -TICKS, "1 frame early"), (0, 0, ""),
-            (0, 9, "9 ticks late"), (0, 251 * TICKS, "251 frames late"), (9, 0, ""),
-            (9, -2 * TICKS - 1, "2 frames and 1 tick early"), (CLOCK - 5, 9, "9 ticks late")]
-        for known, ticks, delay in rows:
+        for row in read_vectors("origin-delays.tsv"):
+            known, ticks = int(row["given"]) if row["given"] else None, int(row["ticks"])
             estimate, part = OriginEstimate(), self.part(20, 20, 20)
             part.origin = ((known or 0) + ticks) % CLOCK
             compare_with_known_origin(estimate, known, part)
             self.assertEqual(estimate.lines, [
-                f"compared with --origin {known or 0}, the subtitles are {delay}"] if delay else [
-                f"the subtitles match --origin {known}"] * (known is not None), (known, ticks))
-            self.assertEqual(estimate.ticks_late, None if known is None else ticks, (known, ticks))
+                f"compared with --origin {known or 0}, the subtitles are {row['delay']}"] if
+                row["delay"] else [f"the subtitles match --origin {known}"] * (known is not None),
+                             row)
+            self.assertEqual(estimate.ticks_late, None if known is None else ticks, row)
 
     def test_reports_skipped_pes_packets_and_other_pages(self) -> None:
         pages = {"888": 9, "150": 2, "777": 3, "101": 1, "102": 1, "103": 1, "104": 1}
@@ -385,13 +380,10 @@ class FirstPictures(unittest.TestCase):
                              (frames, form, first))
 
     def test_asks_about_a_delay_that_is_the_distance_to_the_other_picture(self) -> None:
-        # The distance to the other picture and the delay of the subtitles in frames
-        for distance, delay, words in (
-                (-2, -2, "is the time code from the GOP header?"), (-2, 2, ""), (-2, -1, ""),
-                (-2, 0, ""), (-2, None, ""), (0, 0, ""), (0, None, ""), (2, -2, ""),
-                (2, 2, "is the time code that of the picture with the random_access_indicator?")):
-            question = Clock(0, START, delay, picture_offset=distance).question()
-            self.assertEqual(question[:len(words)] if words else question, words, (distance, delay))
+        for row in read_vectors("picture-questions.tsv"):
+            delay = int(row["delay"]) if row["delay"] else None
+            question = Clock(0, START, delay, picture_offset=int(row["distance"])).question()
+            self.assertEqual(question, row["question"], row)
 
     def test_uses_the_first_video_pid_of_a_programme(self) -> None:
         first, moved = list_programme_lines((VIDEO, MPEG_2)), list_programme_lines((0x201, H_264))
