@@ -71,20 +71,13 @@ class Attributes(unittest.TestCase):
             self.assertTrue(self.style_last_cell(row, is_boxed_page=False).boxed, row)
 
     def test_draws_rows_as_ffmpeg_and_libzvbi_do(self) -> None:
-        # The codes of a row. Expected are, for each cell, the numbers of its ink and background,
-        # b if it is within a box, f if it flashes, and d if it has double height.
-        for codes, *expected in (
-                ("0b 0b 03 1d 61 04 62 1c 63 0a 0a 64", "777333444444", "000333300000",
-                 " bbbbbbbbb  ", " " * 12, " " * 12),
-                ("0d 01 0b 0b 08 61 09 62 0c 63 0a 62", "771111111111", "0" * 12, "   bbbbbbbbb",
-                 "     f      ", " ddddddd    "),
-                ("0b 61 0a 62 0b 0b 02 1d 07 61 0a 0a", "777777722777", "000000022222",
-                 "     bbbbbb ", " " * 12, " " * 12)):
+        for row in read_vectors("cell-styles.tsv"):
+            codes, *expected = row.values()
             cells = [item for item in style_row(bytes.fromhex(codes), 20, ENGLISH.bits, True)
                      for _ in item.characters]
             result = ["".join(letters) for letters in zip(*(
-                (str(cell.ink), str(cell.background), " b"[cell.boxed], " f"[cell.flash],
-                 " d"[cell.double]) for cell in cells))]
+                (str(cell.ink), str(cell.background), "-b"[cell.boxed], "-f"[cell.flash],
+                 "-d"[cell.double]) for cell in cells))]
             self.assertEqual(result, expected, codes)
 
     def test_draws_mosaics_after_a_mosaic_colour(self) -> None:
@@ -129,10 +122,28 @@ class Drawings(unittest.TestCase):
                          [False, True, True, True])
 
     def test_draws_each_mark_of_the_timeline_to_its_end(self) -> None:
-        """Marks that touch are drawn as one, which is at least 2 units wide."""
-        lanes: Any = SimpleNamespace(compute_x=float)
-        text = markup_text(Lanes.draw_lane(lanes, "fault", "", [(0, 100), (10, 20), (200, 200)]))
-        self.assertEqual(re.findall(' d="([^"]*)"', text), ["M0 0H100V10H0zM200 0H202V10H200z"])
+        """Marks less than half a unit apart are drawn as one, which is at least 2 units wide."""
+        lanes: Any = SimpleNamespace(compute_x=lambda frame: frame / 4)
+        text = markup_text(Lanes.draw_lane(lanes, "fault", "", [
+            (401, 440), (40, 80), (0, 400), (442, 442)]))
+        self.assertEqual(re.findall(' d="([^"]*)"', text), [
+            "M0 0H110V10H0zM110.5 0H112.5V10H110.5z"])
+
+    def test_draws_frames_outside_of_the_timeline_at_its_ends(self) -> None:
+        lanes: Any = SimpleNamespace(begin=100, end=400)
+        for frame, place in ((99, 0), (100, 0), (101, 3.3), (399, 996.7), (400, 1000), (401, 1000)):
+            self.assertEqual(Lanes.compute_x(lanes, frame), place, frame)
+
+    def test_labels_a_timeline_with_the_times_before_subtitles(self) -> None:
+        for row in read_vectors("timeline-labels.tsv"):
+            cues = [SimpleNamespace(subtitle=SimpleNamespace(index=at, begin=int(frame)))
+                    for at, frame in enumerate(row["subtitles"].split(), 1)]
+            lanes: Any = SimpleNamespace(begin=int(row["begin"]), end=int(row["end"]),
+                                         cues=SimpleNamespace(cues=cues))
+            lanes.compute_x = functools.partial(Lanes.compute_x, lanes)
+            labels = re.findall('<a class="(.*?)" href="#s(.*?)" style="left:(.*?)%">(.*?)</a>',
+                                markup_text(Lanes.draw_axis(lanes)))
+            self.assertEqual("; ".join(map(" ".join, labels)), row["labels"], row["name"])
 
     def test_outlines_neighbouring_cells_once(self) -> None:
         # Rows and columns of cells, rows with double height, and the number of outlines
