@@ -89,14 +89,14 @@ class NationalOptions(unittest.TestCase):
             self.assertTrue(has_characters(b"A%cA" % byte, ENGLISH), byte)
         self.assertFalse(has_characters(b"A\x90A", ENGLISH))
 
+    def test_names_the_languages_of_each_option(self) -> None:
+        self.assertEqual({option.word: option.name for option in OPTIONS}, {
+            row["option"]: row["name"] for row in read_vectors("language-codes.tsv")})
+
     def test_chooses_the_option_of_each_language_code_of_subtitle_files(self) -> None:
-        for word, codes in {
-                "english": "09 00 1D 18 ?", "german": "08", "swedish": "27 28 1B 1b",
-                "italian": "15", "french": "0F", "spanish": "0A 21", "czech": "06 25",
-                "polish": "20", "turkish": "29", "croatian": "04 24 26", "romanian": "22",
-                "estonian": "0C", "lithuanian": "1A"}.items():
-            for code in (item.encode() for item in codes.split()):
-                self.assertEqual(choose_language_option(code).word, word, code)
+        for row in read_vectors("language-codes.tsv"):
+            for code in row["codes"].encode().split():
+                self.assertEqual(choose_language_option(code).word, row["option"], code)
         for code in (b"", b" 2", b"\xff\x00"):
             self.assertEqual(choose_language_option(code), ENGLISH, code)
 
@@ -114,7 +114,8 @@ class Advice(unittest.TestCase):
                 ("24", "no national option has all the characters in the file; $ is in english, "
                  "german, italian, spanish and lithuanian"),
                 ("C24F", "no national option has Ó: "), ("F9", "no national option has ø: "),
-                ("C2", "byte C2 is not a character"), ("FF", "byte FF is not a character")):
+                ("C2", "byte C2 is not a character"), ("C678", "byte C6 is not a character"),
+                ("FF", "byte FF is not a character")):
             self.assertTrue(advise_on_character(bytes.fromhex(text), []).startswith(words), text)
         self.assertEqual(advise_on_character(b"\xc2e", [FRENCH, SPANISH]), "use --option french or "
                          "spanish, which have all the characters in the file")
