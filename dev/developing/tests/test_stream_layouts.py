@@ -26,22 +26,7 @@ GERMAN = OPTION_BY_WORD["german"]
 INVALID_LAYOUTS = (
     "", "row=23", "row=--1", "left=-1", "free=4", "left=", ",fit", "fit fit", "before", "row=1\n",
     "left=\u0661", "left=-0", "free=-1")
-# Values of --layout, each with the shortest value for the same layout.
-EQUAL_LAYOUTS = [("row=-0,left=00,free=01", ""), ("before=*", "before="),
-                 ("before=0b*0d", "before=0B*0D"),
-                 ("white,up", "up,white"), ("before=0B0B,after=0A0A,strip=", ""),
-                 ("row=-22", "row=-22"), ("row=22", "row=22"),
-                 ("strip=1f00", "strip=1F00"), ("right=09", "right=9"), ("before=0B*", "before=0B"),
-                 ("before=0B0B*07", "before=0B0B*07")]
 TEXTS = [b"the cat", b"on a mat, and then it went to see", b"what was there", b"Hi Ho", b"yes"]
-# For each inserter: whether the subtitle file has control codes, whether the file has an empty line
-# below text in double height, and the layout.
-BROADCASTER_LAYOUTS = [
-    (True, True, ""), (True, True, "strip=0A0B0D,before=0D070B0B,after=0A,double,pack"),
-    (True, False, "row=-1,double,last"), *((False, False, layout) for layout in (
-        "before=0D0B0B,double", "text", "last", "after=0A", "after=", "before=070B0B",
-        "before=*0B0B", "free=2", "free=3", "fit", "before=0D*0B0B,white,double,last,text", "up",
-        "left=2,right=3", "after=0A0A0A0A", "pack,double,before=0D0B0B"))]
 
 
 def draw_programme(layout: Layout, has_codes: bool = False, leaves_room: bool = False,
@@ -67,7 +52,8 @@ class Layouts(Case):
             self.check(f"{text!r}", parse_layout(text), None)
 
     def test_writes_the_shortest_text_of_a_layout(self) -> None:
-        for text, shortest in EQUAL_LAYOUTS:
+        for row in read_vectors("equal-layouts.tsv"):
+            text, shortest = row["layout"], row["shortest"]
             found = parse_layout(text)
             self.must(text, found and format_layout(found) == shortest, found)
             self.check(f"{text}, read again", parse_layout(shortest) if shortest else PLAIN, found)
@@ -97,11 +83,11 @@ class LayoutSearch(Case):
     """Programmes whose pages a broadcaster's layout draws; `choose_layouts` finds this layout."""
 
     def test_finds_the_layout_of_each_broadcaster(self) -> None:
-        for has_codes, leaves_room, text in BROADCASTER_LAYOUTS:
-            layout = read_intended_layout(text)
-            sent = draw_programme(layout, has_codes, leaves_room)
+        for row in read_vectors("broadcaster-layouts.tsv"):
+            layout = read_intended_layout(row["layout"])
+            sent = draw_programme(layout, row["control codes"] == "yes", row["empty line"] == "yes")
             result = choose_layouts(sent, ENGLISH)[1]
-            self.must(text, result.as_sent == result.total == len(sent) and result.is_clear
+            self.must(row["layout"], result.as_sent == result.total == len(sent) and result.is_clear
                       and compute_complexity(result.layout) <= compute_complexity(layout), result)
 
     def test_finds_layouts_that_only_some_texts_show(self) -> None:
