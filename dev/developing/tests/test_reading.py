@@ -18,7 +18,7 @@ from subtitles.formats.layout import PLAIN, draw_text, make_page_rows
 from subtitles.formats.stl_writer import (
     StoredPage, make_gsi_block, make_subtitle_blocks, store_page)
 from subtitles.formats.teletext import (
-    CROATIAN, ENGLISH, FRENCH, GERMAN, OPTIONS, OPTION_BY_WORD, NationalOption)
+    CROATIAN, ENGLISH, GERMAN, OPTIONS, OPTION_BY_WORD, NationalOption)
 from subtitles.judging.cues import CERTAIN, NOT_CERTAIN
 from subtitles.judging.status import (
     ACCEPTED, AS_SHOWN, CheckSummary, Grounds, NOT_READ, REFUSED, Severity, WITH_FAULTS,
@@ -176,18 +176,10 @@ class ReceivedPages(Case):
             self.check(name, find_likely_errors(pages), {*expected})
 
     def test_chooses_the_option_by_the_headers_and_the_announcement(self) -> None:
-        # C12 to C14, the announced languages, the chosen option, and how many options are possible
-        rows: dict[str, tuple[tuple[int, list[str]], tuple[str, int]]] = {
-            "only one option": ((4, []), ("german", 1)),
-            "announced": ((0, ["pol"]), ("polish", 1)),
-            "announced, default region": ((0, ["eng"]), ("english", 1)),
-            "the second one": ((0, ["deu", "pol", "eng"]), ("polish", 1)),
-            "not announced": ((0, []), ("english", 2)),
-            "another one": ((2, ["pol"]), ("swedish", 2)),
-            "reserved in the default region": ((7, ["pol"]), ("romanian", 1))}
-        for name, (values, (word, count)) in rows.items():
-            options = choose_header_option(*values).options
-            self.check(name, (options[0].word, len(options)), (word, count))
+        for row in read_vectors("header-options.tsv"):
+            options = choose_header_option(int(row["bits"]), row["announced"].split()).options
+            self.check(row["name"], (options[0].word, len(options)),
+                       (row["option"], int(row["possible"])))
 
     def test_prefers_the_languages_of_a_given_option(self) -> None:
         self.check_rows(prefer_option, {
@@ -227,13 +219,9 @@ class ReceivedPages(Case):
                        [(OPTION, text) for text in expected])
 
     def test_chooses_the_language_by_the_announcement_and_the_headers(self) -> None:
-        self.check_rows(choose_language, {
-            "announced": ((["deu"], GERMAN), b"08"), "English": ((["eng"], ENGLISH), b"09"),
-            "the second one": ((["eng", "ger"], GERMAN), b"08"),
-            "another one": ((["deu"], ENGLISH), b"08"), "none": (([], ENGLISH), b"00"),
-            "unknown": ((["und"], ENGLISH), b"00"), "none, German": (([], GERMAN), b"08"),
-            "none, French": (([], FRENCH), b"0F"),
-            "Croatian": (([], CROATIAN), b"04"), "Serbian": ((["srp"], CROATIAN), b"24")})
+        for row in read_vectors("read-languages.tsv"):
+            self.check(row["name"], choose_language(
+                row["announced"].split(), OPTION_BY_WORD[row["option"]]), row["LC"].encode())
 
 
 class Decisions(Case):
@@ -350,18 +338,12 @@ class WholeCalls(Case):
         self.check("no picture", (call.status, self.result()["verdict"]), (2, NOT_READ))
 
     def test_marks_what_the_recording_cuts(self) -> None:
-        rows: dict[str, tuple[list[tuple[int, list[bytes]]], list[str | None]]] = {
-            "both": ([(0, TEXT), (25, NO_TEXT), (50, TEXT), (75, TEXT)], ["start", "end"]),
-            "the beginning": ([(0, TEXT), (25, NO_TEXT)], ["start"]),
-            "the end": ([(0, NO_TEXT), (25, TEXT)], ["end"]),
-            "one subtitle all the time": ([(0, TEXT), (25, TEXT)], ["both"]),
-            "no text": ([(0, NO_TEXT), (25, NO_TEXT)], [])}
-        for name, (frames, cuts) in rows.items():
-            call = self.read_pages(self.send(*frames))
+        for row in read_vectors("reading-cuts.tsv"):
+            name, cuts = row["name"], row["cuts"].split()
+            call = self.read_pages(self.send(*read_transmissions(row["sent"])))
             result = self.result()
-            shown = result["subtitles"]
-            self.check(name, (call.status, [row["cut"] for row in shown], self.list_verdicts()),
-                       (0, cuts, [CERTAIN if cut is None else NOT_CERTAIN for cut in cuts]))
+            self.check(name, (call.status, [item["cut"] for item in result["subtitles"]],
+                              self.list_verdicts()), (0, cuts, [NOT_CERTAIN] * len(cuts)))
             self.check(f"{name}: a note", ("the page was blank all the time" in result["notes"],
                                            result["hints"]), (not cuts, []))
 
