@@ -175,7 +175,7 @@ class Proposals(Case):
                 "--option english", f"{both}english; neither has {of_file}")),
             "reserved in the default region": (([7], b""), ("--option romanian", "romanian"))}
         for name, ((bits, text), (option, words)) in rows.items():
-            sent = find_sent_options(bits, "english", [text])
+            sent = find_sent_options(bits, "english", [b"A", text])
             self.check(name, propose_option(sent, "english"), (option, [
                 f"option: C12 to C14 of the headers select {words}; the text was read as english"]))
 

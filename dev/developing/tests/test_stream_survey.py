@@ -390,11 +390,12 @@ class Comparison(Case):
 
     def test_compares_a_range_unless_the_last_one_of_its_pid_ends_with_it(self) -> None:
         recording: Any = SimpleNamespace(compared={}, make_packets_command=mock.Mock())
-        # The PID, the range, the number from which on it can't be compared, and whether it is new
+        # The PID, the range, the first number that is not compared, and whether the range is new
         for pid, pes, number, is_new in (
                 (PID, (0, 8), 3, True), (PID, (0, 8), None, True), (PID, (0, 8), None, False),
                 (PID, (4, 8), None, False), (PID, (0, 4), None, True), (PID, (0, 8), None, True),
-                (VIDEO_PID, (0, 8), None, True), (PID, (0, 8), None, False)):
+                (VIDEO_PID, (4, 8), None, True), (VIDEO_PID, (0, 8), None, True),
+                (PID, (0, 8), None, False)):
             recording.packets = Packets(pid, [PacketRun(0, 9, 0, 5, "h", "")])
             with mock.patch(f"{Recording.__module__}.find_unproved_number", return_value=number
                             ) as compare:
