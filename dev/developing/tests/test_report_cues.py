@@ -16,7 +16,8 @@ from subtitles.judging.status import (
     ACCEPTED, AS_SHOWN, DIFFERS, LOST, NOT_JUDGED, NOT_READ, REFUSED, RELATIVE, SAME, VALID, WAIVED,
     WARNED, WITH_FAULTS)
 from subtitles.judging.transmissions import ExpectedPages
-from subtitles.report.blocks import mark_field, mark_text, mark_times, show_byte
+from subtitles.report.blocks import (
+    make_fault_lines, mark_field, mark_text, mark_times, show_byte)
 from subtitles.report.cue_list import CueList, CueRow, mark_difference
 from subtitles.report.page import draw_verdict, keep_options_together
 from subtitles.report.timeline import find_cue_span
@@ -173,16 +174,16 @@ class CueVerdicts(Case):
 
     def test_the_reason_has_the_cause_and_all_faults_and_the_doubt(self) -> None:
         frame = f"frame {format_frame(150)} packet 0"
-        judge = CueJudge(make_part(0, 300, 0, make_answer([
-            f"refused 67 Control {frame}", f"refused 68 Parity {frame}", "2 faults"])))
-        # The cause, the numbers of other faults, the doubt and the reason
-        for cause, numbers, doubt, expected in (
-                ("", (), "", ""), ("late", (), "", "late"),
-                ("", (67, 68), "", "67 Control, 68 Parity"),
-                ("late", (68,), "", "late; also 68 Parity"),
-                ("", (68,), "not received", "68 Parity; not received")):
-            reason = judge.describe_reason(CueVerdict("wrong", cause, numbers, doubt))
-            self.check(f"{cause} {numbers} {doubt}", reason, expected)
+        part = make_part(0, 300, 0, make_answer([
+            f"refused 67 Control {frame}", f"refused 68 Parity {frame}", "2 faults"]))
+        for row in read_vectors("verdict-reasons.tsv"):
+            verdict = CueVerdict(row["verdict"], row["cause"], tuple(map(
+                int, row["faults"].split())), row["doubt"])
+            reported: Any = SimpleNamespace(part=part)
+            self.check(f"{verdict}", (
+                CueJudge(part).describe_reason(verdict),
+                markup_text(CueList.make_verdict_cell(reported, verdict))),
+                       (row["reason"], row["cell"]))
 
     def test_explains_why_a_subtitle_is_not_known(self) -> None:
         # Trusted frames, in-cue and out-cue of the decoded page, and the reason.
@@ -222,15 +223,16 @@ class TextMarkup(Case):
         self.must("right rows", "203 right subtitles" in text, text[:900])
         self.must("omitted rows", "and 3 more rows" in text, text[:900])
 
-    def test_a_row_is_a_repetition_if_the_row_before_has_the_same_cause_and_delay(self) -> None:
+    def test_a_row_repeats_the_row_before_with_the_same_cause_delay_and_faults(self) -> None:
         causes = [Cause(0, name, frames, None, None, "", 0) for name, frames in (
-            (LATE, 1), (LATE, 1), (LATE, 2), (NEVER, None), (NEVER, None))]
+            (LATE, 1), (LATE, 1), (LATE, 2), (NEVER, None), (NEVER, None), (NEVER, None))]
+        verdicts = [CueVerdict("wrong", "", (68,) * (at == 5)) for at in range(8)]  # with a fault
         result: Any = SimpleNamespace(
             cues=[Cue(FIRST, BLANK_PAGE, cause) for cause in (*causes, None, None)],
-            judge=SimpleNamespace(judge=lambda _: CueVerdict("wrong")), causes=None,
+            judge=SimpleNamespace(judge=mock.Mock(side_effect=verdicts)), causes=None,
             cells=lambda *_: [], part=SimpleNamespace(recording="one.pes"))
         self.check("repeated", [row.is_repeated for row in CueList.make_judged_rows(result)],
-                   [False, True, False, False, True, False, False])
+                   [False, True, False, False, True, False, False, False])
 
     def test_breaks_no_line_within_an_option(self) -> None:
         # No line is broken within <b>.
@@ -263,6 +265,10 @@ class RefusedFiles(Case):
                        f"{head} <mark>{value}</mark>" if head else "")
         self.check("no block",
                    markup_text(mark_field(subtitle_file, parse_single_fault("refused 14 Cct"))), "")
+        self.check("two faults", markup_text(make_fault_lines(subtitle_file, [
+            parse_single_fault(f"refused {number} X block 1") for number in (18, 57)])),
+                   '<a href="#n18">18 X</a> block 1 JC <mark>0E</mark><br/>'
+                   '<a href="#n57">57 X</a> block 1')
 
     def test_marks_the_byte_or_line_that_a_fault_names(self) -> None:
         # Faults of a subtitle whose text is "a b", and on the next line "c". They are at a byte (50
@@ -271,7 +277,7 @@ class RefusedFiles(Case):
                 ((), "a b<br/>c"), (("refused 50 X block 2 at 0",), "<mark>a</mark> b<br/>c"),
                 (("refused 51 X block 2 at 4",), "a b<br/><mark>c</mark>"),
                 (("refused 52 X block 2 at 1",), "a b<br/><mark>c</mark>"),
-                (("refused 53 X block 2 at 0", "refused 50 X block 2 at 2"),
+                (("refused 55 X block 2 at 0", "refused 50 X block 2 at 2"),
                  "<mark>a <mark>b</mark></mark><br/>c"), (("refused 21 X block 2",), "a b<br/>c")):
             faults = [parse_single_fault(line) for line in lines]
             self.check(f"{lines}", markup_text(mark_text(b"a b\x8ac", faults)), marked)
@@ -281,14 +287,9 @@ class RefusedFiles(Case):
                              ], ["\u2423", "&lt;", "~", "<i>7F</i>", "<i>0B</i>"])
 
     def test_marks_the_times_that_a_fault_names(self) -> None:
-        begin, end, wrong = "00:00:02:10", "00:00:02:20", "99:00:00:00"
-        for name, number, tci, expected in (
-                ("TCI not before TCO", 21, begin, (f"<mark>{begin}</mark>", f"<mark>{end}</mark>")),
-                ("TCI", 56, begin, (f"<mark>{begin}</mark>", end)),
-                ("TCI again", 57, begin, (f"<mark>{begin}</mark>", end)),
-                ("a wrong time, but both are right", 20, begin, (begin, end)),
-                ("a character", 50, begin, (begin, end)),
-                ("a wrong time", 20, wrong, (f"<mark>{wrong}</mark>", end))):
-            times = mark_times(NamedSubtitle(3, 3, tci, end), [
-                parse_single_fault(f"refused {number} X block 6")])
-            self.check(name, tuple(map(markup_text, times)), expected)
+        for row in read_vectors("marked-times.tsv"):
+            cues = [row["TCI"], row["TCO"]]
+            times = mark_times(NamedSubtitle(3, 3, *(time.strip("[]") for time in cues)), [
+                parse_single_fault(f"refused {row['fault']} X block 6")])
+            self.check(row["name"], [markup_text(time) for time in times], [
+                time.replace("[", "<mark>").replace("]", "</mark>") for time in cues])
