@@ -25,6 +25,7 @@ from subtitles.stream.receiver import read_national_option
 from .bench import Case, read_example_file
 from .judged import JudgedPair, judge_files
 from .parts import parse_single_fault
+from .stories import read_vectors
 from .transmissions import (
     ShownSubtitle, delay_subtitle, join_pes_packets, packets, schedule_pages, subtitle_times,
     write_programme, write_subtitle_file)
@@ -140,29 +141,23 @@ class RefusedSubtitles(Case):
             self.must(f"{lines!r}", words in sentence, sentence)
 
     def test_waives_file_faults_and_fault_78_by_number(self) -> None:
-        late = self.write_late_recording()
-        others = "9 other subtitles were judged: all have the right text"
-        # Severity file, recording, verdict, and the begin and another part of the sentence.
-        for text, pes, word, begin, more in (
-                (b"50 warning\n78 warning\n", self.pes, "waived", "Waived, since ", others),
-                (b"50 warning\n", self.pes, "refused", "Refused: the expected page is unknown next "
-                 "to 1 subtitle with waived faults (fault 78); 9 other ", "; waived: 50 Character"),
-                (b"78 warning\n", self.pes, "refused", "Refused: subtitle 3 at 00:00:12:00 has "
-                 "fault 50 ", "; waived: 78 Undecided"),
-                (b"50 warning\n78 warning\n", late, "refused", "Refused: subtitle ",
-                 "; waived: 50 Character and 78 Undecided"),
-                (b"50 warning\n78 warning\n72 warning\n", late, "waived", "Waived, since ", "late"),
-                (b"others warning\n", self.pes, "waived", "Waived, since ", others)):
-            judged = self.judge(self.write_stl(3), pes, "--severity", self.write("severity", text))
-            self.check(f"{text!r} {pes}", judged.timed_verdict, word)
-            severity = "error" if text.startswith(b"78") else "warning"
-            self.check(f"{text!r} {pes}: fault 50", {
+        recordings = {"late": self.write_late_recording(), "on time": self.pes}
+        for row in read_vectors("waived-file-faults.tsv"):
+            name = f"{row['lines']}, {row['recording']}"
+            text = row["lines"].replace("; ", "\n").encode()
+            judged = self.judge(self.write_stl(3), recordings[row["recording"]], "--severity",
+                                self.write("severity", text), "-o", self.path("out"))
+            self.check(name, judged.timed_verdict, row["verdict"])
+            self.check(f"{name}: fault 50", {
                 item["severity"] for item in judged.result["faults"] if item["number"] == 50},
-                {severity})
+                {row["severity"]})
+            row_class = "waived" if row["severity"] == "warning" else "bad"
+            self.must(f"{name}: its row", f'<tr id="s3" class="{row_class} n50"' in self.read(
+                "out/one.html").decode(), row_class)
             sentence = judged.verdict.sentence
-            self.must(f"{text!r} {pes}: sentence", sentence.startswith(begin) and more in sentence
-                      and (text[:2] != b"50" or word == "waived" or "has fault 50" not in sentence),
-                      sentence)
+            is_other = row["verdict"] == "refused" and row["severity"] == "warning"
+            self.must(f"{name}: sentence", sentence.startswith(row["begin"]) and row["part"] in
+                      sentence and not (is_other and "has fault 50" in sentence), sentence)
 
     def test_ignores_refused_subtitles_outside_the_range(self) -> None:
         """Subtitle 3, at 00:00:12:00, is refused, or 7, whose TCI is no time, so in any range."""
