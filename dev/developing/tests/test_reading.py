@@ -5,6 +5,7 @@ import hashlib
 import itertools
 import json
 import os
+import shlex
 import time
 from types import SimpleNamespace
 from typing import Any, Iterable, cast
@@ -12,11 +13,12 @@ from unittest import mock
 
 from developing import TOOLS
 from developing.pes import decode_pts, encode_triplet, make_packet, make_pes_packet
-from subtitles.common.checks import CLOCK as CLOCK_KIND, OPTION, OUTSIDE, PHRASES
+from subtitles.cli.single import lock_pair
+from subtitles.common.checks import OPTION, OUTSIDE
 from subtitles.common.times import CLOCK, FRAMES_OF_A_DAY, Spans, TICKS
 from subtitles.formats.layout import PLAIN, draw_text, make_page_rows
 from subtitles.formats.stl_writer import (
-    StoredPage, make_gsi_block, make_subtitle_blocks, store_page)
+    READ_PUBLISHER, StoredPage, make_gsi_block, make_subtitle_blocks, store_page)
 from subtitles.formats.teletext import (
     CROATIAN, ENGLISH, GERMAN, OPTIONS, OPTION_BY_WORD, NationalOption)
 from subtitles.judging.cues import CERTAIN, NOT_CERTAIN
@@ -320,15 +322,21 @@ class WholeCalls(Case):
             (0, NO_TEXT), (25, TEXT), (50, NO_TEXT))])
         self.write("sent.pes", sent)
         self.write("sent.ts", add_pictures(sent, 90_000).data)
-        # The arguments, the source of the clock, the first in-cue, and the last frame
-        for args, clock, begin, last in (
-                (("sent.pes",), "first_pes", "00:00:01:00", "00:00:02:00"),
-                (("sent.pes", "--origin", "0"), "given", "00:00:02:00", "00:00:03:00"),
-                (("sent.ts", "--start", "10:00:00:00"), "start", "10:00:01:00", "10:00:02:00")):
+        # The arguments, the source of the clock, the first in-cue, the last frame, and the sentence
+        for args, clock, begin, last, text in (
+                (("sent.pes",), "first_pes", "00:00:01:00", "00:00:02:00", "from the first PES "
+                 "packet, which is at 00:00:00:00 (--origin 90000)."),
+                (("sent.pes", "--origin", "0"), "given", "00:00:02:00", "00:00:03:00",
+                 "as given (--origin 0)."),
+                (("sent.ts", "--start", "10:00:00:00"), "start", "10:00:01:00", "10:00:02:00",
+                 "by the first picture (--origin 5350024592).")):
             call = self.read_pages(*args)
             result = self.result()
             source, cue = result["parts"][0]["clock"]["source"], result["subtitles"][0]
-            is_listed = CLOCK_KIND in {item["kind"] for item in result["not_checked"]}
+            is_listed = "read: not checked: the time of day: no clock was given, so the first " \
+                "PES packet is at 00:00:00:00" in call.told
+            self.must(f"{args}: {text}", f" Times are {text} " in result["sentence"] and (
+                " on PID 0x101 (eng), " in result["sentence"]) == ("sent.ts" in args), result)
             self.check(" ".join(args), (call.status, source, cue["expected_in"], is_listed),
                        (0, clock, begin, clock == "first_pes"))
             self.check(f"{args}: the last frame, and the first in-cue in the TCF", (
@@ -351,15 +359,19 @@ class WholeCalls(Case):
         for row in read_vectors("reading-faults.tsv"):
             self.send(*read_transmissions(row["sent"]))
             call = self.read_pages("sent.pes", *row["options"].split())
-            result = self.result("889" if "--page 889" in row["options"] else "888")
-            line = result["reason"] or result["line"].partition(": ")[2]
-            begin = row["begin"].replace("READ", os.path.join(TOOLS, "read"))
-            has_begin = line == begin if "not checked" in begin else line.startswith(begin)
-            self.must(row["name"], call.status == int(row["status"]) == result["status"]
-                      and has_begin, call)
-            self.check(f"{row['name']}: the option", (PHRASES[OPTION] in result["sentence"], any(
-                "not checked: the characters of" in text for text in call.told)),
-                (line.endswith("option"),) * 2)
+            page = "889" if "--page 889" in row["options"] else "888"
+            result, line = self.result(page), row["line"].replace("READ", os.path.join(
+                TOOLS, "read"))
+            self.check(row["name"], (call.status, result["status"], result["reason"]
+                                     or result["line"], result["sentence"]),
+                       (int(row["status"]), int(row["status"]), line, row["sentence"]))
+            lines = [f"{page} {NOT_READ}: {line}"] if call.status == 2 else [
+                row["sentence"] + " See out/888.html." * (call.status == 1), line]
+            self.check(f"{row['name']}: last lines",
+                       call.out.decode().splitlines()[-len(lines):], lines)
+            self.check(f"{row['name']}: the option", any(
+                "not checked: the characters of" in text for text in call.told),
+                line.endswith("option"))
             self.check(f"{row['name']}: counts", not result["subtitle_counts"], call.status == 2)
             if row["name"] == "row 24":
                 self.check("counts", [result["subtitles"], result["subtitle_counts"],
@@ -376,6 +388,9 @@ class WholeCalls(Case):
         self.check("last lines", [line.partition(":")[0] for line
                                   in call.out.decode().splitlines()[-2:]],
                    [f"888 {WITH_FAULTS}", f"889 {AS_SHOWN}"])
+        with lock_pair(self.path("out"), "889"):
+            self.check("the second is in use", self.read_pages("sent.pes").told, [
+                "read: another run of qc is writing the files of pair 889 to out"])
 
     def test_reports_a_jump_of_the_pcr_as_a_fault(self) -> None:
         pes = [make_pes_packet(TICKS * frame, NO_TEXT) for frame in range(100, 250, 25)]
@@ -484,12 +499,27 @@ class WholeCalls(Case):
         for name in ("777", "888"):
             self.tool("read", recording, "--page", name, "-o", "one")
             self.check(name, self.read(f"out/{name}.stl"), self.read(f"one/{name}.stl"))
+        self.tool("read", recording, "--pid", "0x102", "-o", "pid")
+        self.check("the pages of a PID", sorted(os.listdir(self.path("pid"))),
+                   ["888.html", "888.json", "888.stl", "888.txt"])
+
+    def test_gives_no_verdict_if_the_recording_changes_meanwhile(self) -> None:
+        sent = self.send((0, NO_TEXT), (25, TEXT), (50, NO_TEXT))
+        program = self.make_program_with_exception("check*", f"printf x >>'{sent}'")
+        call = self.read_pages("sent.pes", "-p", program)
+        self.check("status, reason", (call.status, self.result()["reason"]), (
+            2, "sent.pes changed while it was judged: judge it again when it is complete"))
 
     def test_replaces_only_its_own_files(self) -> None:
         sent = self.send((0, NO_TEXT), (25, TEXT), (50, NO_TEXT))
         self.check("first", self.read_pages(sent).status, 0)
-        self.check("again", self.read_pages(sent).status, 0)
-        self.write("out/888.stl", make_random_stl(1)[0])
+        self.write("out/888.1.txt", b"")
+        self.check("again", (self.read_pages(sent).status, sorted(os.listdir(self.path("out")))),
+                   (0, ["888.html", "888.json", "888.stl", "888.txt"]))
+        self.read_pages(sent, "--option", "german")
+        self.check("files if it is not read", sorted(os.listdir(self.path("out"))),
+                   ["888.html", "888.json"])
+        self.write("out/888.stl", READ_PUBLISHER + make_random_stl(1)[0])  # at another place
         call = self.read_pages(sent)
         self.must("of the operator", call.status == 2 and "was not written by" in
                   "".join(call.told), call)
@@ -556,8 +586,6 @@ class WrittenFiles(Case):
         self.must("collected", call.status == 0 and b"1 pair: 1 as shown" in call.out, call)
         self.check("the report", self.read("out/888.html").count(b"<td>certain</td>"),
                    len(result["subtitles"]) - 1)
-        for option in ("--json", "--csv", "--junit"):
-            self.check(f"{option} without --page", self.tool("read", sent, option, "1").status, 64)
 
 
 class TwoRecordings(Case):
@@ -568,46 +596,34 @@ class TwoRecordings(Case):
         sent = join_pes_packets([(TICKS * frame + 90_000, item) for frame, item in frames])
         return self.write(name, add_pictures(sent, 90_000).data)
 
-    def compare(self, *args: str) -> tuple[int, str]:
+    def compare(self, *args: str) -> tuple[int, list[str]]:
+        """Return the exit status, and the reason if there is no verdict, or the last two lines."""
         call = self.tool("qc", "--reference", *args, "--every", "100", "-o", "out")
-        lines = call.out.decode().splitlines()
         result = json.loads(self.read("out/b.json"))
         self.check(f"{args}: the schema", find_misfit(result), None)
         self.must(f"{args}: no subtitle is wrong", call.status == 1 or not result["causes"] and all(
             row["verdict"] != "wrong" for row in result["subtitles"]), result["subtitles"])
-        return call.status, lines[-1].partition(":")[0] if lines else ""
+        self.check(f"{args}: hints", bool(result["hints"]) and call.status != 1, False)
+        if result["reason"]:
+            return call.status, result["reason"].splitlines()
+        self.check(f"{args}: the checksum", result["inputs"]["recording"]["sha256"],
+                   hashlib.sha256(self.read("b.ts")).hexdigest())
+        return call.status, call.out.decode().splitlines()[-2:]
 
     def test_compares_what_both_recordings_cover(self) -> None:
         for row in read_vectors("compared-recordings.tsv"):
             for name in ("a.ts", "b.ts"):
                 self.write_stream(name, read_transmissions(row[name]))
             self.check(row["name"], self.compare("a.ts", "b.ts", *row["arguments"].split()),
-                       (int(row["status"]), row["last line"]))
+                       (int(row["status"]), [row["sentence"], *filter(None, [row["last line"]])]))
             causes = json.loads(self.read("out/b.json"))["causes"]
-            self.check(f"{row['name']}: a cause", bool(causes), row["last line"] == "differs")
+            self.check(f"{row['name']}: a cause", bool(causes), " does not " in row["sentence"])
 
     def test_describes_by_how_much_later_the_pts_are_than_in_the_reference(self) -> None:
         self.check_rows(lambda ticks: ReferenceVerdict.describe_shift(
             cast(Any, SimpleNamespace(shift=ticks))), {
             "nothing": ((0,), "equal to"), "a frame": ((TICKS,), "1 frame later than"),
             "a frame and a tick less": ((-TICKS - 1,), "1 frame and 1 tick earlier than")})
-
-    def test_says_why_recordings_can_not_be_compared(self) -> None:
-        frames, midnight = [(0, NO_TEXT), (25, TEXT), (50, NO_TEXT)], "23:59:59:00"
-        # What a.ts and b.ts send, the arguments, and the reason
-        for sent, other, args, reason in (
-                ([(0, TEXT), (300, NO_TEXT)], frames, ["--same-start"],
-                 f"a.ts, page 888: {WITH_FAULTS}: refused 73"),
-                (frames, [*frames, (60, NO_TEXT)],
-                 ["--start", midnight, "--reference-start", midnight],
-                 "a.ts runs over midnight: cut both recordings there"),
-                (frames, [*frames, (30, NO_TEXT)], ["--same-start"],
-                 "the PTS go back at PES packet 3, so the recordings can't be compared")):
-            self.write_stream("a.ts", sent)
-            self.write_stream("b.ts", other)
-            status, _ = self.compare("a.ts", "b.ts", *args)
-            found = json.loads(self.read("out/b.json"))["reason"]
-            self.must(reason, status == 2 and found.startswith(reason), found)
 
     def test_names_the_subtitles_outside_of_the_common_range(self) -> None:
         self.write_stream("a.ts", [(0, TEXT), (25, NO_TEXT), (50, TEXT), (75, NO_TEXT),
@@ -621,38 +637,17 @@ class TwoRecordings(Case):
             ("10:00:00:00", "10:00:02:24", "2 subtitles of a.ts before 10:00:02:10, when both "
              "recordings have begun")])
 
-    def test_names_a_fault_of_the_transmission_unless_a_subtitle_differs(self) -> None:
-        frames = [(0, NO_TEXT), (25, TEXT), (50, NO_TEXT)]
-        self.write_stream("a.ts", frames)
-        differs = "b.ts does not show what a.ts shows: subtitle 1 at 10:00:01:00"
-        # What b.ts sends for the subtitle, and the begin of the sentence
-        for name, sent, begin in (
-                ("not closed", (25, [HEADER, ROW]), "The transmission in b.ts has a fault: at "
-                 "10:00:01:00, the page is still open"),
-                ("late", (26, TEXT), differs), ("both", (26, [HEADER, ROW]), differs)):
-            self.write_stream("b.ts", [frames[0], sent, frames[2], (60, TEXT)])
-            call = self.tool("qc", "--reference", "a.ts", "b.ts", "--same-start")
-            self.must(name, call.out.decode().splitlines()[-2].startswith(begin), call)
-
-    def test_rejects_arguments_that_two_recordings_do_not_take(self) -> None:
+    def test_says_why_no_recording_is_judged(self) -> None:
+        """The files in `theirs` were not written by the tools. two.ts has the pages 888 and 889."""
         self.write_stream("a.ts", [(0, NO_TEXT), (25, TEXT), (50, NO_TEXT)])
         self.write_stream("b.ts", [(0, NO_TEXT), (25, TEXT), (60, NO_TEXT)])
+        self.write_stream("two.ts", [(0, [*TEXT[:2], NEXT_PAGE, *TEXT])])
         self.write("copy.ts", self.read("a.ts"))
-        clocks = "--start", "--reference-start"
-        for name, args, status in (
-                *((f"only {option}", ("b.ts", option, "10:00:00:00"), 64) for option in clocks),
-                *((f"two clocks, {option}", ("b.ts", "--same-start", option, "10:00:00:00"), 64)
-                  for option in clocks),
-                ("a layout", ("b.ts", "--layout", "up"), 64), ("no other recording", (), 64),
-                ("the same file", ("a.ts",), 2), ("three files", ("b.ts", "a.ts"), 64),
-                ("the same bytes", ("copy.ts", "--same-start"), 2),
-                ("an output over the reference", ("b.ts", "--json", "a.ts"), 2),
-                ("an output over the recording", ("b.ts", "--json", "b.ts"), 2)):
-            call = self.tool("qc", "--reference", "a.ts", *args)
-            self.must(name, call.status == status and len(call.told) == 1 and (
-                "both give the clock" in call.told[0]) == name.startswith("two clocks"), call)
-        self.check("no reference", self.tool("qc", "a.ts", "b.ts").status, 2)
-        for words, tried in (("--pid 7 --same-start", " --same-start"), ("--pid 7", ""),
-                             ("--page 777 --same-start", " --same-start --page 888")):
-            call = self.tool("qc", "--reference", "a.ts", "b.ts", *words.split())
-            self.must(words, call.told[-1].endswith(f"qc --reference a.ts b.ts{tried}"), call)
+        self.write("text.txt", b"--every 100\n")
+        for folder, name in ("theirs", "b.stl"), ("theirs", "889.json"), ("their stl", "889.stl"):
+            os.makedirs(self.path(folder), exist_ok=True)
+            self.write(f"{folder}/{name}", b"theirs")
+        for row in read_vectors("reading-calls.tsv"):
+            call = self.tool(*shlex.split(row["call"]))
+            self.check(row["name"], (call.status, " / ".join(call.told).replace(TOOLS, "TOOLS")),
+                       (int(row["status"]), row["messages"]))
