@@ -47,10 +47,10 @@ def judge_reference(args: argparse.Namespace, program_name: str) -> int:
     """Judge a recording by another recording. Return the exit status."""
     if args.is_same_start:
         args.start = args.reference_start = SAME_START
+    if STANDARD in (args.stl, args.reference):
+        raise UsageError("--reference needs two files: standard input can be read only once")
     args.stl, args.reference = make_safe_name(args.stl), make_safe_name(args.reference)
     name, reference = args.stl, args.reference
-    if STANDARD in (name, reference):
-        raise UsageError("--reference needs two files: standard input can be read only once")
     if sum_file(name, name).sha256 == sum_file(reference, reference).sha256:
         raise Stop(f"{name} and {reference} have the same bytes: give another recording")
     call, paths = read_pair_options(args), CommandPaths(program_name, args.program)
