@@ -35,7 +35,8 @@ def refuse_options(args: argparse.Namespace, given_options: Sequence[str]) -> No
         if name not in ACCEPTED_OPTIONS:
             raise UsageError(f"{name} can't be given with --reference: remove it")
     if args.is_same_start and (args.start or args.reference_start):
-        raise UsageError("--same-start and --start both give the clock: remove one")
+        given = "--start" if args.start else "--reference-start"
+        raise UsageError(f"--same-start and {given} both give the clock: remove one")
     if (args.start is None) != (args.reference_start is None):
         raise UsageError("--start and --reference-start are the first pictures of the two "
                          "recordings: give both, or --same-start for copies of one file")
