@@ -110,14 +110,6 @@ class Proposals(Case):
             self.check(f"{keeping} of {headers} headers, no other control bit is wrong: {is_alone}",
                        finding.text, "--keeping" if keeping and headers < 21 and is_alone else "")
 
-    def test_lists_the_delays_and_the_headers_that_keep_the_page(self) -> None:
-        delays = Delays(Counter([2, 0, 2]), Counter([1]), ["x"], [])
-        self.check("delays", next(propose_lateness([delays], [])).lines[:2], [
-            "within, late (frames late:number of cues): in-cues 0:1, 2:2; out-cues 1:1",
-            "early, which no option accepts: x"])
-        self.check("headers", propose_keeping(59, 24, True).lines,
-                   ["keeping: C4 (erase page) is clear in 24 of 59 headers"])
-
     def test_ignores_delays_of_fewer_than_one_cue_in_twenty(self) -> None:
         """The longest delays are ignored if together they have fewer than a twentieth of the cues.
         Arguments and results map each delay in frames to its number of cues."""

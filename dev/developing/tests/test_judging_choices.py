@@ -4,13 +4,15 @@ from __future__ import annotations
 import itertools
 import json
 import os
+import shlex
 from collections import Counter
 from typing import Any, Sequence
 
 from developing.pes import make_pes_packet
 from subtitles.cli.main import make_parser
 from subtitles.cli.measure import (
-    Delays, MeasuredRecording, explain_omission, make_profile_lines, propose_repeat_limit)
+    Delays, LateCue, MeasuredRecording, explain_omission, make_profile_lines)
+from subtitles.common.command_line import version
 from subtitles.common.program import TOP, read
 from subtitles.common.times import TICKS
 from subtitles.judging.status import RELATIVE, STATUSES
@@ -23,6 +25,7 @@ from .judged import ProgrammeCase, judge_files
 from .streams import OLD, Shape, make_planned_stream, make_multiplex, join_packets
 from .parts import make_example_request
 from .results import list_choice_errors
+from .stories import read_vectors
 from .transmissions import (
     ORIGIN, add_pauses, write_pipe, join_pes_packets, write_programme, schedule_pages,
     write_subtitle_file, subtitle_times)
@@ -283,16 +286,6 @@ class Profiles(Case):
     def propose_options(self, *args: str) -> list[str]:
         return [line for line in self.measure_profile(*args) if not line.startswith("#")]
 
-    def test_proposes_the_longest_distance_of_repeats(self) -> None:
-        measured = [Repeats(headers=9, longest=30, longest_start=5, usual=25),
-                    Repeats(headers=8, longest=50, longest_start=7, usual=26),
-                    Repeats(headers=3, longest=40, longest_start=9, usual=None)]
-        for repeats in itertools.permutations(measured):
-            proposal = propose_repeat_limit(repeats)
-            self.check(f"{repeats}", (proposal.text, *proposal.lines), (
-                "--every 50", "every: 20 headers of the page, at most 50 frames apart (usually "
-                              "26); the longest interval begins at 00:00:00:07"))
-
     def test_a_measured_profile_accepts_its_recording(self) -> None:
         """Subtitles are 0, 1 or 2 frames late, in turn. The in-cue at the start is not counted."""
         stl = self.write_stl("one.stl")
@@ -386,35 +379,41 @@ class Profiles(Case):
                 result = [line for line in lines if not line.startswith("#")]
                 self.check(f"{changes}", sorted(result), sorted(expected))
 
-    def test_proposes_a_tolerance_only_if_a_clock_is_given(self) -> None:
-        for words, has_clock in (((), False), (("--start", "tcp"), True)):
-            lines = [*make_profile_lines([make_example_request("a.stl", "a.ts", *words)],
-                                         [MEASURED._replace(delays=[LATE])])]
-            self.check(f"{words}", ["--within 2" in lines, any(
-                "no clock was given for a.ts" in line for line in lines)],
-                [has_clock, not has_clock])
+    def test_prints_the_evidence_of_all_recordings(self) -> None:
+        """Of four recordings, the first two have a clock. The other two are also measured alone."""
+        requests = [make_example_request(f"{name}.stl", f"{name}.ts", *words) for name, *words in (
+            ("a b", "--origin", "0"), ("b", "--start", "10:00:00:00"), ("c",), ("d",))]
+        early = LATE._replace(early=["b begins early"], unseen=["b"],
+                              late=[LateCue(2, "b begins late")])
+        rows = [*read_vectors("profile-lines.tsv")]
+        for name, measured in {
+                "four": (requests, [
+                    MEASURED._replace(lines=["one", "both"], headers=(20, 1)),
+                    MEASURED._replace(
+                        lines=["two", "both"], repeats=[Repeats(8, 50, 9, 26, [(75, 60), (5, 30)])],
+                        paces=[Pace(REGULAR, 2, 5)], delays=[early], headers=(30, 2),
+                        off_frame=(1, 40)),
+                    MEASURED._replace(delays=[LATE], off_frame=(0, 30)),
+                    MEASURED._replace(repeats=[Repeats(3, 40, 9, None)])]),
+                "two": (requests[2:], [
+                    MEASURED._replace(pid=None, paces=[Pace(PAUSED, 2, 5)], headers=(9, 5),
+                                      option_bits={0, 4}),
+                    MEASURED._replace(is_alone=False, paces=[Pace(PAUSED, 2, 5)], repeats=[],
+                                      off_frame=(3, 60))])}.items():
+            lines = [line.replace(version(), "VERSION") for line in make_profile_lines(*measured)]
+            self.check(name, lines, [row["line"] for row in rows if row["recordings"] == name])
 
     def test_refuses_wrong_arguments(self) -> None:
-        stl = self.write_stl("one.stl")
-        pes = self.schedule(stl, "one.pes", "--every", "25")
-        for words, printed in (
-                ([stl], f"--measure needs pairs, STL RECORDING: {stl} has no recording"),
-                ([stl, pes, stl, pes, "--origin", "0"], "--origin and --start give the clock of "
-                 "one recording: for several, give a list"),
-                ([stl, pes, stl, pes, "--start", "00:00:01:00"], "give the clock of one recording"),
-                ([stl, self.write("none.pes", b"")], "none.pes is empty"),
-                ([self.write("list", f"{stl} none.ts\n".encode())], "none.ts"),
-                ([stl, pes, "--every", "25"], "--every may be given with a recording"),
-                ([stl, pes, "--batch", "x"], "can't be given together")):
-            process = self.tool("qc", "--measure", *words)
-            status = 2 if "none." in printed else 64
-            self.must(printed, process.status == status and not process.out
-                      and len(process.told) == 1 and printed in process.told[0], process)
-
-    def test_prints_the_profile_of_a_pair_after_the_version_of_qc(self) -> None:
-        stl = self.write_stl("one.stl")
-        lines = self.measure_profile(stl, self.schedule(stl, "one.pes", "--every", "25"))
-        self.check("first line", lines[0][:5], "# qc ")
+        """copy is the subtitle file without its ending, and text.STL is no subtitle file."""
+        for name, data in (("one.stl", read_example_file("story.stl")), ("none.pes", b""),
+                           ("one.pes", read_example_file("story.pes")), ("text.STL", b"text"),
+                           ("copy", read_example_file("story.stl")), ("list", b"one.stl none.ts"),
+                           ("bad list", b"one.stl one.pes --bad")):
+            self.write(name, data)
+        for row in read_vectors("measure-calls.tsv"):
+            process = self.tool("qc", "--measure", *shlex.split(row["arguments"]))
+            self.check(row["name"], (process.status, process.out, process.told),
+                       (int(row["status"]), b"", [f"qc: {row['message']}"]))
 
     def test_explains_why_a_layout_is_not_proposed(self) -> None:
         for text, reason in (
