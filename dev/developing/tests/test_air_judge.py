@@ -510,7 +510,8 @@ ALARM_CASES: dict[str, tuple[dict[str, Any], list[str], list[str]]] = {
     "no byte for 11 seconds": ({"last_byte": DAY - 11}, ["silence"], []),
     "a wrong clock": ({"is_clock_wrong": True}, ["clock"], []),
     "segments were deleted": ({"is_deleted_early": True}, ["disk"], []),
-    "a full disk": ({"free": {"segments": 5, "results": 1 << 40}}, ["disk"], []),
+    "a full disk": ({"free": {"segments": 99_999_999, "results": 1 << 40}}, ["disk"], []),
+    "100 MB are enough": ({"free": {"segments": 100_000_000, "results": 1 << 40}}, [], []),
     "no room for the recorder": ({"has_note": True}, ["disk"], []),
     "a bug": ({"has_bug": True}, ["bug"], []),
     "no header for 601 seconds": ({"headers": {PAGE: DAY - 601}}, ["page 888"], ["page 888"]),
@@ -599,8 +600,9 @@ class State(AirCase):
                    [5, "2026-12-01T08:00:50Z", "2026-12-01T08:00:00Z"])
 
     def test_reports_no_segments_and_no_room_without_a_folder(self) -> None:
-        monitor = self.look(60, segments="nothing")
-        self.check("segments", (monitor.segments, monitor.free["segments"]), (0, 0))
+        state = self.look(60, segments="nothing").make_contents()
+        self.check("segments", (state["segments"], state["last_byte"], state["oldest"],
+                                state["free_bytes"]["segments"]), (0, None, None, 0))
 
     def test_reports_the_last_headers_of_pages_in_recent_segments(self) -> None:
         for begin in (0, 10):

@@ -16,7 +16,7 @@ from subtitles.air.delivery import Delivery, read_delivery
 from subtitles.air.status import name_feeds
 from subtitles.cli import batch, main as qc_main
 from subtitles.cli.single import now as date
-from subtitles.cli.state import BUG_LOG, State, write_state
+from subtitles.cli.state import BUG_LOG, State, log_bug, write_state
 from subtitles.common.command_line import run_main, Stop
 from subtitles.formats.stl import GSI, TTI
 from subtitles.request.request import Request
@@ -214,6 +214,7 @@ class Status(Case):
         with mock.patch.object(os, "statvfs", return_value=blocks):
             state.look_at_folders(1_234_567_890.0, results=self.path(feed))
         state.waiting = 2
+        state.add_result("news", "refused", "refused: 38 | Spacing")
         state.add_result("film", "refused", "refused: 72 | RowMissing")
         write_state(self.path(feed), state.make_contents())
         process = self.tool("air", "status", self.path(feed), "--metrics", self.path("metrics"))
@@ -226,7 +227,7 @@ class Status(Case):
             'subttx_air_alarm{,alarm="disk"} 1',
             'subttx_air_alarm{,alarm="bug"} 0', 'subttx_air_free_bytes{,folder="results"} 5',
             "subttx_air_waiting{} 2", "subttx_air_late{} 0",
-            'subttx_air_results_total{,verdict="refused"} 1', "subttx_air_status{} 2"])
+            'subttx_air_results_total{,verdict="refused"} 2', "subttx_air_status{} 2"])
 
     def test_names_a_feed_by_its_folder_unless_two_have_the_same_name(self) -> None:
         self.check_rows(name_feeds, {
@@ -273,7 +274,13 @@ class Bugs(Case):
                 os.unlink(self.path(f"{folder}/{BUG_LOG}"))
 
     def test_a_bug_in_a_service_is_an_alarm_for_a_day(self) -> None:
-        self.check_services(KeyError("x"), status=70, has_alarm=[True, True, False])
+        self.check_services(ValueError("\x1b"), status=70, has_alarm=[True, True, False])
+
+    def test_a_missing_folder_hides_no_bug(self) -> None:
+        """The folder of a service was deleted. The service ends with its bug all the same."""
+        write_state(self.path("none"), {})
+        with self.assertRaises(KeyError), log_bug(self.path("none")):
+            raise KeyError("x")
 
     def test_a_missing_file_is_no_bug(self) -> None:
         self.check_services(Stop("there is no such file"), status=2, has_alarm=[False] * 3)
