@@ -15,6 +15,7 @@ from subtitles.cli import batch, collection, single
 from subtitles.cli.single import (
     FilesInUse, KEPT_SECONDS, Output, OutputFiles, PairOptions, judge_pair, lock_folder, lock_pair,
     make_pair_title, now, print_verdict, refuse_outputs, remove_results, report_pair)
+from subtitles.cli.state import lock_service
 from subtitles.clock.start import (
     Clock, ESTIMATED_LATER_NOTE, ESTIMATED_NOTE, GIVEN, RECORDING, TimedPart)
 from subtitles.common.command_line import ProgramInterrupted, Stop, UsageError
@@ -26,7 +27,7 @@ from subtitles.judging.status import Severity
 from subtitles.judging.verdict import FailedOutput, Gap, Unjudged, Verdict
 from subtitles.recording.notices import Notice
 from subtitles.report import page as report_page
-from subtitles.request.commands import CommandPaths, OutputNames
+from subtitles.request.commands import CommandPaths, KEPT_PES, KEPT_TS, OutputNames
 from subtitles.request.request import Request, Unclear, IncompleteAnswer
 from subtitles.results.files import LATER_CLOCK, NO_CLOCK, Row, describe_inputs
 from subtitles.stream.gaps import LossPlace
@@ -253,13 +254,16 @@ class OutputFilesOfPair(Case):
     def test_replaces_a_recording_that_was_kept_with_a_result(self) -> None:
         """qc keeps the recording of a pipe up to KEPT_SECONDS before it writes the result."""
         result = self.write("out/one.json", b'{\n "format": 3,\n "verdict": "accepted",')
-        recording, at = self.write("out/one.recording.ts", b""), 1_700_000_000 * 10**9
+        at = 1_700_000_000 * 10**9
         os.utime(result, ns=(at, at))
-        for before, is_own in ((0, True), (1, True), (KEPT_SECONDS * 10**9 - 1, True),
-                               (KEPT_SECONDS * 10**9, False), (-1, False)):
+        for ending, (before, is_own) in itertools.product((KEPT_PES, KEPT_TS), (
+                (0, True), (1, True), (KEPT_SECONDS * 10**9 - 1, True),
+                (KEPT_SECONDS * 10**9, False), (-1, False))):
+            recording = self.write(f"out/one.{ending}", b"")
             os.utime(recording, ns=(at - before, at - before))
-            self.check(f"{before} ns before the result", self.refusal(
+            self.check(f"{ending}, {before} ns before the result", self.refusal(
                 self.verdict().request, out=self.path("out")) == "", is_own)
+            os.unlink(recording)
 
     def test_acquires_a_free_lock_and_deletes_it(self) -> None:
         """A link in the place of the lock is replaced. A lock that is deleted is acquired again."""
@@ -294,7 +298,8 @@ class OutputFilesOfPair(Case):
         self.check("another one's lock is left", os.listdir(self.path("out")), [".one.lock"])
 
     def test_refuses_a_folder_into_which_a_batch_is_judged(self) -> None:
-        with lock_folder(self.path("out")), self.assertRaisesRegex(
+        """A service may write its results there meanwhile."""
+        with lock_service(self.path("out")), lock_folder(self.path("out")), self.assertRaisesRegex(
                 FilesInUse, f"^another run of qc is judging a batch into {self.path('out')}$"):
             lock_folder(self.path("out")).__enter__()
 
