@@ -5,7 +5,7 @@ import itertools
 import random
 import re
 from collections import Counter
-from typing import Any, Iterable
+from typing import Iterable
 
 from developing.pes import make_packet
 from subtitles.cli.measure import (
@@ -135,41 +135,17 @@ class Proposals(Case):
               f"{name}" for cues, name in (("in-cues", "x"), ("out-cues", "y")))])
 
     def test_names_the_cues_whose_delays_are_separate(self) -> None:
-        # The number of in-cues with each delay in frames, and the line that names the cues after
-        # the first gap of two frames or more between delays.
-        rows: dict[str, tuple[dict[int, int], str]] = {
-            "none": ({}, ""), "all": ({5: 9}, ""), "next to each other": ({0: 5, 1: 2, 2: 1}, ""),
-            "one": ({0: 13, 2: 1}, "1 of 14 in-cues is at least 2 frames late, the others at most "
-                    "0; they may be wrong: 2 late"),
-            "half of them": ({0: 6, 1: 1, 8: 7}, "7 of 14 in-cues are at least 8 frames late, the "
-                             "others at most 1; they may be wrong: 8 late; 8 late; 8 late; 8 late; "
-                             "8 late, and 2 more"),
-            "two groups": ({0: 2, 4: 1, 20: 1}, "2 of 4 in-cues are at least 4 frames late, the "
-                           "others at most 0; they may be wrong: 20 late; 4 late")}
-        for name, (delays, line) in rows.items():
-            late = [LateCue(delay, f"{delay} late") for delay in Counter(delays).elements()]
-            self.check(name, list_separate_cues(Counter(delays), "in-cues", late),
-                       [line] if line else [])
+        for row in read_vectors("separate-delays.tsv"):
+            delays = Counter(map(int, row["delays"].split()))
+            late = [LateCue(delay, f"{delay} late") for delay in delays.elements()]
+            self.check(row["name"], list_separate_cues(delays, "in-cues", late),
+                       [*filter(None, [row["line"]])])
 
     def test_proposes_the_option_of_all_headers(self) -> None:
-        # C12 to C14 of the headers, the subtitle text, the proposal, and the printed option.
-        both = "english or polish, by the region to which the receiver is set (chosen: "
-        of_file = "all characters of the subtitle files)"
-        rows: dict[str, tuple[Any, tuple[str, str]]] = {
-            "none": (([], b""), ("", "none")),
-            "one": (([4], b""), ("--option german", "german")),
-            "two": (([4, 1], b""), ("", "french and german")),
-            "one of two, in both": (([0], b"\x8aA"), (
-                "--option english", f"{both}english; both have {of_file}")),
-            "one of two, in the second": (([0], b"\xcea"), (
-                "--option polish", f"{both}polish; only polish has {of_file}")),
-            "one of two, in neither": (([0], b"\xc2e"), (
-                "--option english", f"{both}english; neither has {of_file}")),
-            "reserved in the default region": (([7], b""), ("--option romanian", "romanian"))}
-        for name, ((bits, text), (option, words)) in rows.items():
-            sent = find_sent_options(bits, "english", [b"A", text])
-            self.check(name, propose_option(sent, "english"), (option, [
-                f"option: C12 to C14 of the headers select {words}; the text was read as english"]))
+        for row in read_vectors("measured-options.tsv"):
+            sent = find_sent_options([*map(int, row["C12 to C14"].split())], "english",
+                                     [b"A", bytes.fromhex(row["text"])])
+            self.check(row["name"], propose_option(sent, "english"), (row["option"], [row["line"]]))
 
     def test_a_lost_repeat_is_an_exception(self) -> None:
         """Headers in `frames`: the longest usual interval, and longer ones (frame, length) if fewer
