@@ -30,6 +30,7 @@ from .judged import judge_files
 from .parts import make_example_request
 from .results import (
     REQUEST, FAULT, capture_output, list_violations, make_result, make_table_row, make_validator)
+from .stories import read_vectors
 
 SEED, CHANGES = 20261128, 300  # of random changes of results
 INVALID_VALUES: list[Any] = [
@@ -138,25 +139,13 @@ class WrittenResults(Case):
                 self.check(f"{limit} bytes", judge_story(self)["omitted"]["subtitles"], omitted)
 
     def test_rejects_a_status_or_request_that_contradicts_the_verdict(self) -> None:
-        """`accepted` needs a clock, `valid` no recording, `relative` with status 0 --relative."""
         self.require_validator()
-        # The verdict, the status, members of the request, and whether the result is valid.
-        rows: list[tuple[str, int, dict[str, Any], bool]] = [
-            ("accepted", 0, {"origin": 0}, True), ("accepted", 0, {"start": "tcp"}, True),
-            ("accepted", 0, {}, False), ("accepted", 0, {"relative": True}, False),
-            ("accepted", 0, {"recording": None}, False), ("accepted", 3, {"origin": 0}, False),
-            ("accepted", 0, {"recording": None, "origin": 0}, False),
-            ("valid", 0, {"recording": None}, True), ("valid", 0, {"origin": 0}, False),
-            ("valid", 1, {"recording": None}, False), ("waived", 0, {"recording": None}, True),
-            ("waived", 0, {"origin": 0}, True), ("waived", 0, {}, False),
-            ("relative", 3, {}, True), ("relative", 0, {}, False),
-            ("relative", 0, {"relative": True}, True), ("relative", 1, {}, False),
-            ("refused", 1, {}, True), ("refused", 3, {}, False), ("lost", 1, {}, True)]
-        for verdict, status, request, is_valid in rows:
-            known = make_result(verdict, status=status,
-                                request={**REQUEST, "origin": None, **request})
-            self.check(f"{verdict} {status} {request}", (
-                find_misfit(known) is None, not list_violations(known)), (is_valid, is_valid))
+        for row in read_vectors("verdict-requests.tsv"):
+            known = make_result(row["verdict"], status=int(row["status"]), request={
+                **REQUEST, "origin": None, **json.loads(row["request"])})
+            self.check(f"{row['verdict']} {row['status']} {row['request']}", (
+                find_misfit(known) is None, not list_violations(known)),
+                (row["valid"] == "yes",) * 2)
 
     def test_cuts_a_text_that_is_too_long(self) -> None:
         known = make_unjudged("x", "y" * 70_000, "input")
