@@ -171,6 +171,10 @@ class Programs(CallCase):
             self.assertNotIn("ccepted", self.text("one.csv") + self.text("one.xml"), status)
             self.assertIn(f"<dd>{last}</dd>", self.text("out/hello.html"), status)
 
+    def test_the_junit_file_of_an_accepted_pair_names_unmade_checks(self) -> None:
+        self.judge(self.fake_program(ACCEPTED), "--junit", "one.xml")
+        self.assertIn("Not checked: ", tree.fromstring(self.read("one.xml"))[0][0][0].text or "")
+
     def test_options_that_change_nothing_with_a_clock(self) -> None:
         program = self.fake_program(ACCEPTED)
         self.assertEqual(self.judge(program, "--strict").status, 0)

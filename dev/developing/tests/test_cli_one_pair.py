@@ -8,6 +8,7 @@ import json
 import os
 import re
 import signal
+import xml.etree.ElementTree as tree
 from typing import Any, Sequence
 from unittest import mock
 
@@ -366,6 +367,16 @@ class OutputFilesOfPair(Case):
         verdict = self.verdict([*faults, "70 faults"])
         verdict.parts += [make_part(0, 9, 0), self.part(2, [*faults, "70 faults"])]
         self.check("lines", self.files(verdict).list_lines(), [*faults, "70 faults", *faults[:29]])
+
+    def test_the_junit_file_of_a_pair_has_its_time_and_faults(self) -> None:
+        """The worst fault is the second."""
+        lines = [REFUSED[1], REFUSED[0], REFUSED[2]]
+        verdict = self.verdict(lines)
+        verdict.seconds = 1.5
+        self.files(verdict, junit=self.path("one.xml")).write()
+        case = tree.fromstring(self.read("one.xml"))[0][0]
+        self.check("time, lines", (case.get("time"), (case[0].text or "").split("\n")), (
+            "1.500", [verdict.sentence, REFUSED[0], *lines]))
 
     def test_the_title_of_a_pair_is_its_files(self) -> None:
         for recording, title in ((None, "a.stl"), ("b.ts", "a.stl b.ts")):
