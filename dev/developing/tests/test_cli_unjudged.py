@@ -10,7 +10,7 @@ import signal
 import sys
 import time
 from collections import deque
-from typing import Any, ContextManager
+from typing import Any, ContextManager, Iterator
 from unittest import mock
 
 from subtitles.cli import batch, collection, single
@@ -19,6 +19,7 @@ from subtitles.cli.single import (
     Output, OutputFiles, PairOptions, SIGNALS, handle_signals, ignore_signals, lock_folder,
     lock_pair)
 from subtitles.common.command_line import run_main
+from subtitles.common.files import read_stamp
 from subtitles.request.commands import CommandPaths, OutputNames, Printer
 from subtitles.request.lines import BatchItem
 from subtitles.request.request import keep_stl
@@ -308,13 +309,21 @@ class OutputsAndSignals(CallCase):
                        [self.path("one.recording.pes")] * bool(is_kept and count and ending))
         self.check("no recording", self.make_output_files(True).list_raw_outputs(None), [])
 
-    def test_writes_a_file_again_if_an_input_has_changed_since(self) -> None:
-        files = self.make_output_files()
-        files.verdict.failed_outputs = []
-        files.stamps = {self.write("one.ts", b"changed"): None}  # there was no file at the start
-        files.written = [Output(self.path("one.csv"), lambda: iter([b"not judged"]))]
-        files.find_changes()
-        self.check("contents", self.read("one.csv"), b"not judged")
+    def test_writes_files_again_if_an_input_changes_while_they_are_written(self) -> None:
+        """The input changes while each file is made. The change is reported once."""
+        for count, expected in ((1, [0, 1]), (2, [0, 1, 1])):
+            files, path, changes = self.make_output_files(), self.write("one.ts", b""), list[int]()
+            files.verdict.failed_outputs, files.stamps = [], {path: read_stamp(path)}
+
+            def make_chunks() -> Iterator[bytes]:
+                self.write("one.ts", b"changed")
+                changes.append(len(files.verdict.failed_outputs))
+                return iter([])
+
+            with mock.patch.object(files, "list_outputs", return_value=[
+                    Output(self.path(f"{at}.csv"), make_chunks) for at in range(count)]):
+                files.write()
+            self.check(f"{count} files: reported changes when each is made", changes, expected)
 
     def test_a_result_replaces_a_link_but_another_output_follows_it(self) -> None:
         os.symlink(self.write("theirs", b""), self.path("link"))
