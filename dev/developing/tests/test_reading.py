@@ -30,7 +30,7 @@ from subtitles.recording.dates import find_date
 from subtitles.reading.received import (
     ShownPage, choose_header_option, choose_language, find_header_bits, find_header_range,
     find_likely_errors, find_recorded_day, find_step_back, find_undecided_option, join_late_pages,
-    mark_cuts, prefer_option, store_pages)
+    prefer_option, store_pages)
 from subtitles.reading.reference import ReferenceVerdict
 from subtitles.results.schema import find_misfit
 from subtitles.stream.packets import PES, PacketRun, Packets
@@ -163,10 +163,6 @@ class ReceivedPages(Case):
                 PacketRun(2, 1, 0, 0, "", ""), PacketRun(3, 2, 0, TICKS, "h", "")]
         self.check("PES packets", find_header_range(Packets(PES, runs), None), (3, 4))
 
-    def test_marks_no_blank_page_as_cut(self) -> None:
-        self.check("cuts", [page.cut for page in mark_cuts(show_in_turn([BLANK, ONE, BLANK]))],
-                   [None] * 3)
-
     def test_finds_adjoining_pages_that_differ_in_few_characters(self) -> None:
         letter, letters, three, longer = (make_page({22: b"\x0b" + text}) for text in (
             b"Onf", b"Off", b"Eff", b"Ones"))
@@ -179,9 +175,8 @@ class ReceivedPages(Case):
 
     def test_chooses_the_option_by_the_headers_and_the_announcement(self) -> None:
         for row in read_vectors("header-options.tsv"):
-            options = choose_header_option(int(row["bits"]), row["announced"].split()).options
-            self.check(row["name"], (options[0].word, len(options)),
-                       (row["option"], int(row["possible"])))
+            options = choose_header_option(int(row["C12 to C14"]), row["languages"].split()).options
+            self.check(row["name"], " ".join(option.word for option in options), row["options"])
 
     def test_prefers_the_languages_of_a_given_option(self) -> None:
         self.check_rows(prefer_option, {
@@ -200,25 +195,14 @@ class ReceivedPages(Case):
                        [item != mosaic for item in rows])
 
     def test_lists_pages_whose_characters_no_option_decides(self) -> None:
-        pounds = make_page({22: b"\x0b#5"})
-        start = "the characters of 1 subtitle: C12 to C14 of the headers select "
-        end = ", no announced language decides it, and the text was read as {}: give --option"
-        both = f"{start}english or polish, by the region to which the receiver is set" \
-            + end.format("english")
-        # C12 to C14, the announced languages, the pages, and the texts of checks that were not made
-        cases: dict[str, tuple[int, list[str], list[Rows], list[str]]] = {
-            "no such character": (0, [], [ONE, TWO], []),
-            "one of two": (0, [], [ONE, pounds], [both]),
-            "decided": (0, ["eng"], [pounds], []),
-            "the same in both": (2, [], [pounds], []),
-            "reserved in the default region": (7, ["pol"], [ONE, pounds], [
-                f"{start}romanian, but nothing in region 0000{end.format('romanian')}"]),
-            "reserved, decided": (7, ["ron"], [pounds], [])}
-        for name, (bits, languages, rows, expected) in cases.items():
-            found = find_undecided_option(choose_header_option(bits, languages), languages,
-                                          show_in_turn(rows))
-            self.check(name, [(item.kind, item.text) for item in found],
-                       [(OPTION, text) for text in expected])
+        shown = {"One": ONE, "Two": TWO, "#5": make_page({22: b"\x0b#5"})}
+        for row in read_vectors("undecided-options.tsv"):
+            languages = row["languages"].split()
+            found = find_undecided_option(
+                choose_header_option(int(row["C12 to C14"]), languages), languages,
+                show_in_turn(shown[text] for text in row["pages"].split()))
+            self.check(row["name"], [(item.kind, item.text) for item in found],
+                       [(OPTION, row["entry"])] if row["entry"] else [])
 
     def test_chooses_the_language_by_the_announcement_and_the_headers(self) -> None:
         for row in read_vectors("read-languages.tsv"):
@@ -374,31 +358,44 @@ class WholeCalls(Case):
                 line.endswith("option"))
             self.check(f"{row['name']}: counts", not result["subtitle_counts"], call.status == 2)
             if row["name"] == "row 24":
-                self.check("counts", [result["subtitles"], result["subtitle_counts"],
-                                      result["reading"]["shown"]],
-                           [[], {"judged": 0, "refused": 1}, 1])
+                fault = result["faults"][0]
+                self.check("counts, times", [
+                    result["subtitles"], result["subtitle_counts"], result["reading"]["shown"],
+                    result["reading"]["written"], fault["time"], fault["last_time"]],
+                    [[], {"judged": 0, "refused": 1}, 1, 0, "00:00:01:00", "00:00:01:24"])
 
     def test_exits_with_the_worst_status_of_all_pages(self) -> None:
         self.send((0, [HEADER, ROW, NEXT_PAGE, ROW, CLOSING]),
                   (25, [KEEPING_HEADER, ROW, NEXT_PAGE, ROW, CLOSING]),
                   (50, [HEADER, NEXT_PAGE, CLOSING]))
-        call = self.read_pages("sent.pes")
-        self.check("statuses", (call.status, self.result("888")["status"],
-                                self.result("889")["status"]), (1, 1, 0))
-        self.check("last lines", [line.partition(":")[0] for line
-                                  in call.out.decode().splitlines()[-2:]],
-                   [f"888 {WITH_FAULTS}", f"889 {AS_SHOWN}"])
         with lock_pair(self.path("out"), "889"):
             self.check("the second is in use", self.read_pages("sent.pes").told, [
                 "read: another run of qc is writing the files of pair 889 to out"])
+        self.write("out/889.1.txt", b"")
+        call = self.read_pages("sent.pes")
+        self.check("statuses", (call.status, self.result("888")["status"],
+                                self.result("889")["status"]), (1, 1, 0))
+        self.must("an earlier result", not os.path.exists(self.path("out/889.1.txt")))
+        self.check("last lines", [line.partition(":")[0] for line
+                                  in call.out.decode().splitlines()[-2:]],
+                   [f"888 {WITH_FAULTS}", f"889 {AS_SHOWN}"])
 
-    def test_reports_a_jump_of_the_pcr_as_a_fault(self) -> None:
+    def test_reports_a_jump_of_the_pcr_and_another_character_set_as_faults(self) -> None:
         pes = [make_pes_packet(TICKS * frame, NO_TEXT) for frame in range(100, 250, 25)]
-        self.write("jump.ts", join_packets(make_multiplex(pes, Shape(jump=(60, 3 * 90_000)))))
-        call, result = self.read_pages("jump.ts"), self.result()
-        self.must("fault", call.status == 1 and result["line"].startswith(
-            f"{WITH_FAULTS}: clock jump, the clock jumps by 3.00 s at 00:00:02:00"), result["line"])
-        self.must("no warning", "clock_jump" not in {item["kind"] for item in result["warnings"]})
+        other = make_pes_packet(TICKS * 125, [*NO_TEXT, OTHER_SET])
+        jump = "clock jump", "00:00:02:00"
+        for line, sent, faults in (
+                ("clock jump, the clock jumps by 3.00 s at 00:00:02:00", pes, [jump]),
+                ("character set, packet 8/29/0 names character set 000 of region 0001",
+                 [pes[0], other, *pes[2:]], [jump, ("character set", None)])):
+            self.write("jump.ts", join_packets(make_multiplex(sent, Shape(jump=(60, 3 * 90_000)))))
+            call, result = self.read_pages("jump.ts"), self.result()
+            self.must(line, call.status == 1 and result["line"].startswith(
+                f"{WITH_FAULTS}: {line}"), result["line"])
+            self.check(f"{line}: faults", [(item["name"], item["time"])
+                                           for item in result["faults"]], faults)
+            self.check(f"{line}: no warning", {"clock_jump", "character_set"}.intersection(
+                item["kind"] for item in result["warnings"]), set())
 
     def test_names_the_pes_packets_that_it_does_not_read(self) -> None:
         self.send((0, [CLOSING]), (25, [CLOSING]), (30, NO_TEXT), (50, TEXT), (75, NO_TEXT))
@@ -409,8 +406,10 @@ class WholeCalls(Case):
                     "page, from 00:00:00:00 to 00:00:01:00")),
                 ("3-99", "00:00:00:00", 2, (None, None, "3 PES packets outside of --pes 3-99"))):
             call, result = self.read_pages("sent.pes", "--pes", pes), self.result()
-            self.must(f"{pes}: range", call.status == 0 and f"range: {count} of 5 PES packets, " in
-                      call.out.decode(), call)
+            self.check(f"{pes}: range", (call.status, [
+                (item["matches"], item["total"], item["line"]) for item in result["choices"]
+                if item["option"] == "pes"]), (0, [(count, 5, f"range: {count} of 5 PES packets, "
+                                                    "from the first header of the page on")]))
             self.check(f"{pes}: others", (result["subtitles"][0]["expected_in"], *(
                 (item["from"], item["to"], item["text"]) for item in result["not_checked"]
                 if item["kind"] == OUTSIDE)), (begin, others))
@@ -421,7 +420,7 @@ class WholeCalls(Case):
         enhanced = [HEADER, ROW, make_packet(0, 26, [0], b"") + encode_triplet(0) * 13, CLOSING]
         other = [HEADER, make_numbered_row(22, b"Good evening!"), CLOSING]
         self.send(*((25 * at, item) for at, item in enumerate((
-            NO_TEXT, *not_stored, NO_TEXT, TEXT, NO_TEXT, enhanced, other, NO_TEXT))))
+            NO_TEXT, *not_stored, NO_TEXT, TEXT, NO_TEXT, other, enhanced, NO_TEXT))))
         self.check("status", self.read_pages("sent.pes").status, 1)
         result = self.result()
         self.check("count", (result["reading"]["enhanced"], result["reading"]["certain"],
@@ -429,7 +428,7 @@ class WholeCalls(Case):
         self.must("sentence", "5 subtitles, 3 certain" in result["sentence"], result["sentence"])
         # The reason, whether each subtitle of the file has it, and the note
         for reason, expected, note in (
-                ("packets X/26", [False, True, False], "1 subtitle, first at 00:00:06:00: packets"),
+                ("packets X/26", [False, False, True], "1 subtitle, first at 00:00:07:00: packets"),
                 ("differs from", [False, True, True], "2 subtitles, first at 00:00:06:00: it")):
             self.check(reason, [reason in str(row["reason"]) for row in result["subtitles"]],
                        expected)
@@ -479,6 +478,9 @@ class WholeCalls(Case):
         call = self.read_pages("two.ts")
         reason = self.result()["reason"]
         self.must("both", call.status == 2 and "page 888 is sent on 2 PIDs" in reason, call)
+        line = reason.splitlines()[0]
+        self.check("sentence, last line", [self.result()["sentence"], call.out.decode(
+            ).splitlines()[-1]], [f"Not read: {line}.", f"888 {NOT_READ}: {line}"])
         command = f"{os.path.join(TOOLS, 'read')} two.ts --page 888 --pid"
         self.must("commands", all(f"{command} {pid}" in line for pid, line in zip(
             ("0x101", "0x102"), call.told[-2:])), call)
@@ -568,6 +570,14 @@ class WrittenFiles(Case):
         self.tool("read", sent, "-o", "c")
         self.check("the dates", self.read("c/888.stl")[224:236], b"010203010203")
 
+    def test_takes_the_title_from_the_name_of_the_recording(self) -> None:
+        """The title has the first 32 characters, in code page 850. The folder is not an option."""
+        name = "-in/\xe9" + "n" * 40
+        os.mkdir(self.path("-in"))
+        os.rename(schedule_random_programme(self), self.path(name))
+        self.tool("read", "-o", "out", "--", name)
+        self.check("title", self.read("out/888.stl")[16:48], b"\x82" + b"n" * 31)
+
     def test_writes_the_files_of_qc(self) -> None:
         sent = schedule_random_programme(self)
         data = self.read(sent)
@@ -629,10 +639,16 @@ class TwoRecordings(Case):
         self.write_stream("a.ts", [(0, TEXT), (25, NO_TEXT), (50, TEXT), (75, NO_TEXT),
                                    (100, TEXT)])
         self.write_stream("b.ts", [(60, TEXT), (75, NO_TEXT), (100, TEXT), (140, NO_TEXT)])
+        os.mkdir(self.path("out"))
+        self.write("out/b.1.txt", b"")
         self.compare("a.ts", "b.ts", "--same-start")
+        self.must("an earlier result", not os.path.exists(self.path("out/b.1.txt")))
+        result = json.loads(self.read("out/b.json"))
+        self.check("choices", [item["option"] for item in result["choices"]],
+                   ["pid", "pes", "pace"])
         self.check("entries", [
-            (item["from"], item["to"], item["text"]) for item in json.loads(
-                self.read("out/b.json"))["not_checked"] if item["kind"] == OUTSIDE], [
+            (item["from"], item["to"], item["text"]) for item in result["not_checked"]
+            if item["kind"] == OUTSIDE], [
             ("10:00:04:00", "10:00:05:14", "1 subtitle of b.ts after 10:00:04:00, when one ends"),
             ("10:00:00:00", "10:00:02:24", "2 subtitles of a.ts before 10:00:02:10, when both "
              "recordings have begun")])
