@@ -1,23 +1,25 @@
 """Test verdicts on pairs with unreadable packets, losses or pictures that were not checked."""
 from __future__ import annotations
 
+import itertools
+import re
 from types import SimpleNamespace
 from typing import Any, Mapping, Sequence
 
 from developing.pes import DATA, decode_pts, GAP_MARKER, make_pes_packet, STUFFING_UNIT
 from subtitles.clock.start import Clock, GIVEN, RECORDING, START, TCP, TimedPart
-from subtitles.common.checks import HOLE, JUMP, NO_VIDEO, STEADY, UNREAD
-from subtitles.common.times import format_frame, TICKS
+from subtitles.common.checks import DRIFT
+from subtitles.common.times import CLOCK, format_frame, pts_of, TICKS
 from subtitles.judging.desync import find_desync
 from subtitles.judging.status import CheckSummary, decide, Grounds, NOT_JUDGED, REFUSED, Severity
 from subtitles.judging.timing import describe_pace, describe_unchecked_losses
 from subtitles.judging.unchecked import Unchecked
 from subtitles.stream.pace import IRREGULAR, Pace, PAUSED, REGULAR, TOO_FEW
 from subtitles.stream.survey import Survey
-from .bench import Case, get_example_path, read_example_file, Row
+from .bench import Case, get_example_path, read_example_file
 from .judged import judge_files, JudgedPair, ProgrammeCase
 from .results import check_schema
-from .stories import read_table, StoryCase
+from .stories import read_table, read_vectors, StoryCase
 from .streams import find_teletext_places, make_multiplex, Packet, remove_packets_at, Shape
 from .test_stream_pace import BEGIN, fill_missing_frames, TIMES
 from .transmissions import (
@@ -374,109 +376,70 @@ class LossEvidence(Case):
                    "apart, with several in some frames: --pace 2")
 
 
-TELETEXT_PID, VIDEO_PID, SECOND_VIDEO_PID, PID_WITHOUT_VIDEO = 0x101, 0x200, 0x204, 300
-AUDIO, PRIVATE, H_264, HEVC = 3, 6, 27, 36  # stream_types
+TELETEXT_PID, VIDEO_PID = 0x101, 0x200
+PRIVATE, H_264 = 6, 27  # stream_types
 PART_BEGIN, PART_END, SECOND = 1000, 4000, 25  # in frames
 SENT = [TICKS * frame for frame in range(PART_BEGIN, PART_END, SECOND)]  # PTS of the subtitles
 ONE_VIDEO = {VIDEO_PID: H_264}
-TWO_VIDEOS = {VIDEO_PID: H_264, SECOND_VIDEO_PID: HEVC}
 
 
-def make_leads(begin: int, end: int, lead: float = 6, growth: float = 0, video: int = VIDEO_PID,
-               number_shift: int = 0) -> list[str]:
-    """Return the `lead` line of `survey` for each second between two frames.
+def list_seconds(frames: str) -> range:
+    """Return each 25th frame from the first up to the second number, such as `500-4500`."""
+    begin, end = map(int, frames.split("-"))
+    return range(begin, end, SECOND)
 
-    Teletext is `lead` frames ahead of the last picture before it, and `growth` more in each second.
+
+def make_leads(begin: int, end: int, lead: float = 6, growth: float = 0, each: float = SECOND, *,
+               video: int = VIDEO_PID, number_shift: int = 0, origin: int = 0) -> list[str]:
+    """Return the `lead` line of `survey` for each second, or `each` frames, between two frames.
+
+    Teletext is `lead` frames ahead of the last picture before it, and `growth` more in each line.
     The number of this picture is its frame plus `number_shift`.
     """
-    return [f"lead {TELETEXT_PID} {TICKS * frame} {round(TICKS * (lead + growth * at))} {video} "
-            f"{frame + number_shift}" for at, frame in enumerate(range(begin, end, SECOND))]
+    return [f"lead {TELETEXT_PID} {pts_of(frame, origin)} {round(TICKS * (lead + growth * at))} "
+            f"{video} {frame + number_shift}"
+            for at, frame in enumerate(range(begin, end, int(each)))]
 
 
 class Pictures(Case):
-    """A part from frame 1000 to frame 4000, which sends Teletext in each second. Frame 0 has PTS 0.
-    """
+    """A part from frame 1000 to frame 4000, which sends Teletext in each second."""
 
     def find_unchecked(self, lines: Sequence[str], streams: Mapping[int, int] = ONE_VIDEO,
                        sent: Sequence[int] = SENT, *, pcr_pid: int = VIDEO_PID,
-                       source: str = GIVEN) -> list[Unchecked]:
+                       source: str = GIVEN, origin: int = 0) -> list[Unchecked]:
         """Return what was not checked in a programme with these PIDs and their stream_types."""
         survey = Survey()
         for line in ["size 188", f"programme 1 {pcr_pid}", f"stream {TELETEXT_PID} {PRIVATE}", *(
                 f"stream {pid} {kind}" for pid, kind in streams.items()), *lines]:
             survey.read_line(line)
-        part = TimedPart(PART_BEGIN, PART_END, Clock(0, source))
+        part = TimedPart(PART_BEGIN, PART_END, Clock(origin, source))
         return [*find_desync(survey, TELETEXT_PID, part, 0, 1, sent).unchecked]
 
-    def check_kinds(self, rows: Mapping[str, Row]) -> None:
-        """Check the kinds of what was not checked, if no video PID has the PCR.
+    def test_says_what_was_not_checked(self) -> None:
+        """Each row is tested with the PTS 0 in frame 0, and with PTS that wrap in the part."""
+        for row, origin in itertools.product([*read_vectors("unchecked-pictures.tsv")],
+                                             (0, CLOCK - TICKS * 2000)):
+            lines = row["lines"].split("; ") if row["lines"] else []
+            for frames, *ahead in map(str.split, filter(None, row["ahead"].split("; "))):
+                lines += [f"ahead {TELETEXT_PID} {pts_of(frame, origin)} {TICKS * int(by)}"
+                          for frame, by in zip(list_seconds(frames), itertools.cycle(ahead))]
+            for video, frames, *values in map(str.split, filter(None, row["leads"].split("; "))):
+                begin, end = map(int, frames.split("-"))
+                lines += make_leads(begin, end, *map(float, values), video=int(video),
+                                    origin=origin)
+            pcr_pid, *streams = row["programme"].split()
+            unchecked = self.find_unchecked(
+                lines, {int(pid): int(kind) for pid, kind in (item.split(":") for item in streams)},
+                [pts_of(frame, origin) for frames in (row["sent"] or "1000-4000").split()
+                 for frame in list_seconds(frames)], pcr_pid=int(pcr_pid), origin=origin)
+            name = f"{row['name']}, from {origin}"
+            self.check(name, "; ".join(item.kind + item.text.removeprefix(DRIFT)
+                                       for item in unchecked), row["unchecked"])
+            self.check(f"{name}: parts and times", [
+                (item.part, *filter(None, (item.begin, item.end))) for item in unchecked], [
+                (1, *re.findall(r"\d\d:\d\d:\d\d:\d\d", item.text)) for item in unchecked])
 
-        Arguments: lines of `survey`, PIDs and stream_types of the programme, PTS of Teletext.
-        """
-        for name, ((lines, *more), kinds) in rows.items():
-            unchecked = self.find_unchecked(lines, *more, pcr_pid=PID_WITHOUT_VIDEO)
-            self.check(name, [item.kind for item in unchecked], kinds)
-
-    def test_says_why_no_picture_was_compared(self) -> None:
-        has_pictures = f"pictures {VIDEO_PID} 0 0 9 0"
-        of_programme_2 = ["programme 2 9", f"stream {VIDEO_PID} {H_264}"]
-        self.check_kinds({
-            "no picture has a time stamp": (([has_pictures], ONE_VIDEO), [UNREAD]),
-            "the video is scrambled": (([], ONE_VIDEO), [UNREAD]),
-            "a PID with pictures is not in the PMT": (([has_pictures], {}), [UNREAD]),
-            "only audio": (([], {259: AUDIO}), [NO_VIDEO]),
-            "private data with pictures": (([has_pictures], {VIDEO_PID: PRIVATE}), [UNREAD]),
-            "video of another programme": (([has_pictures, *of_programme_2], {}), [NO_VIDEO]),
-            "only one of two videos": ((make_leads(500, 4500), TWO_VIDEOS), [UNREAD]),
-            **{f"pictures of stream_type {kind} beside them": (
-                ([f"pictures {SECOND_VIDEO_PID} 0 0 9 0", *make_leads(500, 4500)],
-                 {**ONE_VIDEO, SECOND_VIDEO_PID: kind}), kinds)
-               for kind, kinds in ((PRIVATE, [UNREAD]), (0x20, []))}})
-
-    def test_says_where_no_picture_was_compared(self) -> None:
-        # Teletext without a picture is reported after 5 seconds, and three usual intervals.
-        self.check_kinds({
-            "all": ((make_leads(500, 4500),), []),
-            "none in the first 20 seconds": ((make_leads(1500, 4500),), [HOLE]),
-            "none in the first 4 seconds": ((make_leads(1100, 4500),), []),
-            "none in the last 40 seconds": ((make_leads(500, 3000),), [HOLE]),
-            "none for 20 seconds": ((make_leads(500, 2000) + make_leads(2500, 4500),), [HOLE]),
-            "only after the part": ((make_leads(5000, 9000),), [HOLE]),
-            "only after a part of three seconds": (
-                (make_leads(5000, 9000), ONE_VIDEO, SENT[:3]), [HOLE]),
-            "none for 40 seconds without Teletext": (
-                (make_leads(500, 1900) + make_leads(3000, 4500), ONE_VIDEO, SENT[:40] + SENT[80:]),
-                []),
-            "stills, one in 10 seconds": ((make_leads(500, 4500)[::10],), [])})
-
-    def test_says_where_the_delay_between_pictures_and_subtitles_changes(self) -> None:
-        first = make_leads(500, 2000)
-        second_video = make_leads(2000, 4500, video=SECOND_VIDEO_PID)
-        other_delay = make_leads(2000, 4500, lead=5, video=SECOND_VIDEO_PID)
-        for_20_seconds = make_leads(2000, 2500, lead=5, video=SECOND_VIDEO_PID)
-        rows: dict[str, Row] = {
-            "no change at another video": ((first + second_video, TWO_VIDEOS), []),
-            "at another video": ((first + other_delay, TWO_VIDEOS), [JUMP]),
-            "at another video, and back": (
-                (first + for_20_seconds + make_leads(2500, 4500), TWO_VIDEOS), [JUMP, JUMP]),
-            "3.2 frames in 160 seconds": ((make_leads(500, 4500, growth=0.02),), [STEADY]),
-            "0.8 frames in 160 seconds": ((make_leads(500, 4500, growth=0.005),), [])}
-        # PTS are 20 or 5 frames ahead of the PCR. From frame 2500 on, pictures are missing, but
-        # decoding times go on where they stopped: a larger lead shows pictures behind the PCR.
-        ahead = [f"ahead {TELETEXT_PID} {TICKS * frame} {TICKS * (20 if frame % 2 else 5)}"
-                 for frame in range(505, 4500, SECOND)]
-        for change, kinds in ((10, []), (15, []), (16, [JUMP]), (50, [JUMP]), (-50, [])):
-            rows[f"the lead grows by {change} frames without a jump"] = (
-                ([*ahead, *make_leads(500, 2500), *make_leads(2500, 4500, 6 + change)],), kinds)
-        rows["the lead grows by 16 frames for 3 seconds"] = (
-            ([*ahead, *make_leads(500, 2500), *make_leads(2500, 2575, 6 + 16),
-              *make_leads(2575, 4500)],), [JUMP])
-        rows["only one picture in 20 seconds is more than a frame behind the PCR"] = (([*ahead, *(
-            make_leads(frame, frame + SECOND, 21.1 if frame % 500 == 0 else 20.9)[0]
-            for frame in range(500, 4500, SECOND))],), [])
-        self.check_kinds(rows)
-
-    def test_a_lead_that_changes_by_more_than_a_second_prevents_a_verdict(self) -> None:
+    def test_a_lead_that_changes_by_a_second_prevents_a_verdict(self) -> None:
         def may_be_wrong(change: int) -> list[bool]:
             """Change the lead by some frames where the decoding times jump, at frame 2500."""
             return [item.may_be_wrong for item in self.find_unchecked([
@@ -485,16 +448,17 @@ class Pictures(Case):
         # The change of the lead in frames, and whether the only unchecked place prevents a verdict
         self.check_rows(may_be_wrong, {
             "no change": ((0,), [False]), "a frame": ((1,), [False]),
-            "less than a second": ((24,), [False]), "more than a second": ((26,), [True]),
+            "less than a second": ((24,), [False]), "a second": ((25,), [True]),
             "two seconds": ((50,), [True]), "two seconds less": ((-50,), [True])})
 
     def test_a_jump_near_the_picture_that_gives_the_clock_prevents_a_verdict(self) -> None:
         # The source of the clock, the frame at which decoding times jump and the lead becomes a
-        # frame shorter, and whether the clock may be wrong. Frame 1020 is in the part's first
-        # second. The first picture gives the clock if its source is START or TCP.
-        for source, frame, is_doubtful in ((START, 900, True), (START, 1020, True),
-                                           (START, 1100, False), (TCP, 900, True),
-                                           (GIVEN, 1020, False), (RECORDING, 1020, False)):
+        # frame shorter, and whether the clock may be wrong. The last picture before frame 1025 is
+        # in the part's first second, the last before frame 1050 is not. The first picture gives the
+        # clock if its source is START or TCP.
+        for source, frame, is_doubtful in ((START, 900, True), (START, 1025, True),
+                                           (START, 1050, False), (TCP, 900, True),
+                                           (GIVEN, 1025, False), (RECORDING, 1025, False)):
             unchecked, = self.find_unchecked([*make_leads(500, frame), *make_leads(
                 frame, 4500, 5, number_shift=-2)], source=source)
             warns = unchecked.text.endswith(", so the clock of --start may be wrong")
