@@ -115,12 +115,14 @@ class Verdicts(Case):
     def test_lists_each_check_of_a_part_that_was_neither_made_nor_found_a_fault(self) -> None:
         for row in read_vectors("unmade-checks.tsv"):
             parts = [make_part(0, 9, 0, make_answer([row[f"part {number}"], "1 faults"]), number,
-                               pes=(0, 9)) for number in (1, 2)]
+                               RECORDING if number == int(row["estimated"]) else GIVEN, pes=(0, 9))
+                     for number in (1, 2)]
             verdict = dataclasses.replace(
                 make_part_verdict(parts), made_checks={*map(tuple, json.loads(row["made"]))},
                 named_faults=[NamedFault(PICTURES_LEFT, "", part=int(row["pictures left"]))])
-            self.check(row["name"], [[item.kind, item.part] for item in verdict.list_unchecked()],
-                       json.loads(row["entries"]))
+            self.check(row["name"], [f"{item.kind} of part {item.part}: {item.text}"
+                                     for item in verdict.list_unchecked()],
+                       [entry for entry in row["entries"].split("; ") if entry])
 
     def test_keeps_each_warning_once(self) -> None:
         notice, other = Notice("pause", "1", None), Notice("pause", "2", None)
@@ -252,12 +254,21 @@ class Verdicts(Case):
         self.check("others not judged", verdict.subtitle_counts, None)
 
     def test_spreads_the_delays_of_subtitles(self) -> None:
-        # Delays, and their minimum, median and maximum, and how many subtitles were never complete
-        of_spreads: list[tuple[list[int | None], DelaySpread | None]] = [
-            ([], None), ([None], None), ([3], DelaySpread(3, 3, 3, 0)),
-            ([5, 1, 3], DelaySpread(1, 3, 5, 0)), ([None, 2, None, 4], DelaySpread(2, 4, 4, 2))]
-        for several, expected in of_spreads:
-            self.check(f"{several}", summarize_delays(several), expected)
+        # Delays, their minimum, median and maximum, how many subtitles were never complete, and the
+        # end of the line about them
+        of_spreads: list[tuple[list[int | None], DelaySpread | None, str | None]] = [
+            ([], None, None), ([None], None, None),
+            ([3], DelaySpread(3, 3, 3, 0), "3 frames after their TCI"),
+            ([0, 3, 3], DelaySpread(0, 3, 3, 0), "0 to 3 frames after their TCI (median 3)"),
+            ([5, 1, 3], DelaySpread(1, 3, 5, 0), "1 to 5 frames after their TCI (median 3)"),
+            ([None, 0, 0], DelaySpread(0, 0, 0, 1),
+             "at their TCI, except 1 that was never complete"),
+            ([None, 2, None, 4], DelaySpread(2, 4, 4, 2),
+             "2 to 4 frames after their TCI (median 4), except 2 that were never complete")]
+        for several, expected, words in of_spreads:
+            spread = summarize_delays(several)
+            self.check(f"{several}", (spread, spread and spread.describe()),
+                       (expected, words and f"all subtitles were complete {words}"))
         delays: list[list[int | None]] = [[1, None], [], [7]]
         parts = [dataclasses.replace(part, delays=known)
                  for part, known in zip(self.make_three_parts(), delays)]
