@@ -14,12 +14,11 @@ from subtitles.formats.layout import make_cell_lines, PLAIN, prepare_line, TextF
 from subtitles.formats.listing import NamedFault, NOT_SHOWN, parse_fault_line, read_meanings, SILENT
 from subtitles.formats.stl import Subtitle
 from subtitles.formats.teletext import ENGLISH, OPTION_BY_WORD, OPTIONS, select_option
-from subtitles.judging.causes import CAUSE_NAMES, TEXT_IN_PAUSE
 from subtitles.judging.pages import (
     decode_cells, describe_hidden_characters, find_hidden_rows, find_visibility,
     HIDDEN as HIDDEN_KIND, may_hide_rows, Visibility)
 from subtitles.judging.sentence import (
-    CAUSE_PREDICATES, describe_causes, Facts, FAULT_CLAUSES, FaultCount, write_sentence)
+    Facts, FAULT_CLAUSES, FaultCount, write_sentence)
 from subtitles.judging.status import FAULT_NUMBERS, REFUSED
 from subtitles.judging.transmissions import describe_control_bits
 from subtitles.recording.notices import Notice
@@ -30,7 +29,6 @@ from .judged import judge_files, JudgedPair, ProgrammeCase
 from .stories import read_table, read_vectors
 from .streams import add_pictures, make_mpeg_2_picture
 from .test_formats_characters import ANY_SUBCODE, CHARACTER, LEVEL_1, Receiver, TEXT_OFFSET
-from .test_judging_faults import cause, make_causes
 from .transmissions import (
     CLOSING, delay_subtitle, HEADER, join_pes_packets, schedule_pages, SentPes, subtitle_times,
     write_programme, write_subtitle_file)
@@ -67,35 +65,27 @@ class Sentences(Case):
         for row in read_vectors("sentences.tsv"):
             more: dict[str, Any] = json.loads(row["other facts"])
             more["first"] = parse_fault_line(more.get("first", ""))
-            more["counts"] = [FaultCount(*count) for count in more.get("counts", ())]
+            for name in ("counts", "waived"):
+                more[name] = [FaultCount(*count) for count in more.get(name, ())]
             facts = Facts(row["verdict"], int(row["subtitles"]), **more)
             self.check(row["name"], write_sentence(facts), row["sentence"])
 
     def test_has_a_sentence_for_each_fault_number_in_the_manual(self) -> None:
         self.assertEqual(set(FAULT_CLAUSES), FAULT_NUMBERS - PACKET_FAULTS_ONLY)
         self.assertEqual(set(FAULT_CLAUSES), set(read_meanings()))
-        for number, words in FAULT_CLAUSES.items():
-            for place, begin in (("frame 10:00:00:00", "at 10:00:00:00,"),
-                                 ("pes 7", "in PES packet 7,"), ("block 0", "in block 0,"),
-                                 ("", "")):
-                reported = parse_fault_line(f"refused {number} Name {place}".rstrip())
-                result = write_sentence(Facts(REFUSED, 1, first=reported, faults=1))
-                with self.subTest(number=number, place=place):
-                    self.assertEqual(result, " ".join(["Refused:", *begin.split(), words]) + ".")
-                    self.assertRegex(words, VERB)
-                    # one clause, without the manual's placeholders and code
-                    self.assertNotRegex(words, r"TIME|\bN frames|\bK\b|`|[;.] |--complete")
-
-    def test_has_a_sentence_for_each_cause(self) -> None:
-        for name in [item for item in CAUSE_NAMES if item != TEXT_IN_PAUSE]:
-            # Subtitle 3 has the cause, with 7 frames, or the subtitles 3 and 5.
-            for several in ([cause(2, name, 7)], [cause(2, name, 7), cause(4, name, 9)]):
-                words = describe_causes(make_causes(*several), "english")
-                predicates = CAUSE_PREDICATES.get(name, ("appeared 7 ", "appeared 7 "))
-                with self.subTest(name, count=len(several)):
-                    self.assertIn(f" {predicates[len(several) - 1]}", words)
-                    self.assertRegex(words, VERB)
-                    self.assertRegex(words, r"^(subtitle 3 at \d\d:\d\d:\d\d:\d\d,? |2 of )")
+        found = []
+        for row in read_vectors("fault-sentences.tsv"):
+            fault = parse_fault_line(row["line"])
+            assert fault
+            found.append(fault.number)
+            with self.subTest(row["line"]):
+                self.assertEqual(write_sentence(Facts(REFUSED, 1, first=fault, faults=1)),
+                                 row["sentence"])
+                words = FAULT_CLAUSES[fault.number]
+                self.assertRegex(words, VERB)
+                # one clause, without the manual's placeholders and code
+                self.assertNotRegex(words, r"TIME|\bN frames|\bK\b|`|[;.] |--complete")
+        self.assertEqual(found, sorted(FAULT_CLAUSES))
 
     def test_no_clause_advises_an_option_that_accepts_its_fault(self) -> None:
         for number, clause in FAULT_CLAUSES.items():
@@ -186,6 +176,7 @@ HEADERS = {
     "c7=9": "is not shown on some receivers: C10 (inhibit display) is set",
     "c5=0 c7=0 c11=2": "hides the picture on some receivers: C6 (subtitle) is clear; C7 (suppress "
     "header) is clear; the header is French",
+    "c7=0": "shows a header line on some receivers: C7 (suppress header) is clear",
     "c5=12": "appears as a newsflash on some receivers: C5 (newsflash) is set",
     "c11=2": "is shown with wrong characters on some receivers: the header is French",
     "c4=0": "may appear over old text on some receivers: C4 (erase page) is clear in 1 of "}
