@@ -13,7 +13,7 @@ from developing.pes import make_packet, make_pes_packet
 from subtitles.common.program import find_proof
 from subtitles.common.times import CLOCK, TICKS
 from subtitles.formats.listing import parse_fault_line
-from subtitles.judging.causes import Cause, LATE, WRONG_TEXT
+from subtitles.judging.causes import Cause, CAUSE_NAMES, LATE, WRONG_TEXT
 from subtitles.judging.faults import describe_longest_gap, find_fault_place, list_hints
 from subtitles.judging.part import report_causes
 from subtitles.judging.sentence import Facts, FaultCount, describe_causes, describe_faults
@@ -62,9 +62,13 @@ def make_causes(*several: Cause, text: bytes = b"text") -> Any:
 
 class Descriptions(Case):
     def test_reports_the_worst_cause_first(self) -> None:
+        found = set[str]()
         for row in read_vectors("worst-causes.tsv"):
-            causes = make_causes(*parse_causes(row["causes"]))
-            self.check(row["name"], describe_causes(causes, "english"), row["sentence"])
+            several = parse_causes(row["causes"])
+            found.update(item.name for item in several)
+            self.check(row["name"], describe_causes(make_causes(*several), "english"),
+                       row["sentence"])
+        self.check("all causes", found, set(CAUSE_NAMES))
 
     def test_quotes_texts_in_the_characters_of_the_option(self) -> None:
         wrong = cause(0, WRONG_TEXT)._replace(sent_page=(b"]".ljust(40),) + BLANK_PAGE[1:])
