@@ -266,7 +266,7 @@ class ParsedWaivers(Case):
         for line, file in (
                 (f"  {LINE}\r", "news.stl"),
                 (LINE.replace("news.stl", f"sha256:{SUM}"), f"sha256:{SUM}"),
-                (LINE.replace(" in news", "   in   the news"), "the news.stl")):
+                (LINE.replace(" in news", "   in   the news").replace(": ", ":"), "the news.stl")):
             self.check(line, parse_waiver("file", 7, line), expected._replace(file=file))
 
     def test_distinguishes_a_waiver_from_other_lines(self) -> None:
@@ -291,8 +291,9 @@ class ParsedWaivers(Case):
         waiver = parse_waiver("", 1, LINE)
         by_sum = waiver._replace(file=f"sha256:{SUM}")
         key = {(72, ((10 * 60 + 3) * 60 + 30) * 25 + 17)}  # the fault number, and the frame
-        # The waiver, the judged file with the checksum `SUM`, the current day, the keys of the
-        # waivers that are used, and the number of those whose last day is over
+        other = waiver._replace(number=68, file="others.stl")
+        # A waiver after a waiver for another file, the judged file with the checksum `SUM`, the
+        # current day, the keys of the waivers that are used, and how many have ended
         rows: dict[str, tuple[Waiver, str, str, set[tuple[int, int]], int]] = {
             "the last day": (waiver, "in/news.stl", "2027-01-31", key, 0),
             "the day after": (waiver, "in/news.stl", "2027-02-01", set(), 1),
@@ -301,8 +302,9 @@ class ParsedWaivers(Case):
             "another checksum": (by_sum._replace(file=f"sha256:{SUM[:-1]}c"), "news.stl",
                                  "2027-01-31", set(), 0)}
         for name, (item, path, day, keys, ended) in rows.items():
-            chosen = choose_waivers([item], path, lambda: SUM, day)
-            self.check(name, (chosen.keys, len(chosen.ended)), (keys, ended))
+            chosen = choose_waivers([other, item], path, lambda: SUM, day)
+            self.check(name, (chosen.keys, chosen.numbers, chosen.ended),
+                       (keys, {number for number, _ in keys}, [item] * ended))
 
     def test_a_result_is_judged_again_after_the_day_of_a_waiver(self) -> None:
         request = make_example_request("one.stl", "one.ts")
