@@ -245,10 +245,12 @@ class Severities(Case):
 
     def test_refuses_wrong_lines(self) -> None:
         no_faults = (0, 5, 9, 26, 29, 41, 43, 46, 49, 58, 59, 75, 81, 83, 90, 100)
-        for line in ("72", "72 fatal", "x error", "others", "72 warning now", "warning 72",
-                     "٧٢ error", "sent error", "never error", "never sent", "never  sent wrong",
-                     "not error", *(f"{number} warning" for number in no_faults)):
-            with self.subTest(line), self.assertRaisesRegex(Stop, "line 2: (a line is|no refusal)"):
+        wrong = ("72", "72 fatal", "x error", "others", "72 warning now", "warning 72", "٧٢ error",
+                 "sent error", "never error", "never sent", "never  sent wrong", "not error")
+        for line, words in [*((line, "a line is `NUMBER error`") for line in wrong), *(
+                (f"{number} error", f"no refusal has the number {number}$")
+                for number in no_faults)]:
+            with self.subTest(line), self.assertRaisesRegex(Stop, f"line 2: {words}"):
                 make_severity("", line)
 
 

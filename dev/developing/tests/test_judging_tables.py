@@ -454,8 +454,11 @@ class SubtitleBlocks(Case):
             self.check(f"subtitles without {left_out}", [
                 *SubtitleFile(path, left_out=left_out).list_subtitles()], subtitles)
         advice = OptionAdvice(file, "english")
-        self.must("no option", advice.advise(5, 4).startswith("no national option has ø: "))
-        self.check("no advice", (advice.advise(5, 6), advice.complete_options), ("", []))
+        self.check("no option", advice.complete_options, [])
+        self.check("advice", [advice.advise(5, at) for at in (4, 5, 6)], [
+            "no national option has ø: replace it (it needs other character sets, or packets X/26, "
+            "which are refused with fault 70)",
+            "byte FF is not a character of code table 00: correct it", ""])
 
     def test_advises_options_that_have_all_characters_of_a_file(self) -> None:
         rows: dict[bytes, str] = {
