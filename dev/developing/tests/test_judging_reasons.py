@@ -21,7 +21,7 @@ from subtitles.stream.packets import (
 from subtitles.stream.receiver import BLANK_PAGE, INITIAL_STATE, Rows, SpanIndex, Timeline
 from .bench import Case
 from .judged import ProgrammeCase, judge_files
-from .stories import read_table
+from .stories import read_vectors
 from .streams import OLD, TELETEXT_PID, make_stream_with_video, make_planned_stream
 from .parts import make_answer, make_example_request, decode_packets
 from .transmissions import (
@@ -228,25 +228,12 @@ class Headers(Case):
                                             [(second, NUMBERS, True), (first, second, False)])})
 
     def test_explains_why_a_header_must_erase(self) -> None:
-        other = OTHER_SUBCODE
-        subcode = f"{CLEAR}, though the sub-code changes from 0001 to 0000"
-        is_open = f"{CLEAR}, and the page was still open: no header had terminated it"
-        keep = KEEPING_NUMBERS
-        self.check_rows(lambda header, *words: describe_missing_erase(
-            header, make_example_request("one.stl", "one.pes", *words)), {
-            "it erases": ((PageHeader(NUMBERS, other, True),), ""),
-            "the first header": ((PageHeader(keep),), REPEAT_WITHOUT_ERASE),
-            "a repeat": ((PageHeader(keep, keep),), REPEAT_WITHOUT_ERASE),
-            "the first header may keep": ((PageHeader(keep), "--keeping"), ""),
-            "it erases, but may keep": ((PageHeader(NUMBERS, other, True), "--keeping"), ""),
-            "a repeat may keep": ((PageHeader(keep, NUMBERS), "--keeping"), ""),
-            "another sub-code": ((PageHeader(keep, other), "--keeping"), subcode),
-            "another sub-code, open": ((PageHeader(keep, other, True), "--keeping"), subcode),
-            "an open page": ((PageHeader(keep, keep, True), "--keeping"), is_open),
-            "an open page may be": ((PageHeader(keep, keep, True), "--keeping", "--no-complete"),
-                                    ""),
-            "an open page before the first": ((PageHeader(keep, None, True), "--keeping"),
-                                              is_open)})
+        headers = {"": None, "erases": NUMBERS, "keeps": KEEPING_NUMBERS, "0001": OTHER_SUBCODE}
+        for row in read_vectors("missing-erase.tsv"):
+            header = PageHeader(headers[row["header"]] or b"", headers[row["previous"]],
+                                is_open=row["open"] == "yes")
+            request = make_example_request("one.stl", "one.pes", *row["options"].split())
+            self.check(row["name"], describe_missing_erase(header, request), row["message"])
 
     def test_describes_the_first_wrong_header_of_several(self) -> None:
         good, keeps, german, no_subtitle = map(PageHeader, (
@@ -293,45 +280,18 @@ class HeaderCounts(Case):
                                        None)})
 
     def test_names_missing_rows(self) -> None:
-        # The rows of the page, the row of the fault, and how many packets followed the header.
-        self.check_rows(describe_omitted_rows, {
-            "none": (([], 22, 0), ""), "one": (([22], 22, 0), "row 22"),
-            "one, of no known fault": (([22], None, 0), "row 22"),
-            "two": (([20, 22], 20, 0), "rows 20 and 22"),
-            "three": (([1, 2, 24], 1, 0), "rows 1, 2 and 24"),
-            "two, one came": (([20, 22], 22, 1), "row 22"),
-            "two, one came, of no known fault": (([20, 22], None, 1), "a row"),
-            "two, more came": (([20, 22], 20, 5), "row 20"),
-            "three, one came": (([18, 20, 22], 20, 1), "row 20 and 1 more"),
-            "three, fewer than none came": (([18, 20, 22], 20, -1), "rows 18, 20 and 22")})
+        for row in read_vectors("missing-rows.tsv"):
+            self.check(row["name"], describe_omitted_rows(
+                [*map(int, row["rows"].split())], int(row["fault"]) if row["fault"] else None,
+                int(row["packets"])), row["missing"])
 
 
 COMPLETE_PAGE = [HEADER, FIRST_ROW, SECOND_ROW, CLOSING]
 ONE_ROW_LESS, WITHOUT_ROWS = [KEEPING_HEADER, FIRST_ROW, CLOSING], [KEEPING_HEADER, CLOSING]
-# Names of packets in the tables below. All but the complete page keep what was sent before.
+# Names of packets in omitted-rows.tsv. All but the complete page keep what was sent before.
 PACKETS = {"complete": COMPLETE_PAGE, "repeat": [KEEPING_HEADER, FIRST_ROW, SECOND_ROW, CLOSING],
            "one row": ONE_ROW_LESS, "no rows": WITHOUT_ROWS, "header": [KEEPING_HEADER],
            "row": [FIRST_ROW]}
-# The frames in which packets are sent; --within; the frame in which row 22 is wrong (fault 72);
-# the frame of a fault 69 (a row was changed); and the rows that are named as missing: none if a
-# row was changed between the last header that erases and the wrong frame.
-OMITTED_ROWS = """
-sent                                            | within | wrong | changed | missing
-0 complete, 25 repeat                           | 0      | 24    |         |
-0 complete, 25 repeat, 50 one row               | 0      | 50    |         | row 22
-0 complete, 25 repeat, 50 one row               | 0      | 60    |         | row 22
-0 complete, 25 repeat, 50 one row, 75 no rows   | 0      | 75    |         | rows 20 and 22
-0 complete, 25 repeat, 50 one row, 75 no rows   | 0      | 99    |         | rows 20 and 22
-0 complete, 75 no rows, 100 complete            | 0      | 100   |         |
-0 complete, 20 complete, 25 one row, 50 one row | 0      | 25    | 0       | row 22
-0 complete, 20 complete, 25 one row, 50 one row | 0      | 25    | 19      | row 22
-0 complete, 20 complete, 25 one row, 50 one row | 0      | 25    | 20      |
-0 complete, 20 complete, 25 one row, 50 one row | 0      | 25    | 25      |
-0 complete, 20 complete, 25 one row, 50 one row | 0      | 25    | 26      | row 22
-0 repeat, 25 one row                            | 0      | 25    | 0       |
-0 complete, 25 header, 26 row, 50 complete      | 2      | 27    |         | row 22
-0 complete, 25 header, 26 row, 50 complete      | 0      | 25    |         | rows 20 and 22
-"""
 
 
 class MissingRows(Case):
@@ -352,7 +312,7 @@ class MissingRows(Case):
         return make_answer([*lines, f"{len(lines)} faults"], path=self.path("told"))
 
     def test_names_the_rows_that_a_header_does_not_repeat(self) -> None:
-        for row in read_table(OMITTED_ROWS):
+        for row in read_vectors("omitted-rows.tsv"):
             sent = [(int(frame), PACKETS[name]) for frame, _, name in (
                 item.partition(" ") for item in row["sent"].split(", "))]
             timeline, expected = self.decode(*sent, within=int(row["within"]))
