@@ -26,7 +26,7 @@ from subtitles.stream.receiver import BLANK_PAGE
 from .bench import Case
 from .inserters import FIRST_TCI
 from .judged import judge_files, JudgedPair, ProgrammeCase
-from .stories import read_table, read_vectors
+from .stories import read_vectors
 from .streams import add_pictures, make_mpeg_2_picture
 from .test_formats_characters import ANY_SUBCODE, CHARACTER, LEVEL_1, Receiver, TEXT_OFFSET
 from .transmissions import (
@@ -109,20 +109,6 @@ class Sentences(Case):
 BEGIN = 900_000
 TIMES = [(BEGIN + 50 * at, BEGIN + 50 * at + 40) for at in range(6)]
 
-# The frames of the received PES packets, the frames by which all subtitles are late (negative:
-# early) by --origin, the fault and the option in the hint, and a part of the sentence. --from is
-# the first recorded TCI, and --to a frame after the last recorded TCO before a pause.
-ENDS = """
-received | late by | hint                  | sentence
-100-1060 | 2       |                       | all 10 subtitles appeared 2 frames late
-100-1060 | -2      |                       | all 10 subtitles appeared 2 frames early
-110-1060 | 0       | 63 --from 00:00:08:00 | the recording begins after the first TCI
-200-1060 | 0       | 63 --from 00:00:08:00 | the recording begins after the first TCI
-110-1060 | 2       | 63 --from 00:00:08:00 | all 10 subtitles appeared 2 frames late
-100-1050 | 0       | 74 --to 00:00:34:11   | the recording ends before the last TCO
-100-960  | 0       | 74 --to 00:00:34:11   | the recording ends before the last TCO
-"""
-
 
 class RecordingEnds(ProgrammeCase):
     """The subtitles 1 to 9 appear at the frames 100, 200, .. 900, for 60 frames each. Subtitle 10
@@ -131,7 +117,7 @@ class RecordingEnds(ProgrammeCase):
     cues = [*subtitle_times(9), (960, 1060)]
 
     def test_counts_subtitles_that_are_cut_off(self) -> None:
-        for row in read_table(ENDS):
+        for row in read_vectors("recording-ends.tsv"):
             first, last = (TICKS * int(frame) for frame in row["received"].split("-"))
             sent = [item for item in self.sent if first <= item[0] <= last]
             judged = self.judge(sent, "--origin", str(-int(row["late by"]) * TICKS % CLOCK))
