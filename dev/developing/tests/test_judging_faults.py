@@ -109,15 +109,6 @@ class Descriptions(Case):
                                           faults=9, counts=counts, causes=causes))
             self.check(f"{numbers}", words, describe_causes(causes, "english") + expected)
 
-    def test_counts_faults_without_a_cause(self) -> None:
-        parity = parse_fault_line("refused 68 Parity frame 00:00:01:00 packet 1")
-        for counts, expected in (([FaultCount(68, "Parity", 3)], "; 3 faults in all"),
-                                 ([FaultCount(73, "Gap", 1), FaultCount(68, "Parity", 2)],
-                                  "; 3 faults in all: 68 Parity (2) and 73 Gap")):
-            words = describe_faults(Facts("refused", subtitles=9, first=parity, faults=3,
-                                          counts=counts, hint="a letter"))
-            self.check(expected, words, f"at 00:00:01:00, a letter{expected}")
-
     def test_finds_the_pes_packet_of_a_fault(self) -> None:
         """PES packets 0 to 3 are at the frames 0, 10, 10 and 20."""
         data = b"".join(make_pes_packet(TICKS * frame, [HEADER, CLOSING])
