@@ -25,7 +25,8 @@ from subtitles.judging.pages import (
 from subtitles.judging.pair import PairJudge
 from subtitles.judging.subtitles import OptionAdvice
 from subtitles.judging.timing import (
-    PartSearch, find_subtitle_packets, list_timed_parts, report_estimated_origin)
+    PartSearch, find_part_packets, find_parts, find_subtitle_packets, list_timed_parts,
+    report_estimated_origin)
 from subtitles.judging.unchecked import summarize_pictures
 from subtitles.reading.judge import ReadingJudge
 from subtitles.recording.notices import (
@@ -33,17 +34,19 @@ from subtitles.recording.notices import (
     find_pmt_notices, find_repeat_notices)
 from subtitles.recording.recording import is_recording
 from subtitles.request.commands import (
-    CommandPaths, ListNames, OutputNames, list_pair_files, make_pair_name, make_part_name,
-    make_command)
+    CommandPaths, Listener, ListNames, OutputNames, list_pair_files, make_pair_name,
+    make_part_name, make_command)
 from subtitles.request.request import Selection, Unclear
 from subtitles.stream import repeats
 from subtitles.stream.gaps import ClockJump
 from subtitles.stream.repeats import find_longest_gap, repeat_distance
 from subtitles.stream.packets import Packets
+from subtitles.stream.ranges import PacketRange
 from subtitles.stream.receiver import BLANK_PAGE
 from subtitles.stream.pictures import Departure
 from subtitles.stream.survey import Announced, Survey
 from .bench import Case
+from .judged import LineRecorder
 from .parts import make_example_request
 from .transmissions import PAGE, write_subtitle_file
 
@@ -76,6 +79,15 @@ class PartClocks(unittest.TestCase):
             inside=(2, 8), between=request.between, left_out=frozenset({4}), lateness=request.late,
             has_picture=True), "packets"))
 
+    def test_keeps_the_notes_and_the_mismatch_of_the_estimated_origin(self) -> None:
+        (search, recording), listener = self.make_search(), Listener(LineRecorder())
+        origins = [PartOrigin(at, packets=(1, 2), matches=3, total=4, line="") for at in (5, 6)]
+        with mock.patch.object(timing, "report_estimated_origin", return_value=OriginEstimate(
+                0, parts=origins, shift_texts=["later"], mismatch="another programme")):
+            found = find_parts(search, recording, listener)
+        self.assertEqual((listener.notes, found.mismatch, [
+            part.origin for part in found.alignments]), (["later"], "another programme", [5, 6]))
+
     def test_finds_pes_packets_with_the_repeat_limit_and_the_range_of_the_part(self) -> None:
         search, recording = self.make_search()
         with mock.patch.object(timing, "find_range") as called:
@@ -88,6 +100,31 @@ class PartClocks(unittest.TestCase):
                                       part, within=6)
                 self.assertEqual(called.call_args.args, (
                     "packets", begin, 9, 7, 30, 6, inside, is_continued and begin == 3))
+
+    def test_reports_the_pes_packets_of_a_part_and_damage_before_its_end(self) -> None:
+        """Of 9 PES packets that are read, 2 to 6 are in part 4, or none is."""
+        search, _ = self.make_search()
+        line = "range: 5 of 9 PES packets, from 00:00:00:10 to 00:00:00:20"
+        cut = "range: name: damage; the recording was read up to this point"
+        for damage, is_over, inside in itertools.product(("", "damage"), (True, False),
+                                                         ((2, 6), None)):
+            recorder = LineRecorder()
+            listener, recording = Listener(recorder), mock.Mock(display_name="name")
+            recording.packets.damage = damage
+            recording.suggest_call = lambda *words: " ".join(words)
+            recording.suggest_other_pages, commands = lambda _: ["page 1"], tuple[str, ...]()
+            with mock.patch.object(timing, "find_range", return_value=PacketRange(
+                    inside, 9, 10, 20, is_over=is_over)):
+                try:
+                    self.assertEqual(find_part_packets(search, mock.Mock(
+                        number=4, judged_recording=(recording, search.full_range)), listener),
+                        inside)
+                except Unclear as unclear:
+                    commands = unclear.commands
+            self.assertEqual((recorder.lines[1:], commands, listener.selections), (
+                [cut] * (damage != "" and not is_over), *(
+                    ((), [Selection("pes", "2-6", line, 5, 9, 4)]) if inside else
+                    (("--origin T", "page 1"), []))), (damage, is_over, inside))
 
     def test_reports_where_a_video_drifts_from_the_subtitles(self) -> None:
         """The Teletext PID 9 is in two programmes, with the video PIDs 1 and 2, and 3, but not 4.
