@@ -11,13 +11,13 @@ from developing.pes import make_pes_packet
 from developing.stl import make_gsi_block
 from subtitles.cli.batch import FolderWatch
 from subtitles.clock.origin import OriginEstimate
-from subtitles.clock.start import Clock, RECORDING, START, TimedPart
+from subtitles.clock.start import Clock, RECORDING, START, TCP, TimedPart
 from subtitles.common.times import FrameRange, Span, TICKS
 from subtitles.formats.stl import Subtitle
 from subtitles.judging import pair
 from subtitles.judging.pair import PairJudge
 from subtitles.judging.part import choose_parts, refuse_missing_subtitles
-from subtitles.judging.timing import add_delay, make_unclear_origin
+from subtitles.judging.timing import add_delay, describe_wrong_clock, make_unclear_origin
 from subtitles.judging.verdict import measure_delay
 from subtitles.recording.notices import find_character_set_notices, find_page_notices
 from subtitles.request.commands import OutputNames
@@ -201,11 +201,13 @@ class EstimatedOrigins(Case):
                        [f"{words} subtitles are 1 frame late"])
 
     def test_asks_about_a_delay_of_a_picture_distance(self) -> None:
-        # The delay in ticks, and whether it is exactly `picture_offset`: then a question follows.
-        for away, is_asked in ((TICKS, True), (TICKS + 5, False), (2 * TICKS, False)):
-            printed = add_delay(Clock(5, START, picture_offset=1),
-                                OriginEstimate(0, ticks_late=away, printed=["one"]))[1]
-            self.must(f"{away}", bool(printed[1:]) == is_asked, printed)
+        # The delay in ticks, and whether all subtitles have it. A question follows if they have,
+        # and if the delay is exactly `picture_offset`.
+        for away, is_of_all, is_asked in ((TICKS, True, True), (TICKS, False, False),
+                                          (TICKS + 5, True, False), (2 * TICKS, True, False)):
+            printed = add_delay(Clock(5, START, picture_offset=1), OriginEstimate(
+                0, ticks_late=away, has_all_cues=is_of_all, printed=["one"]))[1]
+            self.must(f"{away} {is_of_all}", bool(printed[1:]) == is_asked, printed)
 
     def test_gives_only_the_lines_for_several_airings_or_another_number_of_breaks(self) -> None:
         # The number of airings, the number of breaks if it is not that of --breaks, and whether the
@@ -213,9 +215,22 @@ class EstimatedOrigins(Case):
         for runs, breaks, is_alone in ((0, None, False), (2, None, True), (0, 0, True),
                                        (0, 2, True), (3, 2, True)):
             why = make_unclear_origin(OriginEstimate(airings=[(0, 9)] * runs, breaks=breaks,
-                                                     lines=["one"]),
+                                                     lines=["one", "two"]),
                                       [])
-            self.check(f"{runs} {breaks}", why.reason == "one", is_alone)
+            self.check(f"{runs} {breaks}", why.reason, "one\ntwo" if is_alone else
+                       "the clock cannot be estimated: one; two")
+
+    def test_describes_a_start_after_a_beginning_on_the_day_before_and_a_wrong_tcp(self) -> None:
+        gsi = make_gsi_block(b"", 0, 0)
+        stl = self.write("one.stl", gsi[:256] + b"10000000" + gsi[264:])
+        for value, source, words in (
+                ("00:00:00:10", START, "--start 00:00:00:10 is 1 s later than the beginning of the "
+                 "recording by its subtitles, 23:59:59:10"),
+                ("tcp", TCP, "the TCP 10:00:00:00 is 1 s later than the beginning of the recording "
+                 "by its subtitles, 09:59:59:00")):
+            request = make_example_request(stl, "one.ts", "--start", value)
+            self.check(value, describe_wrong_clock(request, Clock(5, source), delay=25), f"{words}"
+                       ". TIME is on the subtitle file's own clock, not the time of day")
 
 
 class DecodedPages(Case):
