@@ -5,19 +5,24 @@ import itertools
 import re
 from types import SimpleNamespace
 from typing import Any, Mapping, Sequence
+from unittest import mock
 
 from developing.pes import DATA, decode_pts, GAP_MARKER, make_pes_packet, STUFFING_UNIT
 from subtitles.clock.start import Clock, GIVEN, RECORDING, START, TCP, TimedPart
-from subtitles.common.checks import DRIFT
+from subtitles.common.checks import DRIFT, LOSSES
 from subtitles.common.times import CLOCK, format_frame, pts_of, TICKS
 from subtitles.judging.desync import find_desync
 from subtitles.judging.status import CheckSummary, decide, Grounds, NOT_JUDGED, REFUSED, Severity
-from subtitles.judging.timing import describe_pace, describe_unchecked_losses
+from subtitles.judging import timing
+from subtitles.judging.timing import (
+    describe_pace, describe_unchecked_losses, measure_part_pace)
 from subtitles.judging.unchecked import Unchecked
-from subtitles.stream.pace import IRREGULAR, Pace, PAUSED, REGULAR, TOO_FEW
+from subtitles.request.commands import Listener
+from subtitles.stream.pace import BY_EVERY, IRREGULAR, Pace, PAUSED, REGULAR, TOO_FEW
 from subtitles.stream.survey import Survey
 from .bench import Case, get_example_path, read_example_file
-from .judged import judge_files, JudgedPair, ProgrammeCase
+from .judged import judge_files, JudgedPair, LineRecorder, ProgrammeCase
+from .parts import make_example_request, make_part
 from .results import check_schema
 from .stories import read_table, read_vectors, StoryCase
 from .streams import find_teletext_places, make_multiplex, Packet, remove_packets_at, Shape
@@ -369,6 +374,32 @@ class LossEvidence(Case):
             **{f"{frames} frames": ((Pace(IRREGULAR), frames, stream), f"{losses} {irregular}")
                for frames, losses in ((None, "losses"), (0, "losses"), (2, "losses"), (
                    3, "losses of 0.1 s or more"), (25, "losses of 1.0 s or more"))}})
+
+    def test_chooses_a_pace_or_notes_losses_that_are_not_checked(self) -> None:
+        regular, irregular = Pace(REGULAR, 1, 3, 2, 9), Pace(IRREGULAR)
+        no_pcr = "losses that the counter does not show, such as 16 TS packets, since the " \
+            "programme of PID 0x5 has no PCR"
+        # The given --pace, the measured pace, and whether there is a PCR; then --pace, the chosen
+        # value of --pace, the PES packets that show a loss, and the note on losses
+        rows: list[tuple[str, Pace, bool, str | None, list[tuple[str | None, int | None]], str]] = [
+            ("", regular._replace(hidden_places=0), True, "2", [("2", 9)], ""),
+            ("", regular, False, "2", [("2", 7)], no_pcr),
+            ("", irregular, False, None, [(None, None)], no_pcr),
+            ("", Pace(BY_EVERY), True, None, [], ""), ("--pace 3", irregular, False, "3", [], ""),
+            ("--pace none", irregular, False, "none", [], no_pcr),
+            ("--pace none", irregular, True, "none", [], "")]
+        for options, pace, has_pcr, value, chosen, note in rows:
+            listener = Listener(LineRecorder())
+            part = make_part(0, 9, 0, number=4, recording=make_recording(
+                True, (0, 9) if has_pcr else None), request=make_example_request(
+                    "a.stl", "a.ts", *options.split()))
+            with mock.patch.object(timing, "measure_pace", return_value=(pace, None)), \
+                    mock.patch.object(timing, "find_late_jumps", return_value=([], 0)):
+                new, unchecked = measure_part_pace(part, [], listener)
+            self.check(f"{options} {pace} {has_pcr}", (
+                new.request.pace_word, [(item.value, item.match_count)
+                                        for item in listener.selections], unchecked),
+                (value, chosen, [Unchecked(LOSSES, note, 4)] * bool(note)))
 
     def test_prints_the_pace_of_a_dense_recording(self) -> None:
         pace = Pace(REGULAR, interval=1, loss_interval=3, is_dense=True)

@@ -102,7 +102,7 @@ class PartClocks(unittest.TestCase):
                     "packets", begin, 9, 7, 30, 6, inside, is_continued and begin == 3))
 
     def test_reports_the_pes_packets_of_a_part_and_damage_before_its_end(self) -> None:
-        """Of 9 PES packets that are read, 2 to 6 are in part 4, or none is."""
+        """Of 9 PES packets that are read, part 4 has the packets 2 to 6, or no packet."""
         search, _ = self.make_search()
         line = "range: 5 of 9 PES packets, from 00:00:00:10 to 00:00:00:20"
         cut = "range: name: damage; the recording was read up to this point"
