@@ -422,10 +422,12 @@ def survey_times(times: list[int], jitter: int = 0) -> tuple[list[VideoLead], li
     return leads, find_unusual_steps(list_step_ranges(times), len(times))
 
 
-def read_steps(text: str) -> list[UnusualStep]:
-    """Read steps such as `-3@210 ?1@300` (see dev/vectors/clock-steps.tsv)."""
-    return [UnusualStep(int(number), round(TICKS * float(frames.strip("?"))), TICKS, "?" not in
-                        frames) for frames, number in (item.split("@") for item in text.split())]
+def read_steps(text: str, usual: str = "") -> list[UnusualStep]:
+    """Read steps such as `-3@210 ?1@300` (see dev/vectors/clock-steps.tsv). The usual step is one
+    frame, or `usual` frames."""
+    return [UnusualStep(int(number), round(TICKS * float(frames.strip("?"))), round(
+        TICKS * float(usual or 1)), "?" not in frames)
+            for frames, number in (item.split("@") for item in text.split())]
 
 
 def read_ranges(text: str) -> list[StepRange]:
@@ -457,15 +459,14 @@ class Steps(Case):
 
     def test_finds_steps_that_may_be_jumps_of_the_clock(self) -> None:
         for row in read_vectors("clock-steps.tsv"):
-            found = find_clock_steps(read_steps(row["steps"]), 1000)
+            found = find_clock_steps(read_steps(row["steps"], row["usual"]), 1000)
             self.check(row["name"], " ".join("+".join(
                 str(step.number) for step in steps) for steps in found), row["found"])
 
     def test_finds_steps_that_are_unusual(self) -> None:
         for row in read_vectors("unusual-steps.tsv"):
             unusual = find_unusual_steps(read_ranges(row["ranges"]), 500)
-            self.check(row["name"], [step._replace(usual=TICKS) for step in unusual],
-                       read_steps(row["unusual"]))
+            self.check(row["name"], unusual, read_steps(row["unusual"], row["usual"]))
 
     def test_finds_jumps_before_the_first_lead(self) -> None:
         for away, back in ((10, 20), (20, 40), (20, 60)):
@@ -510,7 +511,7 @@ class Steps(Case):
             name, expected = row["name"], row["moved"] == "yes"
             frames = [*before, *between, *after]
             leads = [VideoLead(0, ticks * ahead, 25 * at) for at, ahead in enumerate(frames, 1)]
-            steps = [UnusualStep(25 * len(before) + 9, ticks, TICKS)]
+            steps = [UnusualStep(25 * len(before) + int(row["at"] or 9), ticks, TICKS)]
             if row["steps"] == "2":
                 back = steps[0].number + 30 * max(len(between), 1) - 10
                 steps.append(UnusualStep(back, -ticks, TICKS))
@@ -560,28 +561,26 @@ class Steps(Case):
             "half a frame, no PTS": ((by_half, [], [TICKS * 150]), False)})
 
     def test_a_step_of_the_pcr_shows_a_jump(self) -> None:
-        # The video jumps by five frames after the last lead but one. The PCR, usually in each
-        # frame, steps by six frames while the Teletext PTS go on by two.
-        leads, unusual = survey_times(make_times({490: 5}))
-        sent = (FIRST_TIME + (490 + LEAD) * TICKS) % CLOCK  # PTS of the Teletext sent at the jump
-        jump = PCRStep(before=sent, after=sent + 2 * TICKS, ticks=6 * TICKS, packets=8,
-                       usual=TICKS, usual_packets=8, counters="whole")
-        rows: dict[str, tuple[PCRStep, bool]] = {
-            "the PCR jumps": (jump, True), "a loss": (jump._replace(counters="broken"), False),
-            "packets for six frames": (jump._replace(packets=48), False),
-            "the Teletext jumps too": (jump._replace(after=sent + 7 * TICKS), False),
-            "by five and a half frames": (jump._replace(ticks=13 * TICKS // 2), False),
-            "a second before": (
-                jump._replace(before=sent - SECOND_TICKS, after=sent - SECOND_TICKS), False),
-            "no Teletext after it": (jump._replace(after=None), False)}
-        for name, (item, expected) in rows.items():
-            marked = mark_pcr_jumps(unusual, leads, [item])
-            self.check(name, [step.has_pcr for step in marked], [expected])
-            self.check(f"{name}, found", self.locate(leads[:-1], marked)[0][1],
-                       5 if expected else None)
-        back = jump._replace(after=sent, ticks=-TICKS // 2, packets=4)  # +0.5 frames are usual
-        self.check("back by a frame", [step.has_pcr for step in mark_pcr_jumps(
-            [unusual[0]._replace(ticks=-TICKS)], leads, [back])], [True])
+        for row in read_vectors("pcr-jumps.tsv"):
+            (jump,), lost = read_steps(row["jump"]), read_steps(row["lost"])
+            # PTS at each lead and at the jump, which wrap around at picture 480
+            pts = {at: (at - 480) * TICKS + sum(step.ticks for step in lost if step.number <= at)
+                   for at in (*range(26, 500, 25), jump.number)}
+            before, after = (None if item == "-" else round(
+                pts[jump.number] + TICKS * float(item)) % CLOCK
+                             for item in (row["before"], row["after"]))
+            step = PCRStep(before, after, round(TICKS * float(row["ticks"])), int(
+                row["packets"] or 8), TICKS, int(row["usual"] or 8), row["counters"])
+            leads = [VideoLead(pts[at] % CLOCK, 0, at) for at in range(26, 500, 25)]
+            self.check(row["name"], [item.has_pcr for item in mark_pcr_jumps(
+                [jump], leads, [step])], [row["marked"] == "yes"])
+
+    def test_a_jump_of_the_pcr_too_is_no_loss_of_pictures(self) -> None:
+        # The video jumps by five frames after the last lead but one.
+        leads, (jump,) = survey_times(make_times({490: 5}))
+        for has_pcr, expected in ((True, 5), (False, None)):
+            self.check(f"{has_pcr}", self.locate(leads[:-1], [jump._replace(has_pcr=has_pcr)])[0][
+                1], expected)
 
     def test_several_steps_may_be_usual(self) -> None:
         for name, steps in {"25 pictures per second, then 50": [3600] * 200 + [1800] * 200,
@@ -591,7 +590,8 @@ class Steps(Case):
 
     def test_measures_the_reordering_of_pictures(self) -> None:
         for row in read_vectors("reordering.tsv"):
-            pictures = [None if pts == "-" else TICKS * int(pts) for pts in row["pts"].split()]
+            pictures = [None if pts == "-" else round(TICKS * float(pts))
+                        for pts in row["pts"].split()]
             result = measure_reordering(pictures, int(row["before"]), read_ranges(row["steps"]),
                                         0, int(row["decoded"]))
             self.check(row["name"], result, TICKS * int(row["frames"]))
