@@ -21,6 +21,7 @@ from subtitles.stream.receiver import (
     BLANK_PAGE, HIT, OLD, OLD_PAGE, ReceivedPackets, SpanIndex, Timeline, clear_unsent_cells,
     decode_pages_around)
 from .parts import make_example_request, make_packets
+from .stories import read_vectors
 from .test_formats_files import refusal
 from .transmissions import PAGE
 
@@ -223,34 +224,15 @@ class ReceivedFrames(unittest.TestCase):
         return Timeline(packets, PAGE, 0, **more)
 
     def test_decodes_the_transmitted_pages(self) -> None:
-        # PES packets (see `make_timeline`), decoded texts with their first frames, frames in which
-        # the page opens or closes, and frames with a header. A PES packet that is faulty or between
-        # two frames is not received; then the text stays until it is erased or another is printed.
-        rows: list[tuple[str, str, str, list[int], list[int]]] = [
-            ("nothing", "", "", [], []),
-            ("before a header", "5:c 7:o:a 10:heo:b", "10 b", [10], [10]),
-            ("a space with a parity error", "10:heo:a\xa0b", "10 a b", [10], [10]),
-            ("repeated", "10:heo:a 20:c 30:heo:a 40:c", "10 a", [10, 20, 30, 40], [10, 30]),
-            ("closed and opened in a frame", "10:heo:a 20:c 20:heo 30:c", "10 a", [10, 30],
-             [10, 20]),
-            ("two texts in a frame", "10:heo:a 10:ho:b 20:ho", "10 b", [10], [10, 20]),
-            ("two headers in a later frame", "10:heo:a 20:ho:b 20:ho", "10 a 20 b", [10], [10, 20]),
-            ("a faulty one", "10:heo:a 15!:heo:b 30:ho", "10 a", [10], [10, 30]),
-            ("two faulty ones", "10:heo:a 15!:heo:b 16!:- 30:ho", "10 a", [10], [10, 30]),
-            ("a faulty one with rows", "10:heo:a 15!:o:b 30:ho", "10 a", [10], [10, 30]),
-            ("one off the frames", "10:heo:a 15.5:heo:b 30:ho", "10 a", [10], [10, 30]),
-            ("a faulty first header", "5:o:a 10!:h 20:ho", "", [20], [20]),
-            ("erased after a faulty one", "10:heo:a 15!:heo:b 30:heo", "10 a 30 b", [10], [10, 30]),
-            ("another text after a faulty one", "10:heo:a 15!:heo:b 20:o:c 30:ho", "10 a 20 c",
-             [10], [10, 30])]
-        for name, sent, pages, open_changes, header_frames in rows:
-            decoded = self.make_timeline(sent)
-            result = " ".join(f"{frame} {page[19].decode().strip()}"
-                              for frame, page in zip(decoded.frames, decoded.pages))
-            self.assertEqual((result, [*decoded.open_changes], [*decoded.header_frames]),
-                             (pages, open_changes, header_frames), name)
-            is_open = len(open_changes) % 2 == 1
-            self.assertEqual(decoded.find_closed_frame(99), None if is_open else 99, name)
+        for row in read_vectors("decoded-pages.tsv"):
+            decoded = self.make_timeline(row["sent"].replace("_", "\xa0"))
+            texts = " ".join(f"{frame} {page[19].decode().strip()}"
+                             for frame, page in zip(decoded.frames, decoded.pages))
+            self.assertEqual((texts, [*decoded.open_changes], [*decoded.header_frames]), (
+                row["decoded"], *([int(frame) for frame in row[name].split()]
+                                  for name in ("opened", "headers"))), row["name"])
+            is_open = len(decoded.open_changes) % 2 == 1
+            self.assertEqual(decoded.find_closed_frame(99), None if is_open else 99, row["name"])
 
     def test_stops_at_a_step_back_after_the_first_frame_of_the_programme(self) -> None:
         for sent, halt, last in (
@@ -297,6 +279,12 @@ class ReceivedFrames(unittest.TestCase):
         self.assertEqual((decoded.first, decoded.last), (750, 1450))
         decoded = decode_pages_around(packets, PAGE, 0, 0, Span(9000, 9100), 25)
         self.assertEqual((decoded.count, decoded.first), (0, NO_FRAME))
+        # PTS that go back by 15 frames before the subtitle, or while it is shown
+        for at, halt in ((95, None), (105, 105)):
+            packets.runs = [*runs[:at], *(run._replace(pts=TICKS * (10 * run.first - 15))
+                                          for run in runs[at:])]
+            decoded = decode_pages_around(packets, PAGE, 0, 0, Span(1000, 1200), 25)
+            self.assertEqual(decoded.halt, halt, at)
 
     def test_begins_with_the_last_rows_that_survey_printed_before_the_range(self) -> None:
         # Of the PES packets 0 to 3 only number 2 is in the range.
