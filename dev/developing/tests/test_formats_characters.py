@@ -91,10 +91,10 @@ class NationalOptions(unittest.TestCase):
 
     def test_names_the_languages_of_each_option(self) -> None:
         self.assertEqual({option.word: option.name for option in OPTIONS}, {
-            row["option"]: row["name"] for row in read_vectors("language-codes.tsv")})
+            row["option"]: row["name"] for row in read_vectors("language-options.tsv")})
 
     def test_chooses_the_option_of_each_language_code_of_subtitle_files(self) -> None:
-        for row in read_vectors("language-codes.tsv"):
+        for row in read_vectors("language-options.tsv"):
             for code in row["codes"].encode().split():
                 self.assertEqual(choose_language_option(code).word, row["option"], code)
         for code in (b"", b" 2", b"\xff\x00"):

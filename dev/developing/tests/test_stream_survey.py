@@ -3,6 +3,7 @@ from __future__ import annotations
 
 import operator
 import os
+import re
 import sys
 from types import SimpleNamespace
 from typing import Any, Callable, Iterable, Sequence
@@ -10,7 +11,7 @@ from unittest import mock
 
 from developing.multiplex import PACKET, PAYLOAD_START
 from developing.pes import decode_pts, make_pes_packet
-from subtitles.common.command_line import ProgramInterrupted
+from subtitles.common.command_line import BUG, ProgramInterrupted, RESOURCE
 from subtitles.common.program import read, TOP
 from subtitles.common.times import CLOCK, TICKS
 from subtitles.formats.teletext import Page
@@ -20,14 +21,15 @@ from subtitles.stream.gaps import explain_refusal
 from subtitles.stream.packets import GapMarker, PacketRun, Packets, PageChange, PCRStep, Texts
 from subtitles.stream.pictures import VideoLead
 from subtitles.stream.proved import (
-    collect_items, compare_lines, End, find_end, find_unproved_number, Item, list_items,
-    SurveyMismatch)
+    collect_items, compare_lines, End, find_end, find_unproved_number, has_proved_numbers, Item,
+    list_items, PacketsCommand, SurveyMismatch)
 from subtitles.stream.survey import (
     Announced, find_first_pages, list_language_codes, ProgramMap, read_stored_survey, Survey,
     survey, survey_runs, VERSION, Video)
 from .bench import Case, get_example_path, read_example_file
 from .judged import judge_files, ProgrammeCase
 from .parts import read_survey
+from .stories import read_vectors
 from .streams import (
     AUDIO, AUDIO_PID, DISCONTINUITY, filler, make_components, make_mpeg_2_picture,
     make_stream_of_pids, make_teletext_descriptor, make_video_packet, PRIVATE, PTS_AHEAD,
@@ -157,6 +159,15 @@ class SurveyAnswers(Case):
                    "PID 0x5: the PMT announces page 888 (eng, subtitles) in programme 1; subtitle "
                    f"pages sent: 210 211 212 213 214 215 216 217 218 219 220 221{more}"])
               for count, more in ((12, ""), (13, " and 1 more"), (14, " and 2 more"))),
+            ("programme 1 9; stream 5 6; announce 5 888 656e67 1; announce 5 889 656e67 3; "
+             "announce 5 150 656e67 4; announce 5 151 1b5b41 5; announce 5 8FF 656e67 6; "
+             "teletext 7; teletext 5", lambda it: it.lines(), [
+                 "PID 0x5: the PMT announces page 888 (eng, initial page) in programme 1, page 889 "
+                 "(eng, additional information) in programme 1, page 150 (eng, programme schedule) "
+                 "in programme 1, page 151 (\\x1b[A, subtitles for the hard of hearing) in "
+                 "programme 1, page 8FF (eng, of an unknown kind) in programme 1; subtitle pages "
+                 "sent: none",
+                 "PID 0x7: the PMT announces nothing; subtitle pages sent: none"]),
             # A PMT is dated by the last PCR on its PCR PID, or else on one of its eight previous
             # PCR PIDs.
             *((f"pcr 9 5; programme 1 9; pcr 9 8; {more}",
@@ -317,40 +328,40 @@ class Comparison(Case):
     """Items (PES packets and gap markers) that `survey` printed, and lines of `packets`, which ends
     at the first PES packet that it refuses (`refused 45 Lost` for a gap marker)."""
 
-    FIRST, GAP, LAST = Item(3, pts=70), Item(4, pts=None, fault=45), Item(5, pts=90)
-    FIRST_LINE, LAST_LINE = "pes 3 pts 70", "pes 5 pts 90"
+    def test_compares_the_items_of_survey_with_the_lines_of_packets(self) -> None:
+        for row in read_vectors("proved-packets.tsv"):
+            numbers = [re.split("([!:])", item) for item in row["survey"].split()]
+            items = [Item(int(number), int(value)) if sign == ":" else
+                     Item(int(number), None, int(value)) for number, sign, value in numbers]
+            end, *faults = map(int, row["end"].split())
+            try:
+                number = compare_lines(iter(items), filter(None, row["packets"].split("; ")),
+                                       End(end, faults))
+                found = "" if number is None else f"{number}", ""
+            except SurveyMismatch as reason:
+                found = "", str(reason)
+            self.check(row["name"], found, (row["again"], row["error"]))
 
-    def test_returns_the_pes_packet_from_which_packets_must_be_called_again(self) -> None:
-        too_long = [Item(4, pts=None, fault=32), Item(5, pts=None, fault=32)]
-        self.check_rows(lambda items, lines, end: compare_lines(iter(items), lines, end), {
-            "all read": (([self.FIRST], [self.FIRST_LINE, "1 pes"], End(99)), None),
-            "it ended at a gap marker": (
-                ([self.FIRST, self.GAP, self.LAST], [self.FIRST_LINE, "refused 45 Lost pes 4"],
-                 End(99)), 5),
-            "the call after that": (([self.LAST], [self.LAST_LINE, "1 pes"], End(99)), None),
-            "after fault 32, `check` does not read on": (
-                ([self.FIRST, *too_long], [self.FIRST_LINE, "refused 32 Length pes 4"], End(99)),
-                None),
-            "other data after the last item, as `survey` found": (
-                ([self.LAST], [self.LAST_LINE, "refused 31 Start pes 6"], End(6, {31})), None)})
-
-    def test_raises_an_error_if_survey_and_packets_differ(self) -> None:
-        first, line, items = [self.FIRST], self.FIRST_LINE, [self.FIRST, self.GAP, self.LAST]
-        rows: dict[str, tuple[list[Item], list[str]]] = {
-            "another number": (items, ["pes 2 pts 70", "1 pes"]),
-            "another PTS": (first, ["pes 3 pts 71", "1 pes"]),
-            "a fault that packets does not find": ([Item(3, None, 33)], [line, "1 pes"]),
-            "one PES packet too few": (first, ["0 pes"]),
-            "one too many": (first, [line, "pes 4 pts 80", "2 pes"]),
-            "another count": (first, [line, "2 pes"]),
-            "survey omits a gap marker": ([self.FIRST, self.LAST], [line, "refused 45 Lost pes 4"]),
-            "another fault": (items, [line, "refused 33 Flags pes 4"]),
-            "survey read past the end": (first, [line, "refused 31 Start pes 4"]),
-            "packets ended earlier": (first, ["refused 31 Start pes 3"]),
-            "no last line": (first, [line]), "no line": ([], [])}
-        for name, (known, lines) in rows.items():
-            with self.subTest(name), self.assertRaises(SurveyMismatch):
-                compare_lines(iter(known), lines, End(5, {32}))
+    def test_calls_packets_with_the_options_of_the_pid_for_25_pes_packets(self) -> None:
+        packets = Packets(PID, [PacketRun(0, 1, 5, 0, "h", "")])
+        # The lines and the exit status of `packets`; whether `survey` has the same numbers, or the
+        # kind of the error
+        for lines, status, expected in (
+                (["pes 0 pts 5", "1 pes"], 0, True), (["pes 0 pts 6", "1 pes"], 0, False),
+                (["pes 0 pts 5", "refused 31 Start pes 1"], 1, False),
+                (["pes 0 pts 5", r"\377"], 0, False), (["pes 0 pts 5", "1 pes"], 2, RESOURCE),
+                (["pes 0 pts 5", "1 pes"], 3, BUG)):
+            program = self.write_program("program", "\n".join([
+                "#!/bin/sh", f"echo \"$*\" >{self.path('args')}", "echo other",
+                *(rf"printf '{line}\n'" for line in lines), f"exit {status}"]))
+            try:
+                result: object = has_proved_numbers(
+                    PacketsCommand(program, "-one.ts", ["--pid", "0x5"]), packets)
+            except ProgramInterrupted as reason:
+                self.check("message", str(reason), f"packets ended with status {status}")
+                result = reason.kind
+            self.check(f"{lines} {status}", (result, self.read("args")), (
+                expected, b"packets --pid 0x5 --pes 0-24 -- -one.ts\n"))
 
     def test_lists_items_as_packets_counts_them(self) -> None:
         packets = Packets(PID, [
@@ -476,14 +487,9 @@ class ExtractMessages(Case):
                    sorted(row[0] for row in UNREADABLE_PIDS))
 
     def test_names_the_languages_of_ebu_tech_3264(self) -> None:
-        # The language code LC of a subtitle file, and the codes of ISO 639-2 that a PMT may have
-        for code, expected in (
-                ("09", "eng"), ("08", "deu ger"), ("0A", "spa"), ("0a", "spa"), ("28", "swe"),
-                ("27", "fin"), ("15", "ita"), ("0F", "fra fre"), ("06", "ces cze"), ("1B", "hun"),
-                ("21", "por"), ("25", "slk slo"), ("07", "dan"), ("1D", "nld dut"), ("20", "pol"),
-                ("1E", "nor nob nno"), ("22", "ron rum"), ("26", "slv"), ("29", "tur"),
-                ("7f", ""), ("00", ""), ("x", ""), ("", "")):
-            self.check(code, list_language_codes(code), expected.split())
+        for row in read_vectors("language-codes.tsv"):
+            self.check(f"{row['lc']} {row['language']}", list_language_codes(row["lc"]),
+                       row["codes"].split())
 
 
 class ConvertedStreams(Case):
