@@ -17,9 +17,9 @@ from subtitles.stream.gaps import (
     describe_gap_markers, do_overlap, find_loss_places, find_pts_delay, find_recorded_range,
     LossPlace, MAX_LATE, SECOND)
 from subtitles.stream.pace import (
-    compute_pace, count_distances, estimate_packets_per_pes, find_hidden_loss, find_pauses,
-    find_silences, find_usual_distance, list_frame_rows, MAX_EXCEPTIONS, PAUSED, Pauses, REGULAR,
-    Silence)
+    BY_EVERY, compute_pace, count_distances, estimate_packets_per_pes, find_hidden_loss,
+    find_pauses, find_silences, find_usual_distance, list_frame_rows, MAX_EXCEPTIONS, PAUSED,
+    Pauses, REGULAR, Silence)
 from subtitles.stream.packets import GapMarker, PacketRun, Packets, PCRStep
 from subtitles.stream.repeats import list_cue_frames
 from subtitles.stream.survey import ProgramMap, Survey
@@ -69,6 +69,8 @@ class PaceDecisions(Case):
     def test_returns_the_usual_interval_or_the_longest_pause_and_the_shortest_loss(self) -> None:
         self.check_rows(lambda *arguments: compute_pace(*arguments)[:3], {
             "regular, one loss": (([[*range(10), *range(30, 5000)]], 2, 250), (REGULAR, 1, 3)),
+            "many, far apart": (([range(0, 20_000, 100)], 1, 250), (BY_EVERY, 100, 300)),
+            "few, far apart": (([range(0, 500, 100)], 1, 250), (BY_EVERY, 100, 0)),
             "a pause of 301 frames": (
                 ([[*range(10), *range(310, 5000)]], 1, 999, [(0, 9)]), (PAUSED, 301, 3)),
             "two pauses, and a loss in a subtitle": (
@@ -104,7 +106,7 @@ class PaceDecisions(Case):
                 "fewer than 1 in 20": (({0: 1901, 2: 99},), None),
                 "1 in 20 is seven frames": (({0: 1800, 5: 99, 7: 101},), 7),
                 "1 in 100 is longer": (({1: 1980, 2: 20},), 1),
-                "more than 1 in 100": (({1: 1979, 2: 21},), None),
+                "more than 1 in 100": (({1: 9800, 2: 100},), None),
                 "1 in 100, and three losses": (({1: 1977, 2: 20, 9: 3},), None),
                 "1 in 100, among them three losses": (({1: 1980, 2: 17, 9: 3},), 1),
                 "four losses": (({1: 1996, 9: 4},), None),
