@@ -586,11 +586,13 @@ class WrittenFiles(Case):
                              "--csv", "1.csv", "--junit", "1.xml", data=piped)
             self.check(name, (call.status, sorted(os.listdir(self.path("out")))),
                        (0, ["888.html", "888.json", "888.stl", "888.txt"]))
+        self.write("888.stl", b"theirs")
         self.tool("read", sent, "--page", "888", "--json", "without -o.json")
         for name in ("without -o.json", "1.json"):
             result = json.loads(self.read(name))
-            self.check(f"sum in {name}", result["inputs"]["recording"]["sha256"],
-                       hashlib.sha256(data).hexdigest())
+            self.check(f"sum in {name}, subtitle file", (
+                result["inputs"]["recording"]["sha256"], result["files_at_start"]["stl"]),
+                (hashlib.sha256(data).hexdigest(), None))
         self.check("subtitles", len(self.read("1.csv").splitlines()) - 2, len(result["subtitles"]))
         call = self.tool("qc", "--collect", "out", "--junit", "all.xml")
         self.must("collected", call.status == 0 and b"1 pair: 1 as shown" in call.out, call)
