@@ -393,7 +393,7 @@ class Profiles(Case):
                         lines=["two", "both"], repeats=[Repeats(8, 50, 9, 26, [(75, 60), (5, 30)])],
                         paces=[Pace(REGULAR, 2, 5)], delays=[early], headers=(30, 2),
                         off_frame=(1, 40)),
-                    MEASURED._replace(delays=[LATE], off_frame=(0, 30)),
+                    MEASURED._replace(delays=[LATE], off_frame=(0, 30), is_alone=False),
                     MEASURED._replace(repeats=[Repeats(3, 40, 9, None)])]),
                 "two": (requests[2:], [
                     MEASURED._replace(pid=None, paces=[Pace(PAUSED, 2, 5)], headers=(9, 5),
