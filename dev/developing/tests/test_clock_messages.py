@@ -319,24 +319,18 @@ class FirstPictures(unittest.TestCase):
         return compute_start_clock(request, survey_lines(lines), packets)
 
     def test_the_clock_of_the_first_picture_is_shifted_to_the_nearest_teletext_pts(self) -> None:
-        # By how many ticks the PTS of Teletext are later than frames of the pictures, --within, and
-        # by how many ticks the clock is shifted (`None`: it is unclear). The most common distance
-        # counts, but with --within one of at most a quarter of a frame is preferred.
-        rows: list[tuple[list[int], int, int | None, str]] = [
-            ([0], 0, 0, "agrees"), ([1], 0, 1, "shifted forward by 1 tick "),
-            ([1799], 0, 1799, "forward"), ([1800], 0, None, ""), ([1801], 0, -1799, "back"),
-            ([3599], 0, -1, "shifted back by 1 tick "), ([1800, 1800, 5], 0, None, ""),
-            ([1800, 1800, 5], 1, 5, "shifted forward by 5 ticks")]
-        for first, (ticks, within, shift, words) in itertools.product((0, CLOCK - 3), rows):
-            pts = [first + TICKS * (7 + at) + later for at, later in enumerate(ticks)]
-            if shift is None:
+        for first, row in itertools.product((0, CLOCK - 3), read_vectors("picture-clocks.tsv")):
+            pts = [first + TICKS * (7 + at) + int(later)
+                   for at, later in enumerate(row["ticks"].split())]
+            within = int(row["--within"])
+            if not row["shift"]:
                 with self.assertRaises(Unclear):
                     self.start(list_picture_lines(first), pts, within)
                 continue
             start = self.start(list_picture_lines(first), pts, within)
-            origin = (first - 2 * TICKS + shift) % CLOCK
-            self.assertEqual((start.clock, start.frame), (Clock(origin, START), 2), (first, ticks))
-            self.assertIn(words, start.lines[1], (first, ticks))
+            origin = (first - 2 * TICKS + int(row["shift"])) % CLOCK
+            self.assertEqual((start.clock, start.frame), (Clock(origin, START), 2), (first, row))
+            self.assertTrue(start.lines[1].endswith(f", {row['words']}"), (first, row, start))
 
     def test_gives_the_distance_to_the_other_picture_of_the_group_in_frames(self) -> None:
         lines = [*list_picture_lines(TICKS, 0), f"group {VIDEO} 0 0 open"]
