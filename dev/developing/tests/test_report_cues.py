@@ -214,14 +214,23 @@ class TextMarkup(Case):
                            for item in mark_difference(first, second))
             self.check(f"{first} {second}", marked, expected)
 
-    def test_shows_the_first_200_of_203_wrong_rows(self) -> None:
+    def test_shows_another_decoded_text_only_if_there_is_a_cause(self) -> None:
+        cue_list: Any = SimpleNamespace(option=0)
+        for cause, text in ((None, "Own"), (Cause(0, LATE, 1, None, None, "", 0),
+                                            "<mark>Own</mark><br/><mark>Let</mark>")):
+            self.check(f"{cause}", markup_text(CueList.make_text_cell(
+                cue_list, Cue(FIRST, page(b"Own"), cause, page(b"Let")))), text)
+
+    def test_shows_the_first_200_of_1203_wrong_rows_besides_repeated_ones(self) -> None:
         result: Any = SimpleNamespace(
-            rows=[CueRow(at, look, [], [at]) for look in ("ok", "bad") for at in range(203)],
+            rows=[CueRow(at, look, [], [at], is_repeated=look == "bad" and at == 5)
+                  for look in ("ok", "bad") for at in range(1203)],
             part=SimpleNamespace(number=1, recording="one.pes"), kinds=[], make_caption=lambda: "")
         text = markup_text(CueList.make_list(result))
-        self.check("rows", (text.count('class="bad"'), text.count('class="bad more"')), (200, 3))
-        self.must("right rows", "203 right subtitles" in text, text[:900])
-        self.must("omitted rows", "and 3 more rows" in text, text[:900])
+        self.check("rows", [text.count(f'class="{name}"') for name in (
+            "bad", "bad again", "bad more")], [200, 1, 1002])
+        self.must("right rows", "1203 right subtitles" in text, text[:900])
+        self.must("omitted rows", "and 1,003 more rows" in text, text[:900])
 
     def test_a_row_repeats_the_row_before_with_the_same_cause_delay_and_faults(self) -> None:
         causes = [Cause(0, name, frames, None, None, "", 0) for name, frames in (
@@ -271,16 +280,10 @@ class RefusedFiles(Case):
                    '<a href="#n57">57 X</a> block 1')
 
     def test_marks_the_byte_or_line_that_a_fault_names(self) -> None:
-        # Faults of a subtitle whose text is "a b", and on the next line "c". They are at a byte (50
-        # and 51) or at a line (52 to 55).
-        for lines, marked in (
-                ((), "a b<br/>c"), (("refused 50 X block 2 at 0",), "<mark>a</mark> b<br/>c"),
-                (("refused 51 X block 2 at 4",), "a b<br/><mark>c</mark>"),
-                (("refused 52 X block 2 at 1",), "a b<br/><mark>c</mark>"),
-                (("refused 55 X block 2 at 0", "refused 50 X block 2 at 2"),
-                 "<mark>a <mark>b</mark></mark><br/>c"), (("refused 21 X block 2",), "a b<br/>c")):
-            faults = [parse_single_fault(line) for line in lines]
-            self.check(f"{lines}", markup_text(mark_text(b"a b\x8ac", faults)), marked)
+        for row in read_vectors("marked-texts.tsv"):
+            faults = [parse_single_fault(f"refused {place}") for place in filter(
+                None, row["faults"].split("; "))]
+            self.check(row["faults"], markup_text(mark_text(b"a b\x8ac", faults)), row["text"])
 
     def test_shows_a_byte_as_a_character_or_as_a_hexadecimal_number(self) -> None:
         self.check("bytes", [markup_text(show_byte(byte)) for byte in (0x20, 0x3C, 0x7E, 0x7F, 0x0B)
