@@ -11,7 +11,7 @@ import xml.etree.ElementTree as tree
 from unittest import mock
 
 from subtitles.cli.single import lock_pair
-from subtitles.common.command_line import counted
+from subtitles.common.command_line import Stop, counted
 from subtitles.common.program import TOP
 from subtitles.recording import recording
 from .bench import Case, CompletedCall, get_example_path, get_tool_path, read_example_file, SECONDS
@@ -87,6 +87,10 @@ class PipedRecordings(Case):
         self.must("message of the pipe that is too long", result.stderr[-1].endswith(
             f" has not ended after {limit:,} bytes: judge an endless feed with tools/air"),
             result.stderr)
+        with self.assertRaisesRegex(Stop, "^standard input has"), mock.patch.object(
+                recording, "MAX_PIPED_BYTES", 1), mock.patch.object(
+                    recording, "read_chunks", return_value=[b"ab"]):
+            recording.copy_piped("-", self.path("copy"), mock.Mock())
 
     def test_reports_a_pipe_that_it_cannot_copy_completely(self) -> None:
         """The pipe contains more than the 200 KiB that the shell allows qc to write to a file."""

@@ -455,6 +455,10 @@ class JudgedRecordings(ProgrammeCase):
             verdict = self.judge_stream(make_stream_with_late_tables(self.pes, count)).verdict
             self.check(f"{count}", (verdict.word, [part.pes for part in verdict.parts]),
                        ("accepted", [(0, len(self.pes) - 1)]))
+            recording, _ = verdict.parts[0].judged_recording
+            by_pid = recording.survey.by_pid
+            self.check(f"{count}: PIDs", (by_pid.keys(), by_pid[PID] is recording.packets),
+                       ({PID, SCRAMBLED_PID}, True))
 
 
 # PIDs with the number of their TS packets, the number of these that are scrambled, the number of
