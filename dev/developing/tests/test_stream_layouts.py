@@ -209,15 +209,6 @@ HIDING_ITEMS = [
 HARMLESS_ITEMS = [
     ("trim", SPACES), ("pack", SentText(b"Hi\x8a\x8aHo", b"Hi\x8aHo")), ("strip=07", WHITE),
     ("strip=09", SentText(b"\x09Hi", b"Hi")), ("strip=00", SentText(b"\x00Hi", b"Hi"))]
-# Layouts, with a pair for each of their items: the item alone, and the layout without it.
-ITEMS = [
-    ("strip=0307", [("strip=03", "strip=07"), ("strip=07", "strip=03")]),
-    ("before=0D*0B0B", [("before=0D*0B0B", ""), ("before=0D*0B0B", "before=0D0B0B")]),
-    ("before=*0B0B", [("before=*0B0B", "")]), ("before=070B0B", [("before=070B0B", "")]),
-    ("before=0B0B*07", [("before=0B0B*07", ""), ("before=0B0B*07", "before=0B0B07")]),
-    ("after=0A,fit,left=2", [("after=0A", "fit,left=2"), ("fit", "after=0A,left=2"),
-                             ("left=2", "after=0A,fit")]),
-    ("", [])]
 
 
 def read_intended_layout(text: str) -> Layout:
@@ -252,13 +243,16 @@ def format_rejected_items(choice: LayoutChoice) -> list[tuple[str, int]]:
 
 class ItemDecisions(Case):
     def test_adds_and_removes_each_item_of_a_layout(self) -> None:
-        for text, items in ITEMS:
-            layout = read_intended_layout(text)
+        for row in read_vectors("layout-items.tsv"):
+            text, layout = row["layout"], read_intended_layout(row["layout"])
+            items = [(alone, rest.strip("-")) for alone, rest in zip(
+                row["alone"].split(), row["without"].split())]
             self.check(text, [(format_layout(add_items(PLAIN, [item], layout)),
                                format_layout(remove_items(layout, [item])))
                               for item in list_items(layout)], items)
             self.check(f"{text}, all items", (remove_items(layout, list_items(layout)), add_items(
                 PLAIN, list_items(layout), layout)), (PLAIN, layout))
+        self.check("the default layout", list_items(PLAIN), [])
 
     def test_finds_items_that_only_the_operator_can_accept(self) -> None:
         for row in read_vectors("questionable-items.tsv"):
