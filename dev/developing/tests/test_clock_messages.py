@@ -438,19 +438,11 @@ class FirstPictures(unittest.TestCase):
                              "packet of PID 0x101" if is_refused else "", (skipped, number))
 
     def test_counts_frames_without_a_pts(self) -> None:
-        # The PTS of pictures, whether the recording ends with them, and the number of frames
-        # between them that have no picture. The last 16 pictures are ignored if the recording ends
-        # with them, or if the pictures last more than ten seconds (250 frames).
-        frame, field = TICKS, TICKS // 2
-        long = [frame * item for item in range(260)]
-        for pts, is_cut, count in (
-                ([0], False, 0), ([frame * item for item in GROUP], False, 0),
-                ([field * item for item in GROUP], False, 0), ([0, frame + field // 2], False, 0),
-                ([0, frame + field // 2 + 1], False, 0), ([0, 2 * frame], False, 1),
-                ([0, 4 * frame, 6 * frame], False, 4), ([0, frame, 3 * frame], True, 0),
-                ([0, 2 * frame, *(frame * item for item in range(3, 18))], True, 0),
-                ([0, 2 * frame, *(frame * item for item in range(3, 19))], True, 1),
-                ([*long[:250], long[251]], False, 0), ([*long[:100], *long[101:]], False, 1),
-                ([*long[:245], *long[246:251]], False, 1),
-                ([(CLOCK - frame + item) % CLOCK for item in (0, frame, 3 * frame)], False, 1)):
-            self.assertEqual(count_skipped(pts, is_cut), count, (pts[:5], is_cut))
+        for first, row in itertools.product((0, CLOCK - TICKS), read_vectors(
+                "skipped-pictures.tsv")):
+            frames = list[float]()
+            for begin, _, end in (item.partition("-") for item in row["frames"].split()):
+                frames += range(int(begin), int(end) + 1) if end else [float(begin)]
+            pts = [(first + round(TICKS * frame)) % CLOCK for frame in frames]
+            self.assertEqual(count_skipped(pts, row["cut"] == "yes"), int(row["skipped"]),
+                             (first, row))
