@@ -474,7 +474,8 @@ class WholeCalls(Case):
 
     def test_asks_for_the_pid_if_the_page_is_on_two(self) -> None:
         data = self.read(schedule_random_programme(self))
-        self.write("two.ts", make_stream_of_pids((0x101, data), (0x102, data)))
+        other = self.read(self.schedule(self.path("one.stl"), "other.pes", "--page", "777"))
+        self.write("two.ts", make_stream_of_pids((0x101, data), (0x102, data), (0x103, other)))
         call = self.read_pages("two.ts")
         reason = self.result()["reason"]
         self.must("both", call.status == 2 and "page 888 is sent on 2 PIDs" in reason, call)
