@@ -89,7 +89,7 @@ class Installation(Case):
     def install_from_private_clone(self, change: str = "true") -> CompletedCall:
         """Copy the repository to clone/, run the command `change`, and install from the copy."""
         return self.call(["sh", "-c", f"""umask 077 && mkdir clone &&
-            cp -r "$1"/tools "$1"/docs "$1"/examples "$1"/*.md "$1"/VERSION clone && {change} &&
+            cp -rL "$1"/tools "$1"/docs "$1"/examples "$1"/*.md "$1"/VERSION clone && {change} &&
             clone/tools/install -p "$2" prefix""", "sh", TOP, self.bench.program])
 
     def test_installed_tools_run_from_a_moved_folder(self) -> None:
