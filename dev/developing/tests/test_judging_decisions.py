@@ -30,6 +30,7 @@ from subtitles.stream.receiver import BLANK_PAGE, PACKETS_PER_PAUSE, Rows, Timel
 from subtitles.stream.survey import Announced
 from .bench import Case
 from .parts import make_example_request, make_default_options, survey_packets, decode_packets
+from .stories import read_vectors
 from .transmissions import CLOSING, HEADER, PAGE, make_numbered_row, write_subtitle_file
 
 
@@ -125,20 +126,13 @@ def make_subtitle(index: int, begin: int) -> Subtitle:
 
 class SubtitleFiles(Case):
     def test_warns_unless_subtitles_in_the_language_are_announced(self) -> None:
-        stl = self.write("one.stl", make_gsi_block(b"", 0, 0, language=b"09"))
-        request = make_example_request(stl, "one.ts")
-        # The types and languages of the page in the PMT, and the kinds of warnings. The type is 2
-        # or 5 for subtitles. The language of the file is English.
-        for kinds, languages, expected in (
-                ((2,), ("eng",), []), ((1,), ("eng",), ["type"]), ((1, 5), ("eng", "eng"), []),
-                ((5, 1), ("ger", "eng"), []), ((2, 2), ("ger", "fre"), ["language", "option"]),
-                ((1, 3), ("ger", "ger"), ["type", "language", "option"]),
-                ((2,), ("ENG",), []), ((2,), ("und",), []), ((2,), ("mul",), []),
-                ((2, 2), ("ger", "mul"), []), ((2,), ("GER",), ["language", "option"]),
-                ((2,), ("pol",), ["language", "option"])):
-            own = [Announced(PAGE, language, kind) for kind, language in zip(kinds, languages)]
-            result = [warned.kind for warned in find_page_notices(own, request)]
-            self.check(f"{kinds} {languages}", result, expected)
+        for row in read_vectors("announced-pages.tsv"):
+            stl = self.write("one.stl", make_gsi_block(b"", 0, 0, language=row["LC"].encode()))
+            own = [Announced(PAGE, language, int(kind)) for kind, language in (
+                item.split() for item in row["announced"].split(", "))]
+            notices = find_page_notices(own, make_example_request(stl, "one.ts"))
+            self.check(f"{row['LC']}: {row['announced']}", " | ".join(
+                f"{notice.kind}: {notice.line}" for notice in notices), row["warnings"])
 
     def test_warns_of_each_packet_with_another_character_set(self) -> None:
         # Packet, designation, region and option. The second packet names the expected set.

@@ -234,9 +234,11 @@ class Notices(Case):
 
     def test_a_comment_may_be_counted_as_a_subtitle(self) -> None:
         comment = make_tti_block(2, 30, 40, 20, 2, b"", comment=1)
-        for count in (1, 2):
-            self.assertEqual(self.list_count_notices(
-                make_gsi_block(b"", 2, count) + FIRST_BLOCK + comment), [], count)
+        wrong = "subtitles", "the GSI block counts 3 subtitles (TNS), but there is 1: is the " \
+            "subtitle file complete?"
+        for count in (1, 2, 3):
+            self.assertEqual(self.list_count_notices(make_gsi_block(
+                b"", 2, count) + FIRST_BLOCK + comment), [wrong] * (count == 3), count)
 
     def test_formats_a_count_with_the_right_verb(self) -> None:
         self.assertEqual([format_presence(item) for item in (0, 1, 2, 1234)],
@@ -261,9 +263,9 @@ class Notices(Case):
 
     def test_warns_of_a_repeat_limit_that_is_too_long(self) -> None:
         # The frames between headers, --every, and a part of the warning, from over twice on.
-        for step, every, words in ((25, 51, "25 frames: give --every 25 "), (25, 50, ""),
-                                   (25, 25, ""), (1, 3, "frame: give --every 1 "), (1, 2, ""),
-                                   (2, 5, "2 frames")):
+        for step, every, words in ((25, 51, "every 25 frames: give --every 25 "), (25, 50, ""),
+                                   (25, 25, ""), (1, 3, "every frame: give --every 1 "), (1, 2, ""),
+                                   (2, 5, "every 2 frames")):
             headers = [TICKS * frame for frame in range(0, 600, step)]
             request = make_example_request("one.stl", "one.pes", "--every", str(every))
             lines = [item.line for item in find_repeat_notices(headers, request, 0, [(0, 599)])]
