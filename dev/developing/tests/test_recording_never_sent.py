@@ -13,9 +13,9 @@ from developing.pes import decode_pts, make_pes_packet
 from subtitles.common.command_line import ReportedError
 from subtitles.common.times import CLOCK, find_frame_of_day, TICKS
 from subtitles.recording.notices import (
-    Announcement, find_announcements, find_origin, find_recorded_time, find_silent_pids,
-    find_timing_notices, find_unsent, is_all_read, is_page_expected, NeverSent, Notice,
-    refuse_other_pid, refuse_unsent_page)
+    Announcement, explain_never_sent, find_announcements, find_origin, find_recorded_time,
+    find_silent_pids, find_timing_notices, find_unsent, is_all_read, is_page_expected, NeverSent,
+    Notice, refuse_other_pid, refuse_unsent_page)
 from subtitles.recording.recording import Recording, refuse_stream
 from subtitles.request.commands import OutputNames
 from subtitles.request.request import Unclear
@@ -25,6 +25,7 @@ from subtitles.stream.survey import Survey
 from .bench import Case
 from .judged import judge_files, JudgedPair, ProgrammeCase
 from .parts import make_example_request, make_packets, read_survey
+from .stories import read_vectors
 from .streams import (
     CarriedPackets, make_planned_stream, multiplex_programmes, NEW, OLD, Programme, VIDEO_PID)
 from .test_correct_recordings import make_service_stream
@@ -102,28 +103,27 @@ class Announcements(Case):
             unsent = find_unsent(shifted, carriers, (begin - 15 * SECOND) % CLOCK, 5 * SECOND)
             self.check(f"{name}: over the wrap", unsent is None, expected is None)
 
+    def test_names_the_pids_of_a_page_that_was_never_sent(self) -> None:
+        known = Survey()
+        known.by_pid = {FIRST_PID: Packets(FIRST_PID, packets=5), THIRD_PID: Packets(THIRD_PID)}
+        for row in read_vectors("never-sent.tsv"):
+            pids, carriers = ([int(pid, 16) for pid in row[column].split()]
+                              for column in ("announced", "carriers"))
+            self.check(row["announced"], explain_never_sent(known, PAGE, pids, carriers),
+                       row["message"])
+
     def test_finds_programmes_that_never_send_the_page(self) -> None:
-        # The lines of `survey`, the PIDs that carry the page, and the PIDs of programmes that
-        # announce the page and never send it.
-        first, second = make_pmt_lines(1, FIRST_PID), make_pmt_lines(2, SECOND_PID)
-        rows: dict[str, tuple[list[str], set[int], set[int]]] = {
-            "the only programme sends it": (first, {FIRST_PID}, set()),
-            "one of two": ([*first, *second], {FIRST_PID}, {SECOND_PID}),
-            "two of three": ([*first, *second, *make_pmt_lines(3, THIRD_PID)],
-                             {FIRST_PID, SECOND_PID}, {THIRD_PID}),
-            "both of two": ([*first, *second], {FIRST_PID, SECOND_PID}, set()),
-            "none of two": ([*first, *second], set(), set()),
-            "a PID that no programme has": ([*first, *second], {THIRD_PID}, set()),
-            "one of two PIDs of a programme": (make_pmt_lines(1, FIRST_PID, SECOND_PID),
-                                               {FIRST_PID}, set()),
-            "a PID of two programmes": ([*first, *make_pmt_lines(2, FIRST_PID)], {FIRST_PID},
-                                        set())}
-        for name, (lines, carriers, expected) in rows.items():
+        for row in read_vectors("silent-programmes.tsv"):
+            name, lines = row["name"], list[str]()
+            for number, *pids in map(str.split, row["announced"].split(", ")):
+                lines += make_pmt_lines(int(number), *(int(pid, 16) for pid in pids))
+            carriers, expected = ({int(pid, 16) for pid in row[column].split()}
+                                  for column in ("carriers", "silent"))
             self.check(name, find_silent_pids(list_announcements(*lines), carriers), expected)
             for pes in (None, (0, 9)):  # --pes decides which programme is meant
-                pids = [f"--pid 0x{pid:X}" for pid in sorted(carriers | expected)]
+                commands = [f"--pid 0x{pid:X}" for pid in sorted(carriers | expected)]
                 self.check(f"{name}: commands with --pes {pes}", self.describe_unclear(
-                    lines, carriers, pes), pids if expected and pes is None else None)
+                    lines, carriers, pes), commands if expected and pes is None else None)
 
     def describe_unclear(self, lines: list[str], carriers: set[int], pes: tuple[int, int] | None) \
             -> list[str] | None:
@@ -475,24 +475,15 @@ class ChosenPids(Case):
             self.check(f"{count}", (packets.pid, packets.count), (PES, count))
 
     def test_distinguishes_files_pipes_and_streams(self) -> None:
-        file, pipe = stat.S_IFREG, stat.S_IFIFO
-        # The name, the type, the TS packet size (0: PES packets), whether the recording is stored
-        # first, and the name shown for it and the ending of the kept copy
-        rows: list[tuple[str, int, int, bool, tuple[str, str | None]]] = [
-            ("one.ts", file, 188, False, ("one.ts", "recording.pes")),
-            ("one.ts", file, 204, False, ("one.ts", "recording.pes")),
-            ("one.ts", file, 0, False, ("one.ts", None)),
-            ("one.ts", pipe, 192, True, ("one.recording.ts", "recording.ts")),
-            ("one.ts", pipe, 0, True, ("one.recording.pes", "recording.pes")),
-            ("-", file, 188, True, ("one.recording.ts", "recording.ts")),
-            ("-", pipe, 0, True, ("one.recording.pes", "recording.pes"))]
-        for name, kind, packet_size, is_piped, expected in rows:
-            item = make_recording(read_survey(f"size {packet_size}"), name=name, kind=kind)
+        types = {"file": stat.S_IFREG, "pipe": stat.S_IFIFO}
+        for row in read_vectors("kept-recordings.tsv"):
+            name, size = row["name"], int(row["packet size"])
+            item = make_recording(read_survey(f"size {size}"), name=name, kind=types[row["type"]])
             item.packets = Packets(FIRST_PID)
-            self.check(f"{name} {kind} {packet_size}", (
-                item.is_piped, item.path, item.stream(), (item.display_name, item.kept_ending)), (
-                    is_piped, "one.recording" if is_piped else name,
-                    (FIRST_PID, packet_size) if packet_size else None, expected))
+            self.check(" ".join(row.values()), (
+                item.path, item.is_piped, item.stream(), item.display_name, item.kept_ending), (
+                    row["read"], row["read"] != name, (FIRST_PID, size) if size else None,
+                    row["shown"], row["ending"] or None))
 
     def test_reports_files_that_are_no_recordings(self) -> None:
         # The first bytes, the TS packet size that `survey` found (0: PES packets), and the message
@@ -515,10 +506,35 @@ class Messages(Case):
         self.assertTrue(all(map(str.__contains__, lines, expected)), (lines, expected))
 
     def test_counts_the_pes_packets_with_a_header_of_the_page(self) -> None:
-        recording = make_recording(read_survey("size 188", f"pes {FIRST_PID} 0 3 0 9 he/0 1 0",
-                                               f"pes {FIRST_PID} 3 2 50 9 -/ 1 0"))
-        recording.find_packets()
-        self.check_lines(recording.listener.lines, ["3 of 5 PES packets have a header of page 888"])
+        for count, words in ((1, "1 of 5 PES packets has"), (3, "3 of 5 PES packets have")):
+            recording = make_recording(read_survey(
+                "size 188", f"pes {FIRST_PID} 0 {count} 0 9 he/0 1 0",
+                f"pes {FIRST_PID} {count} {5 - count} 50 9 -/ 1 0"))
+            recording.find_packets()
+            self.check(words, recording.listener.lines, [
+                f"PID 0x101: {words} a header of page 888; no other PID sends the page"])
+
+    def test_gives_the_reason_for_each_pid_that_can_not_be_read(self) -> None:
+        recording = make_recording(read_survey("size 188"))
+        for pid in (FIRST_PID, SECOND_PID):
+            recording.survey.by_pid[pid] = Packets(pid, packets=3, scrambled=3)
+        with mock.patch.object(recording, "header_problem", return_value=""):
+            self.check("reasons", recording.list_unreadable_reasons(), [
+                f"PID 0x{pid:X} is scrambled, in all its 3 TS packets"
+                for pid in (FIRST_PID, SECOND_PID)])
+
+    def test_lists_the_pages_of_all_pids_after_a_reason(self) -> None:
+        recording = make_recording(read_survey("size 188"), "--pid", "0x101")
+        with mock.patch.object(recording, "run_survey", return_value=Survey()) as run:
+            text = Recording.append_contents(recording, "why")
+        self.check("lines", text, "why\nno PID has Teletext")
+        self.check("PIDs", run.call_args_list, [mock.call(None)])
+
+    def test_the_last_time_is_the_later_one_of_pts_and_pcr(self) -> None:
+        for pts, pcr, last in ((CLOCK - 5, 5, 5), (5, CLOCK - 5, 5), (7, None, 7), (None, 7, 7)):
+            item: Any = SimpleNamespace(packets=SimpleNamespace(pid=FIRST_PID, last_pts=pts))
+            item.survey = SimpleNamespace(get_pcr_range=lambda _: pcr and (0, pcr))
+            self.check(f"{pts} {pcr}", Recording.find_last_time(item), last)
 
     def test_reports_missing_parts_of_a_recording(self) -> None:
         for damage, refusal, skipped, markers, size in itertools.product(
