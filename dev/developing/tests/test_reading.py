@@ -26,7 +26,7 @@ from subtitles.judging.status import (
     ACCEPTED, AS_SHOWN, CheckSummary, Grounds, NOT_READ, REFUSED, Severity, WITH_FAULTS,
     decide_reading)
 from subtitles.reading.judge import AFTER, BEFORE, is_trusted, list_doubts
-from subtitles.recording.dates import find_date
+from subtitles.recording.dates import find_date, find_times
 from subtitles.reading.received import (
     ShownPage, choose_header_option, choose_language, find_header_bits, find_header_range,
     find_likely_errors, find_recorded_day, find_step_back, find_undecided_option, join_late_pages,
@@ -555,12 +555,15 @@ class WrittenFiles(Case):
                 ("a long pointer", b"\x47\x40\x14\x10\xfe" + table, b"010203"),
                 ("another PID", b"\x47\x40\x15\x10\x00" + table, b"010203")):
             for size, is_cut in itertools.product((188, 192, 204), (False, True)):
-                data = b"".join(item.ljust(size, b"\xff") for item in (null, packet, null))
-                at = size + 6 if is_cut else len(data)  # the end of the first chunk
+                data = b"".join(item.ljust(size, b"\xff")
+                                for item in (null, null, null, packet, null))
+                at = 3 * size + 6 if is_cut else len(data)  # the end of the first chunk
                 with mock.patch("subtitles.recording.dates.read_chunks", return_value=[
                         data[:at], data[at:]]):
                     self.check(f"{name}, {size}, {at}", find_date(path, size), date)
-        self.check("PES packets", find_date(path, 0), b"010203")
+                    self.check(f"{name}, {size}, {at}: place", {place for place, _ in find_times(
+                        path)}, {3 * size} if date == b"000101" else set())
+                    self.check(f"{name}: PES packets", find_date(path, 0), b"010203")
 
     def test_writes_the_same_file_again(self) -> None:
         sent = schedule_random_programme(self)
