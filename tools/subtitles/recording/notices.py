@@ -303,7 +303,8 @@ def explain_never_sent(survey: Survey, page: Page, pids: Collection[int],
         words += f" ({' and '.join(map(format_pid, unused_pids))} " \
             f"{'has' if len(unused_pids) == 1 else 'have'} no TS packet)"
     if carriers:
-        words += f"; {' and '.join(map(format_pid, sorted(carriers)))} has it"
+        words += f"; {' and '.join(map(format_pid, sorted(carriers)))} " \
+            f"{'has' if len(carriers) == 1 else 'have'} it"
     return words
 
 
