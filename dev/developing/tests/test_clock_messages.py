@@ -62,7 +62,7 @@ class OriginLines(unittest.TestCase):
         next_best = "the next best is --origin 0 with 9 cues"
         ambiguous = "ambiguous: --origin 9 fits no better than --origin 0, --origin 1, " \
             "--origin 2, --origin 3, --origin 4"
-        other = [OriginFit(at, 9, 9, 1, 9, 9, None, None, 900) for at in range(7)]
+        other = [OriginFit(at, 9, 9, 1, 9, 12, None, None, 900) for at in range(7)]
         begins, ends = CueOffset(True, 2, 5, 5), CueOffset(False, -1, 4, 5)
         late: dict[str, Any] = {"within": 3, "delays": [0]}
         rows: dict[str, tuple[Any, list[str]]] = {
@@ -78,6 +78,7 @@ class OriginLines(unittest.TestCase):
             "PTS between frames": (self.part(9, 9, 9, exact_matches=8), [
                 cues("9 of 9 match, 9"), "1 of the matching cues match only to the nearest frame: "
                 "PTS that are not whole frames apart are refused with fault 61"]),
+            "half of the cues": (self.part(4, 8, 4), [cues("4 of 8 match, 4")]),
             "few cues": (self.part(4, 9, 4), [
                 cues("4 of 9 match, 4"), "fewer than half of the cues match with --origin 9: check "
                 "that this is the right subtitle file"]),
@@ -123,6 +124,7 @@ class OriginLines(unittest.TestCase):
             bases: Any = [SimpleNamespace(cues=cues, changes=dict(enumerate(it))) for it in sent]
             self.assertEqual(describe_mismatch(self.part(4, 9, 4), bases), "probably another "
                              "programme's subtitle file: 4 of 9 cues match" * is_other, count)
+            self.assertEqual(describe_mismatch(self.part(4, 8, 4), bases), "", count)
 
     def test_needs_one_part_more_than_breaks(self) -> None:
         for count, breaks in itertools.product(range(5), (1, 2, 3)):
