@@ -461,34 +461,19 @@ class JudgedRecordings(ProgrammeCase):
                        ({PID, SCRAMBLED_PID}, True))
 
 
-# PIDs with the number of their TS packets, the number of these that are scrambled, the number of
-# the fault that ended reading (0: none), the number of PES packets before it, and the expected
-# reason (`None`: all PES packets were read).
-UNREADABLE_PIDS = (
-    (6, 3, 2, 0, 0, "PID 0x6 has no complete PES packet in 3 TS packets"),
-    (5, 3, 3, 0, 0, "PID 0x5 is scrambled, in all its 3 TS packets"),
-    (9, 1, 1, 0, 0, "PID 0x9 is scrambled, in all its 1 TS packet"),
-    (2, 7, 0, 31, 0, "PID 0x2 has no PES packets of private_stream_1, which carry Teletext"),
-    (1, 1, 0, 0, 0, "PID 0x1 has no complete PES packet in 1 TS packet"))
-OTHER_PIDS = (
-    (10, 9, 9, 0, 1, None), (8, 9, 0, 0, 1, None), (3, 0, 0, 0, 0, "PID 0x3 has no packets"),
-    (4, 9, 0, 31, 1, "PID 0x4 has data other than PES packets of private_stream_1 from PES packet "
-     "1 on: refused 31 Start pes 1"),
-    (7, 9, 1, 32, 2, "PID 0x7 has data other than PES packets of 184 to 1656 bytes from PES packet "
-     "2 on: refused 32 Length pes 2"))
-
-
 class ExtractMessages(Case):
     def test_explains_why_no_more_pes_packets_of_a_pid_are_read(self) -> None:
-        known = Survey()
-        for pid, count, scrambled, fault, pes_count, reason in UNREADABLE_PIDS + OTHER_PIDS:
+        known, unreadable = Survey(), list[int]()
+        for row in read_vectors("unread-pids.tsv"):
+            pid, count, scrambled, fault, pes_count = (int(row[column]) for column in (
+                "PID", "TS packets", "scrambled", "fault", "PES packets"))
             known.by_pid[pid] = Packets(
                 pid, [PacketRun(0, pes_count, 0, 0, "", "")] * bool(pes_count),
                 packets=count, scrambled=scrambled, refusal=fault)
-            self.check(f"{pid:#x}", explain_refusal(known.by_pid[pid]), reason)
+            self.check(f"{pid:#x}", explain_refusal(known.by_pid[pid]), row["reason"] or None)
+            unreadable += [pid] * (row["unreadable"] == "yes")
         self.check("PIDs with TS packets but no PES packet",
-                   [item.pid for item in find_unreadable_packets(known)],
-                   sorted(row[0] for row in UNREADABLE_PIDS))
+                   [item.pid for item in find_unreadable_packets(known)], sorted(unreadable))
 
     def test_names_the_languages_of_ebu_tech_3264(self) -> None:
         for row in read_vectors("language-codes.tsv"):
