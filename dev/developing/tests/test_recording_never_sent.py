@@ -1,6 +1,7 @@
 """Test how a recording is read, and recordings whose PMT announces a page that is never sent."""
 from __future__ import annotations
 
+import dataclasses
 import itertools
 import json
 import stat
@@ -216,6 +217,13 @@ class Announcements(Case):
                 [*first, *picture], ["--start", "00:00:00:00"], False),
             "by --start, the first picture is after a subtitle": (
                 [*first, *picture], ["--start", "00:01:30:00"], True)}, is_sent=False)
+
+    def test_a_reading_expects_a_page_without_knowing_its_subtitles(self) -> None:
+        survey = read_survey(*make_pmt_lines(1, FIRST_PID))
+        request = make_example_request("a.stl", "a.ts")
+        refuse_unsent_page(request, survey, ())
+        with self.assertRaises(NeverSent):
+            refuse_unsent_page(dataclasses.replace(request, is_reading=True), survey, ())
 
     def test_the_clock_is_unknown_if_the_subtitle_file_has_no_tcp(self) -> None:
         stl = self.write("none.stl", b" " * 1024)
