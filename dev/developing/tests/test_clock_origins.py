@@ -413,6 +413,14 @@ class Requests(Case):
         self.check("delays", [text.partition(" subtitles are ")[2] for text in result.shift_texts],
                    ["6.00 s (150 frames) late", "7.60 s (190 frames) late"])
 
+    def test_reports_that_it_searches_only_32_time_bases(self) -> None:
+        line = "PTS go back at 32 places: only the 32 stretches between them with the most page " \
+            "changes are searched"
+        for count in (32, 33):
+            sent = [(10 ** 7 * (count - at) + TICKS * frame, b"%d.%d" % (at, frame))
+                    for at in range(count) for frame in (0, 9)]
+            self.check(f"{count}", line in self.find(sent).lines, count == 33)
+
     def test_names_no_time_of_a_pts_outside_of_the_day(self) -> None:
         result = self.find([(-TICKS, b"other"), *self.send([0] * 24)])
         self.check("last line", result.lines[-1], "subtitles are expected from 00:00:00:00 to "
