@@ -97,21 +97,13 @@ class PaceDecisions(Case):
                           pace.frames is None or longest <= pace.frames, (pace, longest))
 
     def test_finds_the_usual_interval(self) -> None:
-        # Numbers of intervals by their length in frames. 1 in 20 must be as long as the usual one,
-        # at most 1 in 100 longer, and at most three by more than a frame. It is at least a frame.
-        self.check_rows(lambda counts: find_usual_distance(
-            collections.Counter(counts), sum(counts.values()), MAX_EXCEPTIONS), {
-                "one a frame": (({1: 2000},), 1), "all in one frame": (({0: 2000},), 1),
-                "1 in 20 is two frames": (({0: 1900, 2: 100},), 2),
-                "fewer than 1 in 20": (({0: 1901, 2: 99},), None),
-                "1 in 20 is seven frames": (({0: 1800, 5: 99, 7: 101},), 7),
-                "1 in 100 is longer": (({1: 1980, 2: 20},), 1),
-                "more than 1 in 100": (({1: 9800, 2: 100},), None),
-                "1 in 100, and three losses": (({1: 1977, 2: 20, 9: 3},), None),
-                "1 in 100, among them three losses": (({1: 1980, 2: 17, 9: 3},), 1),
-                "four losses": (({1: 1996, 9: 4},), None),
-                "three losses": (({1: 1996, 2: 1, 9: 3},), 1),
-                "three frames are usual": (({1: 1900, 3: 101, 4: 19},), 3)})
+        for row in read_vectors("usual-intervals.tsv"):
+            counts = collections.Counter[int]()
+            for item in row["intervals"].split():
+                frames, count = item.split(":")
+                counts[int(frames)] = int(count)
+            usual = find_usual_distance(counts, sum(counts.values()), MAX_EXCEPTIONS)
+            self.check(row["name"], "" if usual is None else f"{usual}", row["usual"])
 
     def test_finds_the_shortest_loss_that_no_counter_shows(self) -> None:
         # The frames of PES packets, and the TS packets of each; the least distance in frames of PES
