@@ -77,21 +77,37 @@ class PictureDepartures(Case):
                     make_video_leads([6.0] * 40 + [after] * 40, steps, first)), expected)
 
     def test_finds_several_departures_in_order(self) -> None:
-        leads = make_video_leads([6.0] * 20 + [3.0] * 20 + [6.0] * 20 + [6.0] * 20,
-                                 {20: 3, 40: -3, 60: 9})
+        leads = make_video_leads([6.0] * 20 + [-3.0] * 20 + [6.0] * 40, {20: 9, 40: -9, 60: 9})
         self.check("three steps", locate_departures(leads), [
-            Departure(leads[20].pts, leads[19].pts, 3 * TICKS, ahead=6 * TICKS),
-            Departure(leads[40].pts, leads[39].pts, -3 * TICKS, ahead=3 * TICKS)])
-        for after, ticks in ((0.0, 6 * TICKS), (4.0, None)):
-            near = make_video_leads([6.0] * 20 + [3.0] + [after] * 20, {20: 3, 21: 3})
-            self.check(f"two steps with one line between, then {after}", locate_departures(near), [
-                Departure(near[21].pts, near[19].pts, ticks,
-                          change=0 if ticks else 2 * TICKS, ahead=6 * TICKS)])
+            Departure(leads[20].pts, leads[19].pts, 9 * TICKS, ahead=6 * TICKS),
+            Departure(leads[40].pts, leads[39].pts, -9 * TICKS)])
+        for first, (after, ticks) in itertools.product((6, -3), ((0, 6 * TICKS), (4, None))):
+            near = make_video_leads([first] * 20 + [first - 3] + [first - 6 + after] * 20,
+                                    {20: 3, 21: 3})
+            self.check(f"two steps with one line between, {first} {after}", locate_departures(
+                near), [Departure(near[21].pts, near[19].pts, ticks, change=0 if ticks
+                                  else 2 * TICKS, ahead=max(first, 0) * TICKS)])
         for count in (0, 1):
             self.check(f"{count} lines", locate_departures(leads[:count]), [])
-        self.check("two steps between two lines", locate_departures(make_video_leads(
-            [6.0] * 10 + [8.0] * 30), read_steps("3@240 4@245")), [
-                Departure(245 * TICKS, 239 * TICKS, None, 2 * TICKS, MAX_REORDER_TICKS)])
+        # The mean lead changes by at least its change less 2.5 standard errors.
+        rows: dict[str, tuple[list[float], list[float], str, int]] = {
+            "steady leads": ([6.0] * 10, [8.0] * 30, "3@240 4@245", 2 * TICKS),
+            "leads that vary": ([6.0, 7.0] * 5, [9.0, 10.0] * 15, "3@240 4@245", 9079),
+            "the same mean": ([6.0, 7.0] * 5, [6.0, 7.0] * 15, "3@240 -4@245", 0)}
+        for name, (before, later, unusual, change) in rows.items():
+            self.check(f"two steps between two lines, {name}", locate_departures(
+                make_video_leads(before + later), read_steps(unusual)), [
+                    Departure(245 * TICKS, 239 * TICKS, None, change, MAX_REORDER_TICKS)])
+
+    def test_finds_the_places_where_the_lead_changes(self) -> None:
+        for row in read_vectors("lead-departures.tsv"):
+            departures = locate_departures(make_video_leads(
+                [float(lead) for lead in repeat_words(row["leads"]).split()],
+                {step.number: step.ticks / TICKS for step in read_steps(row["jumps"])}),
+                                           read_steps(row["steps"]))
+            self.check(row["name"], "irregular" if departures is None else " ".join(
+                f"{'?' if item.ticks is None else f'{item.ticks / TICKS:g}'}@{item.pts / TICKS:g}"
+                for item in departures), row["found"])
 
     def test_measures_a_jump_at_which_pictures_are_lost_too(self) -> None:
         for lost in (0, 1, 2, 5, 12):
@@ -111,32 +127,45 @@ class PictureDepartures(Case):
 
     def test_finds_a_lead_that_changes_steadily_but_not_a_jump_of_the_teletext_pts(self) -> None:
         for name, slope, count in (("it grows", 0.02, 100), ("it shrinks", -0.02, 100),
-                                   ("in 60 leads", 0.02, 60), ("in 59 leads", 0.02, 59)):
+                                   ("in 60 leads", 0.02, 60), ("in 59 leads", 0.02, 59),
+                                   ("by a frame", 1 / 60, 61)):
             leads = make_video_leads([6 + slope * at for at in range(count)])
             change = round((count - 1) * slope * TICKS) if count > 59 else 0
             self.check(name, find_steady_change(leads), change)
-        for slopes in ((0.04, 0.02), (0.02, 0.04)):
-            self.check(f"before and after a step: {slopes}", find_steady_change(make_video_leads(
-                [6 + slope * at for slope in slopes for at in range(100)], {100: 9})),
-                round(99 * 0.04 * TICKS))
+        for vary, change in ((0.2, round(99 * 0.02 * TICKS)), (0.3, 0)):
+            self.check(f"the leads vary by {vary}", find_steady_change(make_video_leads(
+                [6 + 0.02 * at + vary * ((at + 1) // 2 % 2) for at in range(100)])), change)
+        for slopes, longest in (((0.04, 0.02), 0.04), ((0.02, 0.04), 0.04), ((-0.04, 0.02), -0.04)):
+            self.check(f"after few leads and after a step: {slopes}", find_steady_change(
+                make_video_leads([6.0] * 9 + [6 + slope * at for slope in slopes
+                                              for at in range(100)], {9: 9, 109: 9})),
+                round(99 * longest * TICKS))
         for by in (50, 25 * 3600, -25 * 3600):
             jumped = [lead._replace(pts=(lead.pts + TICKS * by) % CLOCK, ticks=lead.ticks + TICKS
                                     * by) for lead in make_video_leads([6.0] * 100)[50:]]
             self.check(f"the PTS jump by {by} frames", find_steady_change(
                 [*make_video_leads([6.0] * 50), *jumped]), 0)
 
-    def test_finds_another_delay_of_a_second_video_that_begins_at_the_wrap_of_the_pts(self) -> None:
-        old = make_video_leads([6.0] * 20, first=CLOCK - TICKS * 500)
-        new = make_video_leads([5.0] * 20)
-        self.check("place", locate_changes_of_video([old, new]), [
-            Departure(new[0].pts, old[-1].pts, None, change=TICKS, ahead=6 * TICKS)])
+    def test_finds_other_delays_of_later_videos_across_the_wrap_of_the_pts(self) -> None:
+        old, new, third, fourth = (
+            make_video_leads([lead] * 20, first=CLOCK + TICKS * (500 * at - 500))
+            for at, lead in enumerate((6.0, 5.5, -1.0, 3.0)))
+        self.check("places", locate_changes_of_video([[], old, new, third, fourth]), [
+            Departure(new[0].pts, old[-1].pts, None, change=TICKS // 2, ahead=6 * TICKS),
+            Departure(third[0].pts, new[-1].pts, None, change=13 * TICKS // 2,
+                      ahead=11 * TICKS // 2),
+            Departure(fourth[0].pts, third[-1].pts, None, change=4 * TICKS)])
         self.check("two leads", locate_changes_of_video([old, make_video_leads([5, 7])]), [
             Departure(5 * TICKS, old[-1].pts, None, ahead=6 * TICKS)])
+        changed = make_video_leads([9.0] * 10 + [6.0] * 10, first=CLOCK - TICKS * 500)
+        self.check("one lead of another video before a change", locate_changes_of_video(
+            [changed, [changed[10]._replace(pts=changed[10].pts - TICKS)], new]), [
+                Departure(new[0].pts, old[-1].pts, None, change=TICKS // 2, ahead=6 * TICKS)])
 
     def test_the_lead_may_differ_from_the_jump_by_less_than_half_a_frame(self) -> None:
         for jump, change, expected in (
                 (5, 5.0, [5]), (5, 5.4, [5]), (5, 0.4, []), (5, 0.0, []), (5, -3.0, [None]),
-                (0.5, 0.3, [0.5]), (0.5, 0.2, [])):
+                (0.5, 0.3, [0.5]), (0.5, 0.2, []), (0.25, 0.25, [0.25])):
             self.check(f"the times jump by {jump}, the lead falls by {change}", self.list_jumps(
                 make_video_leads([8.0] * 9 + [8 - change] * 9, {9: jump})), expected)
 
@@ -157,8 +186,9 @@ class PictureDepartures(Case):
                 make_video_leads([-2, 5, 1, 1, 1, 1] * 5 + [-1, 6, 1, 1, 2, 2] * 5, {30: -1}),
                 [None]),
             **{f"a line that is away alone, by {by}": (make_video_leads(
-                [6.0] * 20 + [6.0 - by] + [6.0] * 20, {20: by, 21: -by}), [None])
-               for by in (3, -3)}}
+                [6.0] * 20 + [6.0 - by] + [6.0] * 20, {20: by, 21: -by}),
+                                                       [None] * (abs(by) >= 0.5))
+               for by in (3, -3, 0.5, -0.5, 0.4, -0.4)}}
         # Groups of 25 pictures, of which the first is large, and losses of 1 to 3 pictures.
         vary = [5, 5, 4, 4, 3, 3, 2, 2, 1, 1, 0, 0, -1, -1, -2, -2]
         rows["leads vary between losses"] = (
@@ -453,9 +483,15 @@ class Steps(Case):
     def test_finds_the_picture_and_the_size_of_each_jump(self) -> None:
         for row in read_vectors("video-jumps.tsv"):
             moves = {step.number: step.ticks / TICKS for step in read_steps(row["moves"])}
-            found = self.locate(*survey_times(make_times(moves, int(row["count"] or 500))))
+            lost = read_steps(row["lost"])
+            leads, unusual = survey_times(make_times(moves, int(row["count"] or 500)),
+                                          int(row["jitter"] or 0))
+            for at, lead in enumerate(leads):
+                ticks = sum(step.ticks for step in lost if step.number <= lead.number)
+                leads[at] = lead._replace(pts=(lead.pts + ticks) % CLOCK, ticks=lead.ticks + ticks)
             self.check(row["name"], " ".join(f"{'?' if size is None else f'{size:g}'}@{place:g}"
-                                             for place, size in found), row["found"])
+                                             for place, size in self.locate(leads, unusual)),
+                       row["found"])
 
     def test_finds_steps_that_may_be_jumps_of_the_clock(self) -> None:
         for row in read_vectors("clock-steps.tsv"):
@@ -473,18 +509,6 @@ class Steps(Case):
             leads, unusual = survey_times(make_times({away: 10, back: -10}))
             self.check(f"{away} {back}", self.locate(leads[1:], unusual),
                        [(away, 10), (back, -10)])
-
-    def test_finds_jumps_at_which_pictures_are_lost_too(self) -> None:
-        # From picture 211 on, the leads are greater by the frames of the lost pictures.
-        for name, moves, lost, expected in (
-                ("12 lost, half a frame earlier", {210: 11.5}, 12, (210, -.5)),
-                ("as many frames lost as the times jump", {210: 11.5}, 11.5, (210, None)),
-                ("10 frames later, 2 lost after that", {203: 10.0, 210: 2.0}, 2, (203, 10))):
-            leads, unusual = survey_times(make_times(moves))
-            ticks = round(lost * TICKS)
-            later = [lead._replace(pts=(lead.pts + ticks) % CLOCK, ticks=lead.ticks + ticks)
-                     if lead.number > 210 else lead for lead in leads]
-            self.check(name, self.locate(later, unusual), [expected])
 
     def test_needs_few_leads_if_lost_pictures_do_not_explain_a_step(self) -> None:
         # Leads follow picture 450. A step by one frame may be a lost or a repeated picture.
