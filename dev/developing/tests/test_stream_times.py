@@ -8,7 +8,8 @@ from types import SimpleNamespace
 from typing import Any
 
 from subtitles.clock.stretches import MIN_BREAK_FRAMES, Stretch, split_at_breaks
-from subtitles.common.times import CLOCK, FRAMES_OF_A_DAY, Spans, TICKS, join_spans, subtract_pts
+from subtitles.common.times import (
+    CLOCK, FRAMES_OF_A_DAY, Spans, TICKS, format_frame, join_spans, subtract_pts)
 from subtitles.stream.gaps import (
     ClockJump, LossPlace, SECOND, describe_loss, describe_loss_place, find_clock_jumps,
     find_loss_places, find_pts_anomalies)
@@ -186,9 +187,11 @@ class TimesAndRanges(unittest.TestCase):
                     next((frame for frame in frames[first:] if frame >= 0), None),
                     next((frame for frame in frames[first:last + 1][::-1]
                           if low <= frame <= high), None)))
-                self.assertTrue(result.describe().startswith(
-                    f"{last - first + 1} of {words}, from 00:00:0" if row["range"] else
-                    f"none of {words} at the time of the subtitles contains"))
+                span = f", from {format_frame(result.first or 0)} to " \
+                    f"{format_frame(result.last or 0)}"
+                self.assertEqual(result.describe(), f"{last - first + 1} of {words}{span}" if row[
+                    "range"] else f"none of {words} at the time of the subtitles contains a header "
+                                 "of the page or follows such a header")
 
     def test_a_part_omits_an_earlier_header_if_the_text_was_expected_before_the_part(self) -> None:
         packets = make_packets([TICKS * frame for frame in (75, 100, 200)], "he")
