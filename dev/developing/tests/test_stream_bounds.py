@@ -168,6 +168,7 @@ class ReceivedFrames(unittest.TestCase):
         received = Timeline(Packets(5), PAGE, 0)
         for first, frames in self.RUNS:
             run = PacketRun(first, len(frames), TICKS * frames[0], TICKS, "h", "")
+            received.is_uncertain = first == 6  # packets 4 and 5 are missing
             self.assertTrue(received.add_run(run, frames), (first, frames))
         known = {first + at: frame for first, frames in self.RUNS
                  for at, frame in enumerate(frames)}
@@ -181,7 +182,8 @@ class ReceivedFrames(unittest.TestCase):
             self.assertEqual([run.first for run in received.list_frame_runs(frame)],
                              [number for number, item in known.items() if item == frame], frame)
         self.assertEqual((received.first, received.last, received.count), (10, 30, 8))
-        self.assertEqual([*received.pauses], [Span(14, 19), Span(21, 23), Span(25, 29)])
+        self.assertEqual(([*received.pauses], received.uncertain_spans),
+                         ([Span(14, 19), Span(21, 23), Span(25, 29)], [Span(13, 20)]))
 
     def test_a_span_was_received_before_a_step_back_and_away_from_gaps_and_losses(self) -> None:
         # The frames of four PES packets, and the one before which there is a gap marker (4: none)
@@ -210,10 +212,8 @@ class ReceivedFrames(unittest.TestCase):
 
     @staticmethod
     def make_timeline(sent: str, **more: Any) -> Timeline:
-        """Return a timeline of PES packets. `more` contains further arguments of `Timeline`. `sent`
-        contains FRAME:FLAGS or FRAME:FLAGS:TEXT for each PES packet, with the text of row 20 after
-        it. A `!` after FRAME stands for a faulty PES packet. The flags are h (page header), e
-        (erase page), o (the page is open after it), c (closed) and s (stray row)."""
+        """Return a timeline of PES packets, which `sent` describes as dev/vectors/decoded-pages.tsv
+        does; the flag `s` means a stray row. `more` contains further arguments of `Timeline`."""
         packets = Packets(5)
         for number, word in enumerate(filter(None, sent.split(" "))):
             frame, flags, *texts = word.split(":")

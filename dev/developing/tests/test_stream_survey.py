@@ -371,6 +371,8 @@ class Comparison(Case):
         self.check("items", [*list_items(packets, (1, 9))], [
             Item(1, pts=8), Item(2, pts=None, fault=45), Item(3, pts=None, fault=37)])
         self.check("end", find_end(packets), End(4, {32}))
+        packets.refusal, packets.damage_faults = 0, (30,)
+        self.check("end at damage", find_end(packets), End(4, (30,)))
 
     def test_recognises_items_that_were_compared(self) -> None:
         # Number, count, PTS, ticks to the next, flags (h: a header, m: a gap marker), C bits
