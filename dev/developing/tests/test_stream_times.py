@@ -15,7 +15,7 @@ from subtitles.stream.gaps import (
     find_loss_places, find_pts_anomalies)
 from subtitles.stream.packets import (
     GapMarker, PCRStep, PacketRun, Packets, PageChange, Texts, parse_headers)
-from subtitles.stream.ranges import find_range, is_outside
+from subtitles.stream.ranges import StepBack, find_range, is_outside
 from subtitles.stream.survey import Survey
 from .parts import make_packets, read_survey
 from .stories import read_vectors
@@ -276,18 +276,18 @@ class TimesAndRanges(unittest.TestCase):
                              expected, item)
 
     def test_describes_losses(self) -> None:
-        for place, words in (
-                (LossPlace(1, 2), "a break in the stream"),
-                (LossPlace(1, 2, lost=1), "1 TS packet was lost"),
-                (LossPlace(1, 2, lost=2, scrambled=1),
-                 "2 TS packets were lost, 1 TS packet was scrambled"),
-                (LossPlace(1, 2, missing=225_000),
-                 "2.50 s of TS packets are missing according to the PCR and "
-                 "the counters of other PIDs"),
-                (LossPlace(1, 2, is_announced=True),
-                 "the interval between PES packets is unusually long, and the stream announces a "
-                 "jump of the continuity counter")):
-            self.assertEqual(describe_loss(place), words, place)
+        for row in read_vectors("losses.tsv"):
+            lost, scrambled, missing = (int(row[name] or 0) for name in (
+                "lost", "scrambled", "missing"))
+            self.assertEqual(describe_loss(LossPlace(
+                1, 2, lost, scrambled, missing, is_announced=row["announced"] == "yes")),
+                             row["text"], row["name"])
+
+    def test_describes_by_how_much_the_pts_go_back(self) -> None:
+        for ticks, duration in ((1, "1 tick"), (2, "2 ticks"), (TICKS, "1 frame"), (
+                2 * TICKS + 1, "2 frames 1 tick"), (26 * TICKS + 3599, "1 s 1 frame 3599 ticks")):
+            self.assertEqual(StepBack(7, 250, ticks).describe(), "the PTS go back by "
+                             f"{duration} in PES packet 7, after 00:00:10:00", ticks)
 
     def test_describes_the_place_of_a_loss(self) -> None:
         for place, words in (
