@@ -216,16 +216,6 @@ class TimesAndRanges(unittest.TestCase):
             self.assertEqual((result.range, result.first_packet_frame, result.has_end),
                              ((0, 1), first, False), (frames, begin, end))
 
-    def test_a_range_includes_gap_markers_just_after_the_last_frame(self) -> None:
-        # Frames of headers, or `None` for a gap marker; the first TCI is 0, the last TCO is 50
-        for frames, expected in (
-                ([0, 50, None, 75], (0, 2)), ([0, 50, None, None, 75], (0, 3)),
-                ([0, 50, None], (0, 2)), ([0, 50, 75, None], (0, 1)), ([None, 0, 50, 75], (1, 2)),
-                ([0, None, 50, 75], (0, 2))):
-            pts = [None if frame is None else TICKS * frame for frame in frames]
-            result = find_range(make_packets(pts), 0, 50, 0, 25).range
-            self.assertEqual(result, expected, frames)
-
     def test_finds_all_of_a_long_programme(self) -> None:
         hour, step = 90_000, 250  # frames in an hour and from one header to the next
         # Hours of the programme, and of the recording before and after it
