@@ -83,8 +83,8 @@ class Silences(unittest.TestCase):
     def test_finds_the_longest_time_without_a_header(self) -> None:
         steady = [*range(0, 100, 10)]
         # The frames of the headers, the frame of the last PES packet, and of cues; the number of
-        # headers, the longest interval, its first frame, and the usual interval (`None` if fewer
-        # than MIN_REPEATS have no cue nearby)
+        # headers, the longest interval, its first frame, the usual interval (`None` if fewer
+        # than MIN_REPEATS have no cue nearby), and more than half as long ones if they are rare
         rows: list[tuple[list[float], float | None, list[int], tuple[object, ...] | None]] = [
             ([], None, [], None), ([], 9, [], None), ([5, 5], None, [], None),
             ([5], 5, [], (1, 1, 5, None)), ([0, 10, 20, 25], None, [], (4, 10, 0, None)),
@@ -92,13 +92,16 @@ class Silences(unittest.TestCase):
             ([0, 10, 25], 40, [], (3, 16, 25, None)), ([25, 0, 10], 30, [], (3, 15, 10, None)),
             ([-9, 0, 10], -1, [], (2, 10, 0, None)), ([0, 9.75, 15], None, [], (3, 10, 0, None)),
             ([*steady], None, [], (10, 10, 0, 10)), ([*steady], 99, [20, 50], (10, 10, 0, 10)),
+            ([*range(0, 410, 10), 415, 431, 447], None, [],
+             (44, 15, 400, 10, [(415, 16), (431, 16)])),
             ([*steady], None, [20, 40, 60, 80], (10, 10, 0, None))]
         origins = *ORIGINS, *(CLOCK - TICKS * item for item in (5, 10, 19, 39, 40, 99))
         for origin, (frames, last, cues, expected) in itertools.product(origins, rows):
             pts = [round(origin + TICKS * item) % CLOCK for item in frames]
             end = None if last is None else round(origin + TICKS * last) % CLOCK
             repeats = measure_repeats(pts, end, origin, [*zip(cues, cues[1:])])
-            self.assertEqual(repeats and (*repeats[:4],), expected, (origin, frames, last, cues))
+            self.assertEqual(repeats and (*repeats[:len(expected or "")],), expected,
+                             (origin, frames, last, cues))
 
     def test_describes_nineteen_of_more_than_twenty_gap_markers(self) -> None:
         for count, last_line in ((0, ""), (1, ""), (19, ""), (20, ""),

@@ -120,7 +120,8 @@ class PictureDepartures(Case):
         # Lost pictures, frames by which PTS are ahead of the PCR in spans of ten leads, and jumps
         for lost, ahead, expected in (
                 (50, "99999999", []), (50, "99998888", [None]), (50, "79999999", []),
-                (50, "", [None]), (25, "", [None]), (24, "99998888", []), (24, "", [])):
+                (50, "", [None]), (25, "", [None]), (24, "99998888", []), (24, "", []),
+                (-50, "", [])):
             self.check(f"{lost} lost, {ahead}", self.list_jumps(
                 make_video_leads([6.0] * 80, {40: lost}),
                 [int(frames) for frames in ahead for _ in range(10)]), expected)
@@ -200,8 +201,11 @@ class PictureDepartures(Case):
             self.check(name, self.list_jumps(leads), wanted)
 
     def test_a_jump_below_a_second_is_unclear_if_over_20_steps_are_unusual(self) -> None:
-        for frames, others, expected in ((3, 10, 3), (3, 30, None), (30, 30, 30)):
-            leads = make_video_leads([6.0] * 10 + [6.0 - frames] * 70, {10: frames})
+        # or more than one in ten leads
+        for frames, others, later, expected in (
+                (3, 19, 70, 3), (3, 20, 70, None), (3, 29, 290, 3), (3, 30, 290, None),
+                (30, 30, 70, 30), (-30, 30, 70, -30)):
+            leads = make_video_leads([6.0] * 10 + [6.0 - frames] * later, {10: frames})
             unusual = [UnusualStep(SECOND * at - 5, TICKS * (frames if at == 10 else 1), TICKS)
                        for at in range(10, 11 + others)]
             sizes = [item.ticks for item in locate_departures(leads, unusual) or []]
