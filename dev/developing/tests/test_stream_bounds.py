@@ -94,6 +94,7 @@ class Silences(unittest.TestCase):
             ([*steady], None, [], (10, 10, 0, 10)), ([*steady], 99, [20, 50], (10, 10, 0, 10)),
             ([*range(0, 410, 10), 415, 431, 447], None, [],
              (44, 15, 400, 10, [(415, 16), (431, 16)])),
+            ([*range(0, 380, 10), 385, 401, 417], None, [], (41, 16, 385, 10, [])),
             ([*steady], None, [20, 40, 60, 80], (10, 10, 0, None))]
         origins = *ORIGINS, *(CLOCK - TICKS * item for item in (5, 10, 19, 39, 40, 99))
         for origin, (frames, last, cues, expected) in itertools.product(origins, rows):
