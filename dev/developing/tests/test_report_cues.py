@@ -7,11 +7,13 @@ from types import SimpleNamespace
 from typing import Any
 from unittest import mock
 
-from developing.stl import make_gsi_block
+from developing.stl import make_gsi_block, make_tti_block
 from subtitles.common.times import Span, TICKS, format_frame
 from subtitles.formats.stl import NamedSubtitle, Subtitle, SubtitleFile
 from subtitles.judging.causes import Cause, LATE, NEVER
-from subtitles.judging.cues import Cue, CueJudge, CueVerdict, SubtitleFaults, find_cues
+from subtitles.judging.cues import (
+    Cue, CueJudge, CueVerdict, find_cues, find_recording_start, find_refused_subtitles,
+    find_text_spans, is_variant, read_block_text)
 from subtitles.judging.status import (
     ACCEPTED, AS_SHOWN, DIFFERS, LOST, NOT_JUDGED, NOT_READ, REFUSED, RELATIVE, SAME, VALID, WAIVED,
     WARNED, WITH_FAULTS)
@@ -24,7 +26,7 @@ from subtitles.report.timeline import find_cue_span
 from subtitles.stream.receiver import BLANK_PAGE, Rows
 from .bench import Case
 from .judged import ProgrammeCase, judge_files
-from .parts import make_answer, make_part, markup_text, parse_single_fault
+from .parts import make_answer, make_packets, make_part, markup_text, parse_single_fault
 from .stories import read_vectors
 from .transmissions import delay_subtitle, join_pes_packets
 from .test_judging_causes import decode, make_page_named, make_programme
@@ -56,6 +58,14 @@ class ActualCues(Case):
             self.check(f"{row['name']}: delays", [delay for _, _, delay in cues], [
                 None if begin is None else begin - subtitle.begin
                 for (begin, _, _), subtitle in zip(cues, programme.subtitles)])
+
+    def test_a_variant_of_a_page_has_most_of_its_characters(self) -> None:
+        self.check_rows(lambda text: is_variant(page(text), page(b"abcd"), ExpectedPages([], [])), {
+            "three of four": ((b"xbcd",), True), "half of them": ((b"xxcd",), False)})
+
+    def test_the_timeline_has_the_frames_with_a_text(self) -> None:
+        decoded = decode("0:- 100:a 150:- 200:b 250:-", make_programme("100-150 a"))
+        self.check("frames", [*find_text_spans(decoded)], [Span(100, 149), Span(200, 249)])
 
     def test_a_mark_lasts_from_the_earlier_in_cue_to_the_later_out_cue(self) -> None:
         self.check_rows(lambda *cues: find_cue_span(
@@ -132,7 +142,7 @@ class CueVerdicts(Case):
             first, numbers = int(row["trusted from"]), [*map(int, row["faults"].split())]
             expected = [row[f"{faults} warning"] for faults in ("67", "72", "others")]
             cause = name and Cause(0, name, 3, None, None, "", 0)
-            faults = [f"refused {number} Name frame {format_frame(150)}"
+            faults = [f"refused {number} Name frame {format_frame(int(row['fault frame']))}"
                       for number in [*numbers, *[72] * bool(cause)]]
             output = make_answer(make_list(faults, [(first, 199)]))
             causes = SimpleNamespace(expected=programme, frames_by_end_fault={}) if cause \
@@ -140,7 +150,7 @@ class CueVerdicts(Case):
             cue = Cue(FIRST, page(b"one"), cause or None)
             result = [CueJudge(make_part(0, 300, 0, output, causes=causes, severity=severity)
                                ).judge(cue).word for severity in severities]
-            self.check(f"{name}, {numbers}, trusted from {first} on", result, expected)
+            self.check(f"{row}", result, expected)
 
     def test_a_cause_is_waived_if_its_subtitle_has_no_error(self) -> None:
         second = Subtitle(2, 2, 200, 300, 20, 2, b"")
@@ -166,11 +176,30 @@ class CueVerdicts(Case):
             self.check(f"{span}", (verdict.word, verdict.doubt), (
                 word, "not received completely" if word == "not known" else ""))
 
-    def test_waives_a_refused_subtitle_only_if_all_its_faults_are_warnings(self) -> None:
-        part: Any = SimpleNamespace(is_error=lambda fault: fault.number == 52)
-        for numbers, expected in (((50,), True), ((52,), False), ((50, 52), False)):
-            faults = [parse_single_fault(f"refused {number} X block 1 at 0") for number in numbers]
-            self.check(f"{numbers}", SubtitleFaults(None, faults).is_waived(part), expected)
+    def test_a_subtitle_that_was_read_may_be_certain_in_spite_of_a_fault(self) -> None:
+        answer = make_answer(make_list(["refused 67 Control frame 00:00:06:00"], [(100, 199)]))
+        for doubts, word in ((dict[int, str](), "certain"), ({1: "a loss"}, "not certain")):
+            judge = CueJudge(make_part(0, 300, 0, answer, doubts=doubts))
+            self.check(word, judge.judge(Cue(FIRST, page(b"one"), None)),
+                       CueVerdict(word, "", [67], doubts.get(1, "")))
+
+    def test_finds_a_refused_subtitle_by_the_faults_of_its_blocks(self) -> None:
+        file = SubtitleFile(self.write("a.stl", make_gsi_block(b"", 0, 0) + b"".join(
+            make_tti_block(1, 0, 25, 20, 2, b"%d" % ebn, ebn) for ebn in (0, 1, 255))))
+        part = make_part(0, 99, 0, make_answer([
+            "refused 50 Character block 1 at 0", "refused 50 Character block 3 at 0",
+            "refused 73 Gap frame 00:00:02:00", "3 faults"], path=self.path("list")))
+        self.check("blocks", [[fault.block for fault in item.faults] for item
+                              in find_refused_subtitles(part, file, None)], [[1, 3]])
+        self.check("text", read_block_text(file, 2), b"01255")
+
+    def test_a_stream_begins_with_its_first_pcr(self) -> None:
+        """The first PCR is 3 s before the first PTS. The clock jumps by 2 hours within the part."""
+        packets = make_packets(90_000 * second for second in (5, 6, 7, 7207))
+        recording: Any = SimpleNamespace(is_stream=True, packets=packets, survey=SimpleNamespace(
+            get_pcr_range=lambda pid: (90_000 * 2, 90_000 * 9)))
+        part = make_part(0, 99, 0, recording=recording, pes=(1, 3))
+        self.check("start", find_recording_start(part), 90_000 * 2)
 
     def test_the_reason_has_the_cause_and_all_faults_and_the_doubt(self) -> None:
         frame = f"frame {format_frame(150)} packet 0"
@@ -186,33 +215,20 @@ class CueVerdicts(Case):
                        (row["reason"], row["cell"]))
 
     def test_explains_why_a_subtitle_is_not_known(self) -> None:
-        # Trusted frames, in-cue and out-cue of the decoded page, and the reason.
-        rows: dict[str, tuple[list[tuple[int, int]], int | None, int | None, str]] = {
-            "all frames are trusted": ([(100, 199)], 100, 200, ""),
-            "all but the first": ([(101, 199)], 101, 200, "check does not trust 1 of its frames"),
-            "two holes": ([(100, 119), (130, 189)], 100, 200,
-                          "check does not trust 20 of its frames"),
-            "a late end": ([(100, 189)], 100, 203,
-                           "check does not trust 10 of its frames: the out-cue is moved"),
-            "only the end": ([(110, 199)], None, 200, "check does not trust 10 of its frames"),
-            "nothing": ([], None, None, "not received")}
-        for name, (spans, begin, end, reason) in rows.items():
+        for row in read_vectors("doubts.tsv"):
+            begin, end = (int(row[name]) if row[name] else None for name in ("in-cue", "out-cue"))
+            spans = [(first, last) for first, last in json.loads(row["trusted"])]
             part = make_part(0, 300, 0, make_answer(make_list([], spans)))
             cue = Cue(FIRST, page(b"one"), None, None, begin, end)
-            self.check(name, CueJudge(part).judge(cue).doubt, reason)
+            self.check(row["name"], CueJudge(part).judge(cue).doubt, row["doubt"])
 
 
 class TextMarkup(Case):
     def test_marks_characters_that_differ(self) -> None:
-        # The expected text, the decoded text, and both with marked characters in brackets
-        for first, second, expected in (
-                ("abc", "abd", ("ab[c]", "ab[d]")), ("abc", "abc", ("abc", "abc")),
-                ("a b", "axxb", ("a[ ]b", "a[xx]b")), ("abcd", "abd", ("ab[c]d", "abd")),
-                ("", "abc", ("", "[abc]")), ("aXbYc", "a1b2c", ("a[X]b[Y]c", "a[1]b[2]c")),
-                ("xaab", "xab", ("xa[a]b", "xab")), ("<a>", "<b>", ("&lt;[a]&gt;", "&lt;[b]&gt;"))):
+        for row in read_vectors("text-differences.tsv"):
             marked = tuple(markup_text(item).replace("<mark>", "[").replace("</mark>", "]")
-                           for item in mark_difference(first, second))
-            self.check(f"{first} {second}", marked, expected)
+                           for item in mark_difference(row["first"], row["second"]))
+            self.check(f"{row}", marked, (row["marked first"], row["marked second"]))
 
     def test_shows_another_decoded_text_only_if_there_is_a_cause(self) -> None:
         cue_list: Any = SimpleNamespace(option=0)
