@@ -179,7 +179,9 @@ class FaultDetails(Case):
         sent = [(25 * TICKS, [HEADER, make_numbered_row(20, b"\x01xyz"), CLOSING])]
         stl = write_programme(self, [(25, 50)])
         due = (*BLANK_PAGE[:19], b"  [b".ljust(40), *BLANK_PAGE[20:])
-        lines = [f"refused 72 Content frame 00:00:01:00 row 20 column {at}" for at in (2, 3, 4)]
+        # No PES packet is sent in the second frame.
+        lines = [f"refused 72 Content frame 00:00:01:{place}" for place in (
+            "00 row 20 column 2", "00 row 20 column 3", "00 row 20 column 4", "10 row 20 column 3")]
         for within, (option, letter) in itertools.product((0, 3), (
                 ("english", "\u2190"), ("german", "\u00c4"))):
             part = self.make_read_part(lines, sent, stl, expected_pages=lambda: ExpectedPages(
@@ -191,7 +193,8 @@ class FaultDetails(Case):
                       for name in ("expected", "decoded")] for fault in make_faults(verdict)]
             # Two start box codes precede the cells that `make_numbered_row` sends.
             self.assertEqual(cells, [[("5B", letter), ("01", None)], [("62", "b"), ("78", "x")],
-                                     [("20", " "), ("79", "y")]], (within, option))
+                                     [("20", " "), ("79", "y")], [("62", "b"), ("78", "x")]],
+                             (within, option))
 
     def test_gives_no_hint_on_a_header_in_an_unread_part(self) -> None:
         line = "refused 67 X frame 00:00:01:00"
@@ -207,17 +210,18 @@ class FaultDetails(Case):
         self.assertIsNone(find_code(None, row=1, column=0))
 
     def test_names_the_character_with_even_parity(self) -> None:
-        due = b"\x0b\x0bAb \x01c"  # row 22 of subtitle 1, which is expected in frames 25 to 49
+        due = b"\x0b\x0b[b \x01c"  # row 22 of subtitle 1, which is expected in frames 25 to 49
         pages = [((due if row == 21 else b"").ljust(40)) for row in range(24)]
-        part = make_part(0, 99, 0, expected_pages=lambda: ExpectedPages(
+        request = make_example_request("one.stl", "one.pes", "--option", "german")
+        part = make_part(0, 99, 0, request=request, expected_pages=lambda: ExpectedPages(
             [Subtitle(1, 1, 25, 50, 22, 2, b"")], [tuple(pages)]))
         # The columns with even parity, and how the first of them that has a character is described
         rows: list[tuple[tuple[int, ...], str]] = [
-            ((), "a byte"), ((0,), "a byte (start box)"), ((4, 5), "a byte (a space)"),
+            ((), "a byte"), ((0, 4), "a byte (start box)"), ((4, 5), "a byte (a space)"),
             ((5,), "a byte (alpha red)"), ((3,), 'the character "b"'),
-            ((2, 3, 6), 'the character "A"'), ((0, 6), 'the character "c"')]
+            ((2, 3, 6), 'the character "\u00c4"'), ((0, 6), 'the character "c"')]
         for (columns, words), (frame, whose) in itertools.product(rows, (
-                (24, "the page"), (25, 'subtitle 1, "Ab  c",'),
+                (24, "the page"), (25, 'subtitle 1, "\u00c4b  c",'),
                 (50, "the page after subtitle 1"))):
             fault = parse_single_fault(f"refused 68 Parity frame {format_frame(frame)} packet 1")
             cells = bytes(HIT if at in columns else code for at, code in enumerate(pages[21]))
