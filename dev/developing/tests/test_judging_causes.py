@@ -14,11 +14,13 @@ from subtitles.formats.stl import Subtitle
 from subtitles.judging.causes import (
     Cause, CAUSE_NAMES, CauseDescriber, Causes, EARLY, LATE, NEVER, NOT_ERASED, OTHER_TEXT,
     TEXT_IN_PAUSE, WRONG_TEXT, count_causes, format_cause_counts, list_cause_counts)
+from subtitles.judging.faults import describe_unrecorded
 from subtitles.judging.transmissions import ExpectedPages
 from subtitles.judging.verdict import measure_delay
 from subtitles.stream.packets import Packets
 from subtitles.stream.receiver import BLANK_PAGE, Rows, SpanIndex, Timeline
 from .judged import JudgedPair, ProgrammeCase
+from .parts import parse_single_fault
 from .stories import read_vectors
 from .test_judging_fault_details import TIMES as WAIVED_TIMES, make_waiver
 from .transmissions import CLOSING, HEADER, PAGE, SentPes, make_numbered_row
@@ -290,6 +292,10 @@ class CausesByHand(unittest.TestCase):
                                ("0:- 110:a 160:-", False), ("0:- 100:a 150:-", False)):
             causes = self.find_causes("100-150 a", sent)
             self.assertEqual(causes.was_replaced_early(0), expected, sent)
+            part: Any = SimpleNamespace(causes=causes, expected_pages=lambda: causes.expected)
+            self.assertEqual(
+                describe_unrecorded(parse_single_fault("refused 74 End frame 00:00:05:20"), part),
+                "" if expected else "1 of 1 subtitle was not recorded completely", sent)
 
     def test_a_recording_covers_the_frames_of_its_pes_packets_and_of_its_pcr(self) -> None:
         for pcr_frames, expected in ((None, (10, 20)), ((5, 30), (5, 30)), ((12, 18), (10, 20)),
