@@ -3,6 +3,7 @@ from __future__ import annotations
 
 import contextlib
 import io
+import json
 import os
 import re
 from types import SimpleNamespace
@@ -13,11 +14,12 @@ from developing.pes import make_packet, make_pes_packet
 from subtitles.common.program import find_proof
 from subtitles.common.times import CLOCK, TICKS
 from subtitles.formats.listing import parse_fault_line
+from subtitles.formats.stl import Subtitle
 from subtitles.judging.causes import Cause, CAUSE_NAMES, LATE, WRONG_TEXT
-from subtitles.judging.faults import describe_longest_gap, find_fault_place, list_hints
+from subtitles.judging.faults import describe_first_hint, find_fault_place, list_hints
 from subtitles.judging.part import report_causes
 from subtitles.judging.sentence import Facts, FaultCount, describe_causes, describe_faults
-from subtitles.judging.transmissions import run_program
+from subtitles.judging.transmissions import ExpectedPages, run_program
 from subtitles.request.commands import CLEAR_LINE, Listener, Progress
 from subtitles.request.request import Unclear
 from subtitles.stream.packets import PacketRun, Packets
@@ -25,7 +27,7 @@ from subtitles.stream.receiver import BLANK_PAGE
 from .bench import Case
 from .judged import LineRecorder
 from .parts import (
-    decode_packets, make_answer, make_example_request, make_part, make_shell_script,
+    decode_packets, make_answer, make_example_request, make_packets, make_part, make_shell_script,
     parse_single_fault, survey_packets)
 from .stories import read_vectors
 from .transmissions import CLOSING, HEADER, ORIGIN, make_numbered_row
@@ -80,63 +82,45 @@ class Descriptions(Case):
                    'text: expected "Ä", received "Ü".')
 
     def test_lists_other_causes_after_a_shared_delay(self) -> None:
-        for delay, causes, expected in (
-                (2, "; ".join(f"{number} late 2" for number in range(1, 10)), "2 frames late"),
-                (2, "1 late 2; 2 wrong place; 3 never sent",
-                 "2 frames late; also never sent (1), wrong place (1)"),
-                (-1, "1 early 1; 2 early 3; 3 late 1", "1 frame early; also another delay (2)"),
-                (2, "1 late 2; 6 another text in a pause (at 10:00)",
-                 "2 frames late; also another text in a pause (1)")):
+        for row in read_vectors("shared-delays.tsv"):
             words = describe_faults(Facts(
-                "refused", subtitles=9, first=CONTENT, has_cause=True, faults=9, delay=delay,
-                causes=make_causes(*parse_causes(causes))))
-            self.check(causes, words, f"all 9 subtitles appeared {expected}")
+                "refused", subtitles=9, first=CONTENT, has_cause=True, faults=9,
+                delay=int(row["delay"]), causes=make_causes(*parse_causes(row["causes"]))))
+            self.check(f"{row}", words, row["sentence"])
 
     def test_lists_other_faults_after_a_cause(self) -> None:
         causes = make_causes(cause(2, LATE, 3))
-        # The number of faults by fault number, and the end of the sentence: four numbers at most,
-        # worst first, without 63, 72 and 74, which the cause explains.
-        for numbers, expected in (
-                ({72: 9}, ""), ({72: 9, 68: 1}, "; also 68 Name"), ({63: 1, 72: 9, 74: 1}, ""),
-                ({73: 2, 68: 1, 72: 9}, "; also 68 Name and 73 Name (2)"),
-                ({79: 1, 69: 1, 68: 1, 67: 1}, "; also 67 Name, 68 Name, 79 Name and 69 Name"),
-                ({79: 1, 73: 1, 69: 1, 68: 1_234, 67: 1},
-                 "; also 67 Name, 68 Name (1,234), 79 Name, 69 Name and 1 more number"),
-                ({79: 1, 73: 1, 69: 1, 68: 1, 67: 1, 66: 1},
-                 "; also 67 Name, 68 Name, 79 Name, 66 Name and 2 more numbers")):
-            counts = [FaultCount(number, "Name", count) for number, count in numbers.items()]
+        for row in read_vectors("other-faults.tsv"):
+            counts = [FaultCount(number, "Name", count)
+                      for number, count in json.loads(row["counts"])]
             words = describe_faults(Facts("refused", subtitles=9, first=CONTENT, has_cause=True,
                                           faults=9, counts=counts, causes=causes))
-            self.check(f"{numbers}", words, describe_causes(causes, "english") + expected)
+            self.check(row["counts"], words, describe_causes(causes, "english") + row["end"])
 
     def test_finds_the_pes_packet_of_a_fault(self) -> None:
         """PES packets 0 to 3 are at the frames 0, 10, 10 and 20."""
         data = b"".join(make_pes_packet(TICKS * frame, [HEADER, CLOSING])
                         for frame in (0, 10, 10, 20))
-        # The line of the fault, --within, and the number of the PES packet: the one with the named
-        # Teletext packet, else the last of the frame; the first for fault 73 without --within.
-        for line, within, pes in (
-                ("refused 73 Gap frame 00:00:00:10", 0, 1),
-                ("refused 73 Gap frame 00:00:00:10", 1, 2),
-                ("refused 77 Incomplete frame 00:00:00:10", 0, 2),
-                ("refused 77 Incomplete frame 00:00:00:10", 1, 2),
-                ("refused 73 Gap frame 00:00:00:15", 1, None),
-                ("refused 68 Parity frame 00:00:00:10 packet 1", 1, 1),
-                ("refused 68 Parity frame 00:00:00:10 packet 2", 1, 2),
-                ("refused 38 UnitLength pes 3", 0, 3)):
-            packets, fault = survey_packets(self, data), parse_single_fault(line)
-            fault_place = find_fault_place(fault, packets, decode_packets(self, data, 0, within))
-            self.check(f"{line} {within}", fault_place.pes, pes)
+        for row in read_vectors("fault-places.tsv"):
+            decoded = decode_packets(self, data, 0, int(row["within"]))
+            fault = parse_single_fault(f"refused {row['fault']}")
+            place = find_fault_place(fault, decoded.packets, decoded)
+            self.check(f"{row}", place.pes, int(row["pes"]) if row["pes"] else None)
 
     def test_finds_the_last_pes_packet_of_a_frame_that_makes_a_cell_wrong(self) -> None:
-        data = b"".join(make_pes_packet(10 * TICKS, [HEADER, make_numbered_row(20, text)])
-                        for text in (b"a", b"b"))
-        fault = parse_single_fault("refused 72 X frame 00:00:00:10 row 20 column 2")
+        data = b"".join(make_pes_packet(10 * TICKS, [HEADER, *rows]) for rows in (
+            [make_numbered_row(20, b"a")], [make_numbered_row(20, b"b")], list[bytes]()))
         decoded = decode_packets(self, data)
-        for wrong, right in ((0, 1), (1, 0)):  # numbers of the PES packets
+        # The column, the PES packet that makes the page right, and the last PES packet that makes
+        # the cell wrong. If there is none, this is the last PES packet of the frame.
+        for column, right, wrong in ((2, 0, 2), (2, 1, 2), (2, 2, 1), (0, 2, 1), (3, 0, 2)):
+            fault = parse_single_fault(f"refused 72 X frame 00:00:00:10 row 20 column {column}")
             expected = decoded.get_state_after(right).rows
-            self.check(f"{wrong}", find_fault_place(fault, decoded.packets, decoded, expected).pes,
-                       wrong)
+            self.check(f"{column} {right}", find_fault_place(
+                fault, decoded.packets, decoded, expected).pes, wrong)
+        parity = parse_single_fault("refused 68 Parity frame 00:00:00:10 packet 1")
+        self.check("page after the frame", find_fault_place(parity, decoded.packets, decoded).rows,
+                   decoded.get_state_after(2).rows)
 
     def test_finds_the_headers_of_a_frame_with_a_wrong_control_bit(self) -> None:
         data = make_pes_packet(0, [HEADER]) + make_pes_packet(9, [CLOSING])  # of page 8FF
@@ -156,30 +140,39 @@ class Descriptions(Case):
             self.check(f"{last}", [*list_hints(make_part_verdict([part]))], hints)
 
     def test_reports_the_longest_gap_without_losses(self) -> None:
-        each = tuple(range(0, 1001, 100))
-        less, cues = (*each[:5], *each[6:]), [(frame, frame + 9) for frame in each]
-        # The frames of headers, the last frame, --every, all fault numbers, the cues, and the gap,
-        # up to a header or the end of the last frame. With fault 38, some packets are not read. The
-        # usual interval of repeats (headers that are not at a cue) is named if --every allows it.
-        rows: list[tuple[tuple[int, ...], int, int, set[int], list[tuple[int, int]], str]] = [
-            (each, 1000, 50, {73}, [], "100 frames"), (each, 1000, 99, {73}, [], "100 frames"),
-            (each, 1000, 100, {73}, [], ""), (each, 1000, 50, {73, 38}, [], ""),
-            (each, 1000, 50, {73, 72}, [], "100 frames"), (less, 1000, 99, {73}, [], "200 frames"),
-            (less, 1000, 100, {73}, [], "200 frames (usually 100)"),
-            (less, 1000, 100, {73}, cues, "200 frames"),
-            (each[1:], 1000, 50, {73}, [], "100 frames"),
-            (each, 1100, 100, {73}, [], "101 frames (usually 100)"),
-            (each, 1098, 99, {73}, [], "100 frames"), ((0, 101), 101, 100, {73}, [], "101 frames"),
-            ((), 5, 1, {73}, [], "")]
-        for frames, last, every, numbers, times, expected in rows:
+        for row in read_vectors("longest-gaps.tsv"):
+            frames, ends = ([*map(int, row[name].split())] for name in ("headers", "last"))
+            lines = [f"refused {number} Name" for number in row["faults"].split()]
+            answer = make_answer([*lines, f"{len(lines)} faults"])
+            cues = (item.partition("-") for item in row["cues"].split())
+            pages = ExpectedPages([Subtitle(1, 1, int(begin), int(end), 20, 2, b"")
+                                   for begin, _, end in cues], [])
             for origin, ticks in ((ORIGIN, 0), (ORIGIN_BEFORE_WRAP, 0), (ORIGIN, 5), (ORIGIN, -5)):
-                headers, ends = ([(origin + TICKS * frame + ticks) % CLOCK for frame in some]
-                                 for some in (frames, (last,)))
-                request = make_example_request("one.stl", "one.pes", "--every", str(every),
-                                               "--within", str(abs(ticks)))
-                result = describe_longest_gap((headers, ends), origin, request, numbers, times)
-                self.check(f"{frames} {last} {every} {numbers} {times} {origin} {ticks}", result,
-                           expected and f"the page had no header for up to {expected}")
+                packets = Packets(0x101, [PacketRun(at, 1, (origin + TICKS * frame + ticks) % CLOCK,
+                                                    0, "h" * (at < len(frames)), "")
+                                          for at, frame in enumerate(frames + ends)])
+                part = make_part(0, 1200, origin, answer, packets=packets,
+                                 pes=(0, len(frames)), expected_pages=lambda: pages)
+                verdict = make_part_verdict([part])
+                verdict.request = make_example_request("one.stl", "one.pes", "--every",
+                                                       row["every"], "--within", f"{abs(ticks)}")
+                self.check(f"{row['name']} {origin} {ticks}", [*list_hints(verdict)],
+                           [f"73: {row['hint']}"] * bool(row["hint"]))
+
+    def test_gives_a_hint_on_the_times_of_pes_packets(self) -> None:
+        for row in read_vectors("time-hints.tsv"):
+            begin, frames = ORIGIN + int(row["ticks"]), [*map(int, row["sent"].split())]
+            line, hint = f"refused {row['fault']}", row["hint"]
+            part = make_part(0, 999, ORIGIN, make_answer([line, "1 faults"]), pes=(0, 99),
+                             header_problem="a wrong header",
+                             packets=make_packets([begin + TICKS * frame for frame in frames], ""),
+                             request=make_example_request("one.stl", "one.pes", "--within",
+                                                          row["within"], "--pace", row["pace"]))
+            verdict = make_part_verdict([part])
+            hints = [*list_hints(verdict)]
+            first_hint = describe_first_hint(parse_single_fault(line), part, verdict)
+            self.check(row["name"], (hints, first_hint), ([f"{line[8:10]}: {hint}"] * bool(hint),
+                                                          hint))
 
     def test_gives_a_hint_for_the_first_fault_of_each_number_in_each_part(self) -> None:
         """Three parts: one with wrong headers and a gap, an accepted one, and one with a gap."""
