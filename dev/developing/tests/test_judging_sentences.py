@@ -93,17 +93,12 @@ class Sentences(Case):
                 self.check(f"{number}", [item for item in ADVICE_OPTIONS if item in clause], [])
 
     def test_names_the_subtitle_of_a_refused_character_or_line(self) -> None:
-        long_line = b"A line of thirty-eight letters and a b"
-        # The second of three subtitles, whose SN is 8, the fault, and the text in the sentence
-        for name, (text, fault, shown) in {
-                "a letter": (b"To \xe6\x03 morrow\x8a\x8anow", "the national option lacks",
-                             "To \u0132 morrow / now"),
-                "a long line": (long_line, "a line has more than 40 cells", long_line.decode()),
-                "an accent": (b"\xc2e\xe6", "the national option lacks", "\u00e9\u0132")}.items():
-            stl = write_subtitle_file(
-                self, [(100, 150, b"One"), (200, 250, text), (300, 350, b"Three")], first=7)
-            sentence = f'Refused: in subtitle 2 (SN 8) at 00:00:08:00, "{shown}" (block 2), {fault}'
-            self.check(name, judge_files(self, stl).verdict.sentence[:len(sentence)], sentence)
+        for row in read_vectors("refused-texts.tsv"):
+            stl = write_subtitle_file(self, [
+                (100, 150, b"One"), (200, 250, make_cells(row["text"])), (300, 350, b"Three")],
+                first=7)
+            self.check(row["name"], judge_files(self, stl).verdict.sentence,
+                       f"Refused: in subtitle 2 (SN 8) at 00:00:08:00, {row['sentence']}")
 
 
 BEGIN = 900_000
@@ -112,22 +107,20 @@ TIMES = [(BEGIN + 50 * at, BEGIN + 50 * at + 40) for at in range(6)]
 
 class RecordingEnds(ProgrammeCase):
     """The subtitles 1 to 9 appear at the frames 100, 200, .. 900, for 60 frames each. Subtitle 10
-    follows the ninth without a pause, so the program can't judge a range that ends between them."""
+    follows the ninth without a pause."""
 
     cues = [*subtitle_times(9), (960, 1060)]
 
     def test_counts_subtitles_that_are_cut_off(self) -> None:
         for row in read_vectors("recording-ends.tsv"):
-            first, last = (TICKS * int(frame) for frame in row["received"].split("-"))
+            first, last = (TICKS * int(row[name]) for name in ("first", "last"))
             sent = [item for item in self.sent if first <= item[0] <= last]
-            judged = self.judge(sent, "--origin", str(-int(row["late by"]) * TICKS % CLOCK))
-            number, _, option = row["hint"].partition(" ")
-            name = f"{row['received']} late by {row['late by']}"
-            self.check(f"{name}: hint", [hint for hint in judged.result["hints"]
-                                         if hint.startswith(("63", "74"))], [
-                f"{number}: 1 of 10 subtitles was not recorded completely; use {option} to judge "
-                "the others"] * bool(number))
-            self.must(f"{name}: sentence", row["sentence"] in judged.sentence, judged.sentence)
+            judged = self.judge(sent, "--origin", str(-int(row["delay"]) * TICKS % CLOCK))
+            self.check(f"{row['name']}: hint", [
+                hint for hint in judged.result["hints"] if hint.startswith(("63", "74"))],
+                [row["hint"]] * bool(row["hint"]))
+            self.must(f"{row['name']}: sentence", row["sentence"] in judged.sentence,
+                      judged.sentence)
 
     def test_never_leads_with_a_waived_fault(self) -> None:
         """Subtitle 3 is 2 frames late (fault 72), and subtitle 1 has an even byte (fault 68)."""
@@ -155,19 +148,6 @@ def make_header(c4: int = 8, c5: int = 8, c7: int = 1, c11: int = 8) -> bytes:
     return make_packet(0, 0, [8, 8, 0, c4, 0, c5, c7, c11], b" " * 32)
 
 
-# Changed values in the header of a page, each named for its lowest control bit, and what the
-# sentence says of the page.
-HEADERS = {
-    "c5=0": "hides the picture on some receivers: C6 (subtitle) is clear",
-    "c7=9": "is not shown on some receivers: C10 (inhibit display) is set",
-    "c5=0 c7=0 c11=2": "hides the picture on some receivers: C6 (subtitle) is clear; C7 (suppress "
-    "header) is clear; the header is French",
-    "c7=0": "shows a header line on some receivers: C7 (suppress header) is clear",
-    "c5=12": "appears as a newsflash on some receivers: C5 (newsflash) is set",
-    "c11=2": "is shown with wrong characters on some receivers: the header is French",
-    "c4=0": "may appear over old text on some receivers: C4 (erase page) is clear in 1 of "}
-
-
 class NamedPlaces(ProgrammeCase):
     """German subtitles, "Number 1, Ösl" and so on, appear every 50 frames from 10:00:00:00 on
     for 40 frames. The header of one page is wrong: that of subtitle 3 or of the blank page after.
@@ -181,14 +161,14 @@ class NamedPlaces(ProgrammeCase):
         begin, end = TIMES[2]
         pages = {begin: '10:00:04:00, subtitle 3, "Number 3, Ösl",',
                  end: "10:00:05:15, the page after subtitle 3"}
-        for (values, effect), (frame, page) in itertools.product(HEADERS.items(), pages.items()):
+        for row, (frame, page) in itertools.product(read_vectors("headers.tsv"), pages.items()):
             header = make_header(**{name: int(value) for name, _, value in (
-                word.partition("=") for word in values.split())})
+                word.partition("=") for word in row["values"].split())})
             sentence = self.judge([
                 (pts, [header, *some[1:]] if pts == frame * TICKS % CLOCK else some)
                 for pts, some in sent]).sentence
-            expected = f"Refused: at {page} {effect}"
-            self.check(f"{values} at {frame}", sentence[:len(expected)], expected)
+            expected = f"Refused: at {page} {row['effect']}"
+            self.check(f"{row['values']} at {frame}", sentence[:len(expected)], expected)
 
 
 class EmptyRanges(ProgrammeCase):
@@ -239,7 +219,7 @@ class VisibleRows(Case):
         for row in read_vectors("hidden-rows.tsv"):
             cells = make_cells(row["cells"])
             self.check(row["name"], (find_visibility(cells).name, describe_hidden_characters(
-                cells, "english")), (row["shown"], row["message"]))
+                cells, "german")), (row["shown"], row["message"]))
 
     def test_no_decoder_shows_text_in_the_colour_of_its_background(self) -> None:
         # Code 1D makes the colour before it the background, 1C makes the background black.
