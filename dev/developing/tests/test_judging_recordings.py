@@ -148,9 +148,10 @@ class Recordings(Case):
         stl[GSI + 2 * TTI + TEXT_AT + 4] = 0xC2  # subtitle 3 is refused
         judged = judge_files(self, self.write("one.stl", stl), self.write("one.pes", PES),
                              "--from", "20:15:03:00")
-        self.check("not checked", [item["text"] for item in judged.result["not_checked"]][-2:], [
-            "1 subtitle outside of --from and --to",
-            "1 subtitle refused in the file, or followed by a refused subtitle"])
+        self.check("not checked", [
+            (item["kind"], item["text"]) for item in judged.result["not_checked"]][-2:], [
+            ("outside", "1 subtitle outside of --from and --to"), ("refused_subtitles",
+             "1 subtitle refused in the file, or followed by a refused subtitle")])
 
     def test_counts_losses_of_the_page_pid_only(self) -> None:
         """Pages 888 and 801 are sent on two PIDs, and the fifth TS packet of one PID is lost."""

@@ -44,6 +44,8 @@ class RefusedSubtitles(Case):
     """The subtitles "Number 1" to "Number 10" appear at the frames 100, 200 .. 1000 for 60 frames.
     Their transmission is correct; in the subtitle file, some have the refused text `BAD`."""
 
+    first = 1  # number of the first subtitle
+
     def setUp(self) -> None:
         super().setUp()
         self.blocks: list[ShownSubtitle] = [
@@ -57,7 +59,7 @@ class RefusedSubtitles(Case):
         """Write the subtitle file with the refused text in the subtitles with these numbers."""
         return write_subtitle_file(self, [
             (begin, end, BAD if number in bad else text)
-            for number, (begin, end, text) in enumerate(self.blocks, 1)], "bad.stl")
+            for number, (begin, end, text) in enumerate(self.blocks, 1)], "bad.stl", self.first)
 
     def write_changed_stl(self, number: int, at: int, byte: int) -> str:
         """Write the subtitle file with this byte at an offset in the TTI block of a subtitle."""
@@ -119,12 +121,26 @@ class RefusedSubtitles(Case):
                            ("page of a batch", make_pair_row(self.folder, row).source)):
             self.must(name, "8 subtitles judged, 2 refused" in text, text)
 
-    def test_does_not_know_a_subtitle_before_one_that_overlaps_it(self) -> None:
-        early = self.write_changed_stl(4, TCI_SECONDS, 14)  # instead of 16; 3 ends at 14:10
-        judged = self.judge(early, self.pes)
-        self.check("subtitles 2 to 5", [
-            item["verdict"] for item in judged.result["subtitles"]][1:5],
-            ["right", "not known", "wrong", "right"])
+    def test_gives_all_values_of_each_subtitle(self) -> None:
+        """Subtitle 1 begins at midnight. Subtitle 7 is 3 frames late, 8 has a repeat with a wrong
+        header, and 9 is erased 5 frames early. In the file, 3 begins within 2 and has the text
+        `BAD`, 5 begins within 4, 6 has another text, and 10 has a control code. Faults 51 (the
+        code) and 57 (an overlap) are only warnings. The numbers (SN) are 7 to 16."""
+        self.first, german = 7, ("--option", "german")
+        self.blocks = [(0, 60, b"\xc8ONumber 1"), *(
+            (begin, end, b"\xc8O" + text) for begin, end, text in self.blocks[1:])]
+        late = delay_subtitle(7, by=3)(schedule_pages(self, self.write_stl(), *german))
+        sent = [(pts - TICKS * 5 * (pts == TICKS * 960),
+                 [KEEPING_HEADER, *some[1:]] if pts == TICKS * 825 else some) for pts, some in late]
+        for number, begin, text in ((3, 250, BAD), (5, 450, b"Number 5"), (6, 600, b"\xc8Over 6"),
+                                    (10, 1000, b"Number \x9f")):
+            self.blocks[number - 1] = begin, self.blocks[number - 1][1], text
+        result = self.judge(
+            self.write_stl(), self.write("one.pes", join_pes_packets(sent)), *german,
+            "--severity", self.write("severity", b"51 warning\n57 warning\n")).result
+        self.check("values", [{name: "-" if value is None else f"{value}" for name, value
+                               in row.items()} for row in result["subtitles"]],
+                   [*read_vectors("subtitle-rows.tsv")])
 
     def test_the_sentence_names_the_first_fault_of_a_subtitle_that_is_an_error(self) -> None:
         """Subtitle 4 begins too early (fault 57) and has the text `BAD` (fault 50). Subtitle 8 has
@@ -189,6 +205,10 @@ class RefusedSubtitles(Case):
             self.check(f"{bad} {words}", (judged.timed_verdict, len(judged.result["parts"]),
                                           judged.verdict.subtitle_counts),
                        ("refused", 2, SubtitleCounts(10 - len(bad), len(bad))))
+            self.check(f"{bad} {words}: parts of the refused and the last subtitle", [
+                (row["part"], row["position"]) for row in judged.result["subtitles"]
+                if row["position"] in (*bad, 10) and row["verdict"] != "not known"],
+                [(1 + (number > 4), number) for number in (*bad, 10)])
             self.must(f"{bad} {words}: sentence", words in judged.verdict.sentence,
                       judged.verdict.sentence)
 
@@ -224,8 +244,8 @@ class RefusedSubtitles(Case):
         self.check("verdict", (judged.timed_verdict, judged.check_lines,
                                judged.result["subtitle_counts"]), (
             "refused", ["refused 50 Character block 3 at 0", "1 faults"], None))
-        self.check("not checked", [item["text"] for item in judged.result["not_checked"]],
-                   ["1 subtitle outside of --from and --to"])
+        found = [(item["kind"], item["text"]) for item in judged.result["not_checked"]]
+        self.check("not checked", found, [("outside", "1 subtitle outside of --from and --to")])
         self.must("note", f"the other subtitles were not judged: {empty} is empty"
                   in judged.verdict.notes, judged.verdict.notes)
         self.must("sentence", " (block 3), the national option " in judged.verdict.sentence,
