@@ -21,7 +21,7 @@ from subtitles.formats.stl import SubtitleFile
 from subtitles.judging import desync, timing
 from subtitles.judging.pages import (
     ATTRIBUTES, describe_attribute_difference, describe_code, describe_extra_rows, describe_move,
-    format_page_text, join_page_text)
+    format_cells, format_page_text, join_page_text)
 from subtitles.judging.pair import PairJudge
 from subtitles.judging.subtitles import OptionAdvice
 from subtitles.judging.timing import (
@@ -440,6 +440,9 @@ class PageDifferences(Case):
                              "row 20 column 1: a space instead of start box"),
             "a longer row": ((ONE, (22, b"  twos")),
                              "row 22 column 5: 73 instead of a space, ends a column late"),
+            "a row that begins with a start box": (
+                (ONE, (22, b"\x0b two")), "row 22 column 0: start box instead of a space, begins "
+                "2 columns early"),
             "a shorter row in green": (
                 (ONE, (22, b"\x02 tw")), "row 22 column 0: alpha green instead of a space, "
                 "begins 2 columns early, ends a column early")})
@@ -456,6 +459,8 @@ class PageDifferences(Case):
         self.check("lines", format_page_text(OWN, 0), "Hello / two")
         self.check("German", format_page_text(make_page_with_rows((1, b"\x5b[#")), 4), "ÄÄ#")
         self.check("a colour", join_page_text(make_page_with_rows((3, b"a \x03 b"))), "a b")
+        self.check("cells", format_cells(make_page_with_rows((1, b"  \x0ba b\x7f"), (24, b"c"))),
+                   "row 1 column 2: <0B>a b<7F>, row 24 column 0: c")
 
     def test_names_the_codes_of_attributes(self) -> None:
         self.check("codes", [describe_code(code) for code in (0, 7, 0x1F, 0x20, 0x21, 0x7F)],
