@@ -33,7 +33,6 @@ from .programmes import wait_until
 from .runner import Counts
 from .stories import read_vectors
 from .test_dev_clones import list_omitted_names
-from .test_dev_gate import COUNT_CASES
 
 VECTORS = os.path.join(TOP, "dev", "vectors")
 GATE = os.path.join(TOP, ".ci", "run")
@@ -195,19 +194,6 @@ class FailedScripts(Case):
                                    mock.Mock(side_effect=[short, script.CallCost(*day)])):
                 self.check(f"{day}", [name for name, fault in script.check_full_day("") if fault],
                            wrong)
-
-    def test_make_examples_writes_the_stored_examples(self) -> None:
-        count = len([name for name in os.listdir(EXAMPLES) if not name.endswith(".md")])
-        with contextlib.redirect_stdout(io.StringIO()) as out:
-            import_script("check-program").compare_examples(self.bench.program)
-        self.check("output", out.getvalue(), f"{count} passed, 0 failed\n")
-
-    def test_check_program_counts_missing_unexpected_and_different_examples_as_failed(self) -> None:
-        script = import_script("check-program")
-        files = {"same": b"", "other": b"1", "old": b""}, {"same": b"", "other": b"2", "new": b""}
-        with contextlib.redirect_stdout(io.StringIO()), mock.patch.multiple(
-                script, read_files=mock.Mock(side_effect=files), subprocess=mock.Mock()):
-            self.check("passed, failed", script.compare_examples(""), (1, 3))
 
 
 # What `check` prints about the inputs of bench/inputs.py with 200 frames or subtitles
@@ -400,15 +386,6 @@ class FailedChecks(Case):
                    ["  false:    len(case.folder) > 1", "  found:    'no folder'"])
         self.check("lines", len(many.splitlines()), MAX_LINES_PRINTED)
 
-    def test_check_tools_and_check_survey_fail_with_a_wrong_program(self) -> None:
-        other = self.write_program("other", "#!/bin/sh\necho another program\n")
-        for name, *words in (["check-tools", "test_stream_survey.Lines"],
-                             ["check-survey", "--count", "1"]):
-            process = self.tool(name, "-p", other, *words)
-            last = process.out.decode().splitlines()[-1]
-            self.check(f"{name}: {last}", (process.status, last.endswith(", 0 failed")),
-                       (1, False))
-
     def test_faults_finds_each_faulty_program(self) -> None:
         script = import_script("faults")
         for number, row in enumerate(read_vectors("faulty-programs.tsv")):
@@ -432,13 +409,6 @@ class FailedChecks(Case):
                 steps.check_command(f"exit {status}", "out")
             self.check(f"status {status}", steps.failed == 0, status in (0, 1, 3))
 
-    def test_check_readme_compares_the_complete_output(self) -> None:
-        steps = import_script("check-readme").CloneCommands(self.folder)
-        with contextlib.redirect_stdout(io.StringIO()):
-            for shown in "a\nb", "a", "b", "a\nb\nc":
-                steps.check_output("echo a; echo b", shown)
-        self.check("passed, failed", (steps.passed, steps.failed), (1, 3))
-
     def test_check_survey_compares_the_status_as_the_last_line(self) -> None:
         script = import_script("check-survey")
         for command, lines in (("exit 0", []), ("exit 3", ["status 3"]),
@@ -460,14 +430,6 @@ class FailedChecks(Case):
             self.check("difference", script.compare("", 1)[2],
                        "page 300: line 1: set 2, expected: set 1")
 
-    def test_check_tools_prints_first_what_it_runs_and_last_its_counts(self) -> None:
-        name = "test_dev_gate.Counts"  # has one test with a check for each row
-        process = self.tool("check-tools", "--jobs", "3", "-p", self.bench.program, name)
-        first, *_, last = process.out.decode().splitlines()
-        self.check("status", process.status, 0)
-        self.check("first line", first, f"running 1 test, 3 at a time, of {self.bench.program}")
-        self.check("last line", last, f"{len(COUNT_CASES)} passed, 0 failed")
-
     def test_pytest_uses_the_program_in_subttx_and_lists_each_skipped_test_once(self) -> None:
         script, bench = import_script("conftest.py"), Bench()
         with mock.patch.dict(os.environ, {"SUBTTX": "/bin/true"}), \
@@ -477,8 +439,9 @@ class FailedChecks(Case):
             bench.over = ["no mypy", "no bash", "no mypy"]
             script.pytest_terminal_summary()
             script.pytest_unconfigure()
-        self.check("program, last line", (bench.program, out.getvalue()),
-                   (os.path.realpath("/bin/true"), "skipped: no mypy; no bash\n"))
+        self.check("program, has a folder, last line",
+                   (bench.program, os.path.isdir(bench.folder), out.getvalue()),
+                   (os.path.realpath("/bin/true"), True, "skipped: no mypy; no bash\n"))
 
 
 def replace_check(name: str, script: Any, faults: list[str]) -> dict[str, Any]:
@@ -613,23 +576,6 @@ class CheckStatuses(Case):
 
 
 class NewMachines(Case):
-    def test_check_program_prints_first_what_it_runs_and_last_what_was_skipped(self) -> None:
-        script = import_script("check-program")
-        skipped = "skipped: units, since there is no systemd"
-        self.patch_scripts(script, *(subprocess.CompletedProcess([], 0, printed) for printed in (
-            f"{skipped}\n2 passed, 0 failed\n", "skipped: another\n5 passed, 0 failed\n")))
-        for known_package, failed in (("", 0), ("mypy", 0), ("systemd", 1)):
-            with contextlib.redirect_stdout(io.StringIO()) as out, \
-                    mock.patch.dict(os.environ, {"CI": "yes"}), \
-                    mock.patch.object(script, "is_known", known_package.__eq__):
-                status = script.main(["-p", self.bench.program])
-            first, *lines = out.getvalue().splitlines()
-            self.must("first line", first.startswith("running 2 scripts, ") and "minutes" in first,
-                      first)
-            self.check(f"{known_package}: status, last lines", (
-                status, {*lines[-3:-1]}, lines[-1]), (
-                    failed, {"skipped: another", skipped}, f"8 passed, {failed} failed"))
-
     def test_check_program_counts_each_script_without_counts_as_failed(self) -> None:
         """These scripts crash, do not start, or do not end in time. Another fails one test."""
         script = import_script("check-program")
@@ -730,3 +676,6 @@ class SmallRepository(Case):
 
     def test_checks_print_the_stored_output(self) -> None:
         self.check_outputs("check-outputs.txt", shutil.ignore_patterns("__pycache__"))
+
+    def test_runs_of_tests_print_the_stored_output(self) -> None:
+        self.check_outputs("test-outputs.txt", shutil.ignore_patterns("__pycache__"))
