@@ -645,6 +645,36 @@ class ProverJobs(Case):
                     mock.patch.object(os, "sched_getaffinity", lambda _: range(8)):
                 self.check(f"{memory} GiB, {quota}", script.compute_job_limit(), jobs)
 
+    def test_crates_on_which_much_work_depends_get_more_jobs_and_processor_time(self) -> None:
+        script = import_script("prove")
+        work = mock.Mock(remaining_work={"long": 10, "half": 5, "short": 4})
+        for limit, crate, is_only_job, jobs in (
+                (8, "short", True, 4), (3, "long", True, 3), (8, "long", False, 2),
+                (8, "half", False, 2), (8, "short", False, 1), (1, "long", False, 1)):
+            work.limit = limit
+            self.check(f"{limit} {crate} {is_only_job}", script.Work.compute_jobs(
+                work, crate, 10, is_only_job), jobs)
+        for limit, expected in (5, [("long", 0), ("half", 5), ("short", 5)]), (2, [("long", 0)]):
+            work.limit, work.lanes, work.waiting = limit, [], {"half", "short", "long"}
+            work.compute_jobs = lambda *_: 3
+            with mock.patch.object(script, "Lane", lambda crate, _, jobs, nice: mock.Mock(
+                    crate=crate, jobs=jobs, nice=nice)):
+                script.Work.begin(work)
+            self.check(f"begins with {limit}", [(lane.crate, lane.nice) for lane in work.lanes],
+                       expected)
+
+    def test_a_terminal_shows_a_line_that_is_cut_at_its_width(self) -> None:
+        script = import_script("prove")
+        with contextlib.redirect_stderr(io.StringIO()) as out, \
+                mock.patch.object(out, "isatty", lambda: True), \
+                mock.patch.object(os, "get_terminal_size", lambda _: os.terminal_size((46, 9))):
+            progress = script.Progress(3)
+            progress.report("a")
+            progress.draw(["b", "c", "d"])
+            progress.clear()
+        self.check("printed", out.getvalue(),
+                   "\r\x1b[Ksubttx: 0 s, 2 of 3 crates left; proving b, c\r\x1b[K")
+
 
 class SmallRepository(Case):
     """The repository of dev/vectors/small-repository.txt with the scripts. The commands in its
