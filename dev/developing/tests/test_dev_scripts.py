@@ -4,6 +4,7 @@ from __future__ import annotations
 import contextlib
 import io
 import os
+import re
 import shutil
 import signal
 import subprocess
@@ -72,6 +73,12 @@ class Gate(Case):
         env = {**os.environ, "PATH": f"{self.path(folder)}/bin:{os.environ['PATH']}",
                "CALLS": self.path(f"{folder}/calls"), "CI": "yes" * (changed == INSTALLER)}
         return self.call(["bash", self.path(f"{folder}/.ci/run"), *args.split()], env=env)
+
+    def test_prints_its_first_comment_as_help(self) -> None:
+        comment = (read(GATE) or "").partition("\n")[2].partition("\n\n")[0]
+        for option in ("-h", "--help"):
+            self.check(option, self.call_gate(option, option, "rt", "", 0), (
+                0, f"{re.sub('^# ?', '', comment, flags=re.M)}\n".encode(), []))
 
     def test_takes_no_names_if_rt_ci_takes_none(self) -> None:
         self.check("status, output, message", self.call_gate("gate", "low", "bin/rt", "", 0), (

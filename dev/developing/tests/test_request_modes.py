@@ -322,8 +322,10 @@ class WrongArguments(Case):
             self.check(f"{name} --version", self.tool(name, "--version"),
                        (0, f"{name} {version}\n".encode(), []))
             process = self.tool(name, "--help")
-            first = (read(get_tool_path(name)) or "").splitlines()[1].lstrip('"# ')
-            self.must(name, process.status == 0 and process.out.decode().startswith(first), process)
+            text = read(get_tool_path(name)) or ""
+            shown = re.findall(r'\A[^\n]*\n(?:"""(.*?)"""|((?:#[^\n]*\n)*))', text, re.S)[0]
+            shown = shown[0] or re.sub("^# ?", "", shown[1], flags=re.M)
+            self.must(name, process.status == 0 and process.out.decode().startswith(shown), process)
 
     def test_reports_a_full_standard_output(self) -> None:
         if not os.path.exists("/dev/full"):
