@@ -142,6 +142,13 @@ class FailedScripts(Case):
             with mock.patch.object(script, "define_answers", lambda *_, call=call: [call]):
                 self.check(f"{numbers}", not script.try_one_rule(trial, pair).faults, is_right)
 
+    def test_a_known_call_has_the_answer_of_the_definitions(self) -> None:
+        script, call = import_script("check-every-place"), Call("a", "check", (b"",), "")
+        trial, known = mock.Mock(find_differences=lambda _: []), KnownCall(call, Answer(["one"]))
+        for line, faults in ("one", []), ("two", ["the definitions: line 1: two, expected: one"]):
+            with mock.patch.object(script, "define_answer", lambda _, line=line: Answer([line])):
+                self.check(line, script.try_known(trial, known).faults, faults)
+
     def test_check_every_place_compares_status_lines_and_written_files(self) -> None:
         for row in read_vectors("compared-answers.tsv"):
             trial = trying.Trial(self.write_program("program", f"#!/bin/sh\n{row['program']}\n"),
@@ -405,6 +412,9 @@ class FailedChecks(Case):
             command = row["command"].replace("PROGRAM", right)
             self.write_program(f"{number}/program", f"#!/bin/sh\n{command}\n")
             faults = [case[2] for task in script.GROUPS[row["group"]](trial) for case in task()]
+            if trial.skipped and not faults:
+                self.bench.over += trial.skipped
+                continue
             self.check(f"{row['group']}: failed cases, all cases",
                        (sum(map(bool, faults)), len(faults)), (int(row["failed"]),
                                                                int(row["cases"])))
