@@ -260,7 +260,8 @@ class Measurements(Case):
 
     def test_takes_the_number_of_instructions_from_valgrind(self) -> None:
         script = self.import_from_bench("count")
-        self.write_program("valgrind", "#!/bin/sh\necho ==1== $4 : 1234 >&2\n")
+        self.write_program("valgrind", "#!/bin/sh\n[ $GLIBC_TUNABLES ] || exit\n"
+                                       "echo ==1== $4 : 1234 >&2\n")
         with mock.patch.dict(os.environ, PATH=f"{self.folder}:{os.environ['PATH']}"):
             self.check("number", script.instructions("program", ["Collected"]), 1234)
             self.assertRaises(SystemExit, script.instructions, "program", ["killed"])
@@ -297,7 +298,7 @@ class Measurements(Case):
                                  make=print, record=print, least=print_commands,
                                  milliseconds=lambda words: 8 * print_commands(words)[0],
                                  peak=lambda _: "7 MB", find_built_program=lambda: "program"), \
-                mock.patch.object(os, "sched_setaffinity"), \
+                mock.patch.object(os, "sched_setaffinity", lambda _, used: print(len(used))), \
                 mock.patch.object(subprocess, "run"), \
                 mock.patch.object(shutil, "which", lambda _: None), \
                 mock.patch.object(os.path, "getsize", lambda _: 1_000_000), \
@@ -480,7 +481,7 @@ def replace_check(name: str, script: Any, faults: list[str]) -> dict[str, Any]:
             "has_program": lambda _: True,
             "run_commands": lambda steps: steps.check_result("a", not faults)},
         "faults": lambda: {"prepare": mock.Mock(), "GROUPS": {"a": lambda _: [lambda: [
-            ("a", RunResult(0, b"", None, []), faults)]]}},
+            ("a", RunResult(0, b"", None, []), faults)]], "no cases": lambda _: []}},
         "plant": lambda: {"Worker": mock.Mock(), "Planting": mock.Mock(
             return_value=mock.Mock(try_bugs=lambda _: [True, not faults]))}}
     return result[name]()
