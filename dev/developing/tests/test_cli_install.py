@@ -220,6 +220,8 @@ class Installation(Case):
         with tarfile.open(path) as archive:
             archive.extractall(self.folder)
             folder = self.path(archive.getnames()[0])
+            self.check("user, group, time", {(item.uid, item.uname, item.gname, item.mtime)
+                                             for item in archive}, {(0, "root", "root", 946684800)})
         for name, sums in (folder, "SHA256SUMS"), (self.folder, f"{path}.sha256"):
             process = self.call(["sha256sum", "--quiet", "-c", sums], folder=name)
             self.check(f"checksums in {sums}", process, (0, b"", []))
