@@ -604,11 +604,10 @@ class NewMachines(Case):
             self.check("status", script.main(["-p", self.bench.program]), 1)
         self.check("last line", out.getvalue().splitlines()[-1], "5 passed, 6 failed")
 
-    def test_check_program_runs_each_script_on_the_program_with_a_time_limit(self) -> None:
+    def test_check_program_limits_the_time_of_each_script(self) -> None:
         script = import_script("check-program")
         with mock.patch.object(subprocess, "run") as run:
             script.run("faults", "/bin/true")
-        self.check("command", run.call_args.args, ([get_tool_path("faults"), "-p", "/bin/true"],))
         self.check("time limit", run.call_args.kwargs["timeout"], script.SECONDS)
 
     def patch_scripts(self, script: Any, *results: object) -> None:
