@@ -13,7 +13,7 @@ from unittest import mock
 from developing.stl import make_box_line, make_gsi_block, make_subtitle_blocks
 from subtitles.air import judge, main as air_main
 from subtitles.air.delivery import Delivery, read_delivery
-from subtitles.air.status import name_feeds
+from subtitles.air.status import CRITICAL, UNKNOWN, name_feeds, print_status
 from subtitles.cli import batch, main as qc_main
 from subtitles.cli.single import now as date
 from subtitles.cli.state import BUG_LOG, State, log_bug, write_state
@@ -22,17 +22,11 @@ from subtitles.formats.stl import GSI, TTI
 from subtitles.request.request import Request
 from .air import AirCase, DAY, OLD_MTIME
 from .bench import Case
-from .stories import read_vectors
-
-# Air times in nights in which the clocks in Berlin change, and the names of their results, in UTC
-NIGHTS = {"2026-10-25T02:30:00+02:00": "20261025T003000Z-a",
-          "2026-10-25T02:30:00+01:00": "20261025T013000Z-a",
-          "2027-03-28T01:59:59+01:00": "20270328T005959Z-a",
-          "2027-03-28T03:00:00+02:00": "20270328T010000Z-a"}
+from .stories import Story, read_files, read_vectors
 
 
 def format_seconds(time: float | None) -> str:
-    return "None" if time is None else f"{time - DAY:g}"
+    return "None" if time is None else f"{time - DAY:.15g}"
 
 
 class Lines(AirCase):
@@ -46,19 +40,14 @@ class Lines(AirCase):
         return [*(f"{item.name} {format_seconds(item.begin)} {format_seconds(item.end)}"
                   for item in schedule.programmes), *schedule.faults]
 
+    @mock.patch.dict(os.environ, TZ="CET-1CEST,M3.5.0,M10.5.0/3")  # Berlin
     def test_reads_each_line(self) -> None:
+        self.addCleanup(time.tzset)
+        time.tzset()
         for row in read_vectors("schedule-lines.tsv"):
             fault = f"line 1: {row['fault']}" if row["fault"] else ""
             self.check(row["name"], self.read_lines(row["line"] + "\n"),
                        [*filter(None, (row["programme"], fault))])
-
-    @mock.patch.dict(os.environ, TZ="CET-1CEST,M3.5.0,M10.5.0/3")  # Berlin
-    def test_names_results_by_utc_when_the_clocks_change(self) -> None:
-        self.addCleanup(time.tzset)
-        time.tzset()
-        for air_time, name in NIGHTS.items():
-            line, = self.read_lines(f"{air_time} a.stl\n")
-            self.check(air_time, line.split()[0], name)
 
     def test_ignores_a_line_without_a_line_end_for_a_minute_after_the_last_change(self) -> None:
         text = "".join(f"2026-12-01T08:00:00Z news{number}.stl --page 889\n" for number in range(3))
@@ -181,30 +170,35 @@ STATE: dict[str, object] = {
     "alarms": [], "warnings": ["schedule", "page 888"],
     "free_bytes": {"segments": 5, "results": 7}, "last_byte": None,
     "last_header": {"888": None}, "waiting": 0, "late": [], "segments": 1, "last_result": ""}
-OK, WARNING, CRITICAL, UNKNOWN = range(4)  # statuses of Nagios
-# Members that differ from STATE, which was written now, and the exit status of `air status`
-STATUS_CASES: dict[str, tuple[dict[str, object], int]] = {
-    "no alarm": ({}, OK),
-    "a warning": ({"alarms": ["schedule"]}, WARNING),
-    "two warnings": ({"alarms": ["schedule", "page 888"]}, WARNING),
-    "an alarm": ({"alarms": ["silence"]}, CRITICAL),
-    "a warning and an alarm": ({"alarms": ["schedule", "page 889"]}, CRITICAL),
-    "written long ago": ({"date": "2020-11-29T20:15:00Z"}, CRITICAL),
-    "without a date": ({"date": None}, CRITICAL),
-    "invalid alarms": ({"alarms": None}, UNKNOWN),
-    "invalid free bytes": ({"free_bytes": 5}, UNKNOWN)}
 
 
 @mock.patch.dict(os.environ, TZ="EAST-5")  # five hours ahead of UTC, in which states have dates
 class Status(Case):
-    def test_ends_with_the_status_of_nagios(self) -> None:
-        for name, (changes, status) in STATUS_CASES.items():
-            state: dict[str, object] = {**STATE, "date": date(time.time()), **changes}
-            self.write("state.json", json.dumps(state).encode())
-            self.check(name, self.tool("air", "status", self.folder).status, status)
-            process = self.tool("air", "status", self.folder, self.path("no state"))
-            self.check(f"{name}, and another folder has no state", process.status,
-                       CRITICAL if status == CRITICAL else UNKNOWN)
+    def print_status(self, row: Story, *outs: str) -> tuple[int, str]:
+        """Write the state of a row to the folder `feed`. Return the exit status and the output for
+        folders, the last of them `feed`, and write the metrics."""
+        state: dict[str, object] = {**STATE, "date": date(DAY), **json.loads(row["changes"])}
+        self.write("feed/state.json", json.dumps(state).encode())
+        with mock.patch.object(time, "time", lambda: DAY + float(row["age"])), \
+                contextlib.redirect_stdout(io.StringIO()) as out:
+            status = print_status([*outs, self.path("feed")], 60, self.path("metrics"))
+        return status, out.getvalue()
+
+    def test_prints_the_state_and_ends_with_the_status_of_nagios(self) -> None:
+        os.mkdir(self.path("feed"))
+        for row in read_vectors("air-statuses.tsv"):
+            name, status = row["name"], int(row["status"])
+            result, text = self.print_status(row)
+            self.check(name, (result, text[:len(row["line"])]), (status, row["line"]))
+            self.check(f"{name}, and another folder has no state", self.print_status(
+                row, self.path("nothing"))[0], CRITICAL if status == CRITICAL else UNKNOWN)
+
+    def test_writes_the_metrics_of_all_feeds(self) -> None:
+        os.mkdir(self.path("feed"))
+        row, = (row for row in read_vectors("air-statuses.tsv") if row["name"] == "all members")
+        self.print_status(row, self.path("nothing"))
+        (_, metrics), = read_files("air-metrics.txt")
+        self.check("metrics", self.read("metrics").decode(), metrics)
 
     def test_a_watched_folder_has_no_metrics_of_a_feed(self) -> None:
         """The state of `qc --watch` is from 2009, with 5 free bytes and a refused film."""
