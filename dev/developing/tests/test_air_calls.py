@@ -7,7 +7,8 @@ import os
 import subprocess
 import sys
 import time
-from typing import Iterator
+from types import SimpleNamespace
+from typing import Any, Iterator
 from unittest import mock
 
 from subtitles.air import check, main
@@ -16,7 +17,7 @@ from subtitles.air.decision import decide
 from subtitles.air.segments import UnbrokenRun, find_segments, find_unbroken_runs, make_segment_name
 from subtitles.cli.single import hold_lock
 from subtitles.common.times import FRAMES_A_SECOND
-from .air import AirCase, DAY
+from .air import AirCase, DAY, make_outcome
 from .bench import SECONDS, get_tool_path
 from .programmes import BEGIN, LASTS, SECOND, repeat_last_page, make_programme, wait_until
 from .stories import read_vectors
@@ -66,8 +67,8 @@ class Checks(Feeds):
         return result
 
     def test_names_three_gaps_and_counts_the_others(self) -> None:
-        for gaps, text in (("a", "a"), ("abc", "a, b, c"), ("abcd", "a, b, c and 1 more"),
-                           ("abcdef", "a, b, c and 3 more")):
+        for gaps, text in (("", "some seconds"), ("a", "a"), ("abc", "a, b, c"),
+                           ("abcd", "a, b, c and 1 more"), ("abcdef", "a, b, c and 3 more")):
             outcome = decide("one", [], gaps, has_passed=True)  # each letter is the text of a gap
             self.check(gaps, outcome and outcome.reason, f"not recorded: {text}")
 
@@ -94,11 +95,32 @@ class Checks(Feeds):
         with mock.patch.object(check, "read_call_result", return_value=result):
             self.check("reason", self.check_frames(self.make_feed()).reason, "refused 72")
 
+    def test_knows_what_later_segments_or_a_corrected_file_may_change(self) -> None:
+        for row in read_vectors("outcomes.tsv"):
+            faults = [dict(zip(("file", "severity"), fault.split()))
+                      for fault in filter(None, row["faults"].split(", "))]
+            inputs: dict[str, object] = {"recording": {} if row["recording"] == "read" else None}
+            outcome = make_outcome("one", row["verdict"], "", inputs=inputs, faults=faults)
+            outcome = outcome._replace(is_finished=row["ended"] == "yes")
+            self.check(row["name"], (f"{outcome.is_final}", f"{outcome.has_file_fault}"),
+                       (row["is final"], row["has file fault"]))
+
+    def test_a_refused_programme_may_continue_after_the_last_packet(self) -> None:
+        for row in read_vectors("exit-statuses.tsv"):
+            parts = [SimpleNamespace(packets=SimpleNamespace(count=int(count)), pes=(
+                None if last == "-" else (0, int(last)))) for count, last in (
+                    part.split("/") for part in row["parts"].split())]
+            verdict: Any = SimpleNamespace(status=int(row["qc"]), parts=parts,
+                                           is_final=row["is final"] == "True")
+            self.check(row["name"], check.exit_status(verdict), int(row["status"]))
+
     def test_a_killed_program_gives_no_result(self) -> None:
-        for command in ("kill -9 $$", "kill -9 $PPID"):  # the program, and the process that runs it
+        for command, reason in (
+                ("kill -9 $$", ": check gave no verdict: it printed nothing, status -9"),
+                ("kill -9 $PPID", "the process that judged it was killed")):
             program = self.make_program_with_exception("check*", command)
             outcome = self.check_frames(self.make_feed(), program=program)
-            self.check(command, outcome.result, None)
+            self.must(command, outcome.result is None and outcome.reason.endswith(reason), outcome)
 
     def test_a_refusal_because_of_an_invalid_subtitle_file_is_not_final(self) -> None:
         frames = self.make_feed()
@@ -107,11 +129,11 @@ class Checks(Feeds):
         self.check("verdict, is_final", (result.verdict, result.is_final), ("refused", False))
 
     def test_stops_a_check_that_takes_too_long(self) -> None:
-        program = self.make_program_with_exception("check*", "sleep 60")
-        with mock.patch.object(check, "MIN_SECONDS", 0.1):  # plus a second for each 2 MB
-            outcome = self.check_frames(self.make_feed(), program=program)
-        self.must("outcome", outcome.result is None and "not judged within" in outcome.reason,
-                  outcome)
+        program, frames = self.make_program_with_exception("check*", "sleep 60"), self.make_feed()
+        rate = len(b"".join(frames)) / 0.4  # so the time limit is 0.8 seconds
+        with mock.patch.multiple(check, MIN_SECONDS=0.4, BYTES_PER_SECOND=rate):
+            outcome = self.check_frames(frames, program=program)
+        self.check("outcome", outcome, Outcome(None, "it was not judged within 1 seconds"))
 
     def test_reports_while_a_programme_is_judged(self) -> None:
         calls = list[int]()
@@ -120,10 +142,11 @@ class Checks(Feeds):
         self.must("status, reports", status == 7 and len(calls) > 3, (status, calls))
 
     def test_a_disk_without_room_for_the_recording_gives_no_result(self) -> None:
+        frames = self.make_feed()  # is copied twice, since all of it is within the margin
         with mock.patch.object(check, "SPARE_BYTES", 1 << 60):  # bytes that must stay free
-            outcome = self.check_frames(self.make_feed())
-        self.must("outcome", outcome.result is None and outcome.reason.startswith("no room"),
-                  outcome)
+            outcome = self.check_frames(frames)
+        needed = f"{2 * len(b''.join(frames)) + (1 << 60):,} bytes"
+        self.check("outcome", outcome, Outcome(None, f"no room in {self.path('out')} for {needed}"))
 
     def test_a_segment_that_is_truncated_meanwhile_gives_no_result(self) -> None:
         real = UnbrokenRun.read
@@ -134,8 +157,9 @@ class Checks(Feeds):
 
         with mock.patch.object(UnbrokenRun, "read", read):
             outcome = self.check_frames(self.make_feed())
-        self.must("outcome", outcome.result is None and outcome.reason.endswith("became shorter"),
-                  outcome)
+        path = f"{self.path('segments')}/{make_segment_name(DAY)}"
+        self.must("outcome", outcome.result is None and outcome.reason.endswith(
+            f": {path}: it became shorter"), outcome)
 
 
 class Calls(Feeds):
@@ -176,7 +200,7 @@ class Calls(Feeds):
     def test_judges_a_recorded_feed(self) -> None:
         for is_wrong, verdict in ((False, "relative"), (True, "refused")):
             self.delete_all("segments", "out")
-            endings = self.judge_recorded_feed(is_wrong, "--keep")
+            endings = self.judge_recorded_feed(is_wrong, "--keep", "--work", self.path("new/work"))
             self.check("verdicts", [*self.verdicts().values()], [verdict])
             self.check("--keep", endings, [".html", ".json", ".pes", ".txt"])
 
@@ -238,16 +262,28 @@ class Calls(Feeds):
                        (status, [f"air: {message}"]))
 
     def test_records_with_limits_in_seconds_and_bytes(self) -> None:
-        with mock.patch.object(main, "record") as record:
-            main.main("", ["record", self.path("feed"), *"--length 7 --keep 3 --free 5".split()])
-        self.check("limits", record.call_args[0][2], (7, 3 * 3600, 5_000_000))
+        for options, limits in (("", (10, 48 * 3600, 1_000_000_000)),
+                                ("--length 7 --keep 3 --free 5", (7, 3 * 3600, 5_000_000))):
+            with mock.patch.object(main, "record") as record:
+                main.main("", ["record", self.path("feed"), *options.split()])
+            self.check(f"limits {options}", record.call_args[0][2], limits)
+
+    def test_the_help_names_the_default_of_each_number(self) -> None:
+        for make_parser in (main.make_record_parser, main.make_judge_parser,
+                            main.make_status_parser):
+            for action in make_parser()._actions:
+                if type(action.default) is int:
+                    self.must(f"{action.option_strings}", f"(default: {action.default})" in
+                              f"{action.help}", action.help)
 
     def test_refuses_a_folder_that_another_call_writes(self) -> None:
         self.write("schedule", b"")
-        # The name of the lock that another call holds, its folder, and the call
-        for name, folder, line in (("recorder", "segments", "air record segments"),
-                                   ("state", "out", "air judge schedule segments -o out"),
-                                   ("state", "out", "qc --watch segments -o out")):
+        # The name of the lock that another call holds, its folder, the call, and its message
+        for name, folder, line, message in (
+                ("recorder", "segments", "air record segments", "feed is being recorded in"),
+                ("state", "out", "air judge schedule segments -o out", "service is judging into"),
+                ("state", "out", "qc --watch segments -o out", "service is judging into")):
             with hold_lock(self.path(folder), name, ""):
                 process = self.tool(*line.split())
-            self.must(line, process.status == 2 and ": another " in process.told[0], process)
+            self.check(line, (process.status, process.told),
+                       (2, [f"{line.split()[0]}: another {message} {folder}"]))

@@ -1,16 +1,16 @@
 """Test the judge of tools/air: its verdicts, their times, and its reaction to failures."""
 from __future__ import annotations
 
+import contextlib
 import errno
 import json
-import math
 import os
 import time
 from typing import Any, Collection, Sequence
 from unittest import mock
 
 from subtitles.air import judge as judging
-from subtitles.air.check import Outcome
+from subtitles.air.check import Checker, Outcome
 from subtitles.air.decision import Window, give_up, is_clock_wrong, is_given_up
 from subtitles.air.schedule import Programme
 from subtitles.air.segments import Segment, find_segments, make_segment_name, parse_segment_begin
@@ -30,36 +30,7 @@ PAGE, OTHER_PAGE = (0, 0x88), (0, 0x89)
 
 ON_TIME = {NAME: SentProgramme(BEGIN, END)}
 NEVER_SENT: dict[str, SentProgramme] = {}
-# Lines of a schedule, each with its time in seconds after DAY, a subtitle file and options; and for
-# each line, earliest first, how many seconds before and after its time an airing counts for it
-MARGINS = {
-    "far apart": (["0 one", "120 one"], [(60, 60), (60, 60)]),
-    "other subtitles": (["0 one", "30 two"], [(60, 60), (60, 60)]),
-    "the same subtitles": (["0 one", "100 one", "130 one"], [(60, 50), (50, 15), (15, 60)]),
-    "the same file by another path": (["0 one", "30 ./one"], [(60, 15), (15, 60)]),
-    "no file": (["0 one", "30 three"], [(60, 15), (60, 60)]),
-    "no file, but a result": (["0 one", "30 four"], [(60, 60), (60, 60)]),
-    "other pages": (["0 one", "0 one --page 889", "40 one --page 889"],
-                    [(60, 60), (60, 20), (20, 60)]),
-    "other parts": (["0 one --to 00:00:01:00", "30 one --from 00:00:01:00"], [(60, 60), (60, 60)]),
-    "not sorted": (["30 one", "0 one"], [(60, 15), (15, 60)])}
-
 HOUR, LAST = 3600, END + MARGIN_SECONDS  # an hour, and the end of a programme's window
-# For a programme that waits: later segments as begin and end in seconds after its window, the time
-# before which all segments are deleted, the earliest time that the clock has shown for an hour, and
-# whether the programme is given up. It may begin until BEGIN + MARGIN_SECONDS. It is also given up
-# when an hour of feed is recorded later than 47 hours after its window.
-GIVEN_UP_CASES: dict[str, tuple[list[tuple[int, int]], float, float, bool]] = {
-    "no later feed": ([], 0, 0, False),
-    "the latest begin is not deleted": ([], BEGIN + MARGIN_SECONDS, 0, False),
-    "the latest begin is deleted": ([], BEGIN + MARGIN_SECONDS + 1, 0, True),
-    "feed up to 48 hours later": ([(0, 48 * HOUR)], 0, 0, True),
-    "feed up to 48 hours later, but for a second": ([(0, 48 * HOUR - 1)], 0, 0, False),
-    "feed from 47 hours later": ([(47 * HOUR, 48 * HOUR)], 0, 0, True),
-    "the recorder's clock is ahead for a segment": ([(0, 7200), (72 * HOUR, 72 * HOUR + 10)], 0, 0,
-                                                    False),
-    "the clock shows 48 hours later": ([], 0, LAST + 48 * HOUR, False),
-    "the clock shows more than that": ([], 0, LAST + 48 * HOUR + 1, True)}
 
 # Two kinds of refusals that a corrected subtitle file may change, and what their JSON results have
 FILE_FAULTS: dict[str, dict[str, object]] = {
@@ -125,6 +96,24 @@ class JudgedProgrammes(AirCase):
             self.run_judge(self.put_trial(row), since=1900, until=2000)
             self.check(row["name"], self.verdicts().get(NAME), row["verdict"])
 
+    def test_judges_in_the_folder_of_work_and_keeps_recordings_if_requested(self) -> None:
+        out, work = self.path("out"), self.path("work")
+        for options, expected in (("", Checker("/bin/true", "qc", out, out)), (
+                f"--work {work} --keep", Checker("/bin/true", "qc", work, out, True))):
+            judge = judging.Judge(self.args(*options.split()), "qc")
+            self.check(options, judge.checker, expected)
+
+    def test_judges_all_programmes_that_have_ended_before_it_exits_or_waits(self) -> None:
+        stop: Any = KeyboardInterrupt
+        for options, looks, count in ((["--once"], [True, True, False], 0), (
+                ["--every-seconds", "7"], [True, False, False, stop], 2)):
+            with mock.patch.object(judging.Judge, "look", side_effect=looks) as look, \
+                    mock.patch("signal.signal"), mock.patch.object(time, "sleep") as sleep, \
+                    contextlib.suppress(stop):
+                self.check("status", judging.judge_schedule(self.args(*options), "qc"), 0)
+            self.check(f"{options}: looks", look.call_count, len(looks))
+            self.check(f"{options}: waits", sleep.call_args_list, [mock.call(7)] * count)
+
     def test_waits_for_a_recorder_that_lags_by_less_than_ten_seconds(self) -> None:
         self.recorder_lag = 9
         with mock.patch.object(judging, "find_segments", self.find_recorded_segments):
@@ -138,9 +127,9 @@ class JudgedProgrammes(AirCase):
         self.check("calls", checker.calls, [NAME] * 4)
 
     def test_retries_after_system_failures(self) -> None:
-        failures = [FAILURE] * 20
-        checker = FakeChecker(ON_TIME, lambda _: failures.pop() if failures else None)
-        self.run_judge(checker, until=3000)
+        outcomes = [make_outcome(NAME, "relative", "relative 1500 frames\nmore"),
+                    *[Outcome(None, "the machine failed\nmore")] * 20]
+        self.run_judge(FakeChecker(NEVER_SENT, lambda _: outcomes.pop()), until=3000)
         self.check("verdict after the last failure", self.verdicts(), {NAME: "relative"})
         self.check("printed after the date", [line.partition("  ")[2] for line in self.printed], [
             f"{NAME}: will be tried again: the machine failed",
@@ -233,8 +222,8 @@ class JudgedProgrammes(AirCase):
         checker = FakeChecker(ON_TIME, change_file_once)
         judge = self.run_judge(checker, until=671)
         self.check("no result yet", self.verdicts(), {})
-        self.must("reason", judge.monitor.last_error.endswith("was changed while it was judged"),
-                  judge.monitor.last_error)
+        self.check("reason", judge.monitor.last_error,
+                   f"{NAME}: {self.path('one.stl')} was changed while it was judged")
         self.run_judge(checker, since=672, until=700)
         self.check("then", self.verdicts(), {NAME: "relative"})
 
@@ -325,14 +314,17 @@ class JudgedProgrammes(AirCase):
             self.put_segments(min(jump + 10, 550), 900)
             self.put_clock_jump(-120, jump)
             self.run_judge(FakeChecker(NEVER_SENT, lambda _: outcome), until=1500)
-            self.check(name, (self.verdicts()[NAME], self.result(NAME)["reason"]),
-                       (verdict, reason))
+            kind = "input" if verdict == "not judged" else "undecided"  # as in `make_outcome`
+            self.check(name, [self.result(NAME)[key] for key in (
+                "verdict", "not_judged_kind", "reason")], [verdict, kind, reason])
 
     def test_gives_up_a_programme_that_waits_for_too_long(self) -> None:
         window = Window(BEGIN, END, END - BEGIN, MARGIN_SECONDS, MARGIN_SECONDS)
-        for name, (spans, deleted, clock, expected) in GIVEN_UP_CASES.items():
-            later = [Segment("", 1, LAST + begin, LAST + end) for begin, end in spans]
-            self.check(name, is_given_up(window, later, deleted, clock), expected)
+        for row in read_vectors("given-up.tsv"):
+            later = [Segment("", 1, LAST + int(begin), LAST + int(end)) for begin, end in (
+                word.split("-") for word in row["later"].split())]
+            result = is_given_up(window, later, float(row["deleted"]), float(row["clock"]))
+            self.check(row["name"], f"{result}", row["given up"])
 
     def test_a_programme_that_is_given_up_is_not_judged(self) -> None:
         for last, kind, reason in (
@@ -385,29 +377,36 @@ class JudgedProgrammes(AirCase):
 
     def test_an_airing_counts_for_the_nearest_line(self) -> None:
         self.write("out/20261201T080030Z-four.json", b"")
-        for name, (lines, expected) in MARGINS.items():
+        for row in read_vectors("margins.tsv"):
             self.write_schedule(*(
                 f"2026-12-01T08:{int(begin) // 60:02}:{int(begin) % 60:02}Z {stl}.stl "
-                f"{' '.join(options)}" for begin, stl, *options in map(str.split, lines)))
+                f"{' '.join(options)}" for begin, stl, *options in map(
+                    str.split, row["lines"].split("; "))))
             judge = self.make_judge(FakeChecker(NEVER_SENT))
             judge.look(DAY)
-            limited = [judge.limit_margins(item, judge.read_delivery(item, DAY), DAY)[0]
-                       for item in judge.schedule.programmes]
-            self.check(name, [(item.early, item.late) for item in limited], expected)
+            margins = list[str]()
+            for item in judge.schedule.programmes:
+                delivery = judge.read_delivery(item, DAY)
+                window = judge.window(judge.limit_margins(item, delivery, DAY)[0], delivery)
+                margins.append(f"{window.begin - window.first:g}-{window.last - window.end:g}")
+            self.check(row["name"], " ".join(margins), row["margins"])
 
     def test_gives_up_on_a_missing_subtitle_file_once_its_segments_are_deleted(self) -> None:
         self.delete_all("segments")
         os.unlink(self.path("one.stl"))
         self.put_segments(700, 2000)
         self.run_judge(FakeChecker(NEVER_SENT), until=1000)
-        self.check("reason", self.result(NAME)["reason"], f"{self.path('one.stl')} does not exist")
+        self.check("kind and reason", [self.result(NAME)[key] for key in (
+            "not_judged_kind", "reason")], ["input", f"{self.path('one.stl')} does not exist"])
 
     def test_judges_again_if_the_result_cannot_be_written(self) -> None:
         full = OSError(errno.ENOSPC, "No space left on device")
         with mock.patch.object(judging, "open_result", wraps=open_result,
                                side_effect=[full, full, full, mock.DEFAULT]) as write:
-            self.run_judge(FakeChecker(ON_TIME), until=900)
+            judge = self.run_judge(FakeChecker(ON_TIME), until=900)
         self.check("calls, results", (write.call_count, self.verdicts()), (4, {NAME: "relative"}))
+        self.check("last error", judge.monitor.last_error,
+                   f"{NAME}: the output: No space left on device")
 
     def test_a_damaged_schedule_loses_no_programme(self) -> None:
         checker, complete = FakeChecker(ON_TIME), self.read("schedule")
@@ -515,8 +514,8 @@ ALARM_CASES: dict[str, tuple[dict[str, Any], list[str], list[str]]] = {
     "no room for the recorder": ({"has_note": True}, ["disk"], []),
     "a bug": ({"has_bug": True}, ["bug"], []),
     "no header for 601 seconds": ({"headers": {PAGE: DAY - 601}}, ["page 888"], ["page 888"]),
-    "no header for 599 seconds": ({"headers": {PAGE: DAY - 599}}, [], []),
-    "recorded for 599 seconds": ({"headers": {PAGE: 0.0}, "oldest": DAY - 599}, [], []),
+    "no header for 600 seconds": ({"headers": {PAGE: DAY - 600}}, [], []),
+    "recorded for 600 seconds": ({"headers": {PAGE: 0.0}, "oldest": DAY - 600}, [], []),
     "a page never seen": ({"headers": {PAGE: 0.0}}, ["page 888"], ["page 888"]),
     "the first of two pages": ({"headers": {PAGE: DAY - 601, OTHER_PAGE: DAY}}, ["page 888"],
                                ["page 888"]),
@@ -526,50 +525,6 @@ ALARM_CASES: dict[str, tuple[dict[str, Any], list[str], list[str]]] = {
     "a result is late": ({"late": ["one"]}, ["late"], []),
     "a fault in the schedule": ({"schedule_faults": ["line 3: what?"]}, ["schedule"],
                                 ["schedule"])}
-
-# A segment's begin and last write, in seconds after DAY; and at the time 60, whether the clock is
-# wrong, and the time of the last byte. Five correct segments, from 0 to 50, are also there. The
-# latest three names, and the latest three that are not in the future, are compared.
-CLOCK_CASES = {
-    "right": (50, 60, (False, 60)),
-    "a name an hour ahead": (3650, 60, (True, 60)),
-    "both an hour ahead": (3650, 3660, (True, 50)),
-    "copied without its time": (40.5, 3660, (True, 50)),
-    "a name of another zone": (-3540, 60, (False, 50)),
-    "a file that no clock could name": (1e8, 60, (False, 50))}
-
-# The difference of the clock from the TDT, steps of the clock 1,500 s apart, and whether the alarm
-# remains when an hour has passed since the last
-CLOCK_STEPS = {
-    "behind, and it stays": (0, [-300], True),
-    "ahead, and it stays": (0, [300], True),
-    "there and back": (0, [-300, 300], False),
-    "away in two steps": (0, [300, -200], True),
-    "the step corrects the clock": (-300, [300], False),
-    "the TDT is another time": (3600, [-300], False)}
-
-# Seconds by which the clock differs from the TDT before and after each jump, and at last; and
-# whether the clock is wrong hours later. It agrees if it differs by at most 30 seconds.
-JUMP_CASES: dict[str, tuple[list[tuple[float, float]], float, bool]] = {
-    "no jump": ([], 600, False),
-    "the TDT is still right": ([(0, -300)], -300, True),
-    "back without a jump": ([(0, -300)], 30, False),
-    "almost back without a jump": ([(0, -300)], -31, True),
-    "no TDT any more": ([(0, -300)], math.nan, True),
-    "back, and then the TDT jumps": ([(0, -300), (-300, 0)], 600, False),
-    "away again": ([(0, -300), (-300, 0), (0, 600)], 600, True),
-    "the clock almost agreed before": ([(30, 61)], 61, True),
-    "it did not agree before": ([(31, 62)], 62, False),
-    "it agrees on both sides": ([(-20, 20)], 60, False),
-    "back to what almost agreed": ([(30, -300), (-300, 31)], 31, False)}
-
-# The begin and the last write of each segment, whether the clock is wrong at the latest write, and
-# the number of segments that are used from 25 on
-LONG_SEGMENTS = {
-    "half an hour each": ([(0, 1800), (1800, 3600), (3600, 4800)], False, 3),
-    "after a pause": ([(0, 1800), (2000, 3600), (3600, 4800)], False, 3),
-    "named in another zone": ([(0, 3610), (10, 3620), (20, 3630)], True, 0),
-    "one copied without its time": ([(0, 10), (10, 3600), (20, 30), (30, 40)], True, 2)}
 
 
 class State(AirCase):
@@ -587,7 +542,7 @@ class State(AirCase):
     def test_raises_each_alarm(self) -> None:
         for name, (changes, alarms, warnings) in ALARM_CASES.items():
             monitor = Monitor()
-            monitor.now, monitor.oldest, monitor.last_byte = DAY, DAY - 9999, DAY - 9
+            monitor.now, monitor.oldest, monitor.last_byte = DAY, DAY - 9999, DAY - 10
             monitor.free = {"segments": 1 << 40, "results": 1 << 40}
             vars(monitor).update(changes)
             state = json.loads(json.dumps(monitor.make_contents()))
@@ -608,43 +563,54 @@ class State(AirCase):
         for begin in (0, 10):
             self.put_segment(begin, begin + 10, read_example_file("recording.ts"))  # without 889
         monitor = Monitor()
-        for now, header in ((5000, 0.0), (100, DAY + 20)):  # the clock is set back
+        for now, header in ((5000, 0.0), (100, DAY + 20), (10, DAY + 10)):  # the clock is set back
             self.look(now, monitor, pages=[PAGE, OTHER_PAGE])
             self.check(f"headers, {now}", monitor.headers, {PAGE: header, OTHER_PAGE: 0.0})
+        for now, header in ((610, DAY + 20), (611, 0.0)):  # the first search covers ten minutes
+            self.check(f"the first search, {now}", self.look(now, pages=[PAGE]).headers,
+                       {PAGE: header})
 
     def test_compares_the_clock_with_segments(self) -> None:
-        for name, (begin, write, expected) in CLOCK_CASES.items():
+        for row in read_vectors("segment-clocks.tsv"):
             self.delete_all("segments")
             self.put_segments(0, 50)
-            os.utime(self.put_segment(begin, begin + 1), (DAY + write, DAY + write))
+            begin, write = float(row["begin"]), DAY + float(row["write"])
+            os.utime(self.put_segment(begin, begin + 1), (write, write))
             monitor = self.look(60)
-            self.check(name, (monitor.is_clock_wrong, monitor.last_byte - DAY), expected)
+            self.check(row["name"], (f"{monitor.is_clock_wrong}", f"{monitor.last_byte - DAY:g}"),
+                       (row["is wrong"], row["last byte"]))
 
     def test_raises_the_alarm_while_the_clock_may_be_wrong(self) -> None:
-        for name, (difference, steps, is_wrong_later) in CLOCK_STEPS.items():
+        for row in read_vectors("clock-alarms.tsv"):
             self.delete_all("segments")
+            steps, difference = [*map(int, row["steps"].split())], int(row["difference"])
             for number, step in enumerate(steps):
                 self.put_clock_jump(step, 1500 * number, difference + sum(steps[:number]))
             first, last_step = Monitor(), 1500 * (len(steps) - 1)
             for seconds in (20, HOUR, HOUR + 1, 6300):
                 for monitor in (first, Monitor()):
                     self.look(last_step + seconds, monitor)
-                    self.check(f"{name}, {seconds} s later, {monitor is first}",
-                               monitor.is_clock_wrong, seconds <= HOUR or is_wrong_later)
+                    expected = f"{seconds <= HOUR or row['active later']}"
+                    self.check(f"{row['name']}, {seconds} s later, {monitor is first}",
+                               f"{monitor.is_clock_wrong}", expected)
 
     def test_knows_from_jumps_and_the_newest_tdt_whether_the_clock_is_wrong(self) -> None:
-        self.check_rows(is_clock_wrong, {
-            name: (([(at, *jump) for at, jump in enumerate(jumps)], difference, 2 * HOUR), expected)
-            for name, (jumps, difference, expected) in JUMP_CASES.items()})
+        for row in read_vectors("wrong-clocks.tsv"):
+            jumps = [(at, float(before), float(after)) for at, (before, after) in enumerate(
+                jump.split("..") for jump in row["jumps"].split())]
+            result = is_clock_wrong(jumps, float(row["newest"]), 2 * HOUR)
+            self.check(row["name"], str(result), row["is wrong"])
 
     def test_uses_long_segments_that_do_not_overlap(self) -> None:
-        for name, (times, is_wrong, count) in LONG_SEGMENTS.items():
+        for row in read_vectors("long-segments.tsv"):
             self.delete_all("segments")
+            times = [[*map(int, word.split("-"))] for word in row["segments"].split()]
             for begin, write in times:
                 self.put_segment(begin, write)
             now = max(write for _, write in times)
-            self.check(name, (self.look(now).is_clock_wrong, len(find_segments(
-                self.path("segments"), DAY + 25, DAY + now))), (is_wrong, count))
+            used = find_segments(self.path("segments"), DAY + 25, DAY + now)
+            self.check(row["name"], (str(self.look(now).is_clock_wrong), f"{len(used)}"),
+                       (row["is wrong"], row["used"]))
 
     def test_reports_segments_that_are_deleted_early(self) -> None:
         # Whether the name of the oldest segment, which begins at 10, reports a possible loss; the

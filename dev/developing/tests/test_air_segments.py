@@ -34,10 +34,6 @@ def make_feeds() -> dict[str, bytes]:
         "back at 900": [*later[:900], *sent[900:]]}.items()}
 
 
-# The begin and the end of a segment of 100 bytes, a time in seconds, and its offset in bytes
-OFFSETS = {"before it": (10, 20, 5, 0), "its beginning": (10, 20, 10, 0),
-           "a tenth": (10, 20, 11, 10), "half": (10, 20, 15, 50), "its end": (10, 20, 20, 100),
-           "after it": (10, 20, 99, 100), "without duration": (10, 10, 10.5, 100)}
 CHANCE = random.Random(3)
 RANDOM_TIMES = [round(CHANCE.uniform(0, 4e9), 3) for _ in range(500)]
 
@@ -131,8 +127,9 @@ class Segments(AirCase):
             self.check("segments", len(find_segments(self.path("segments"), DAY, DAY + 30)), 2)
 
     def test_converts_a_time_to_an_offset_in_a_segment(self) -> None:
-        for name, (begin, end, time, offset) in OFFSETS.items():
-            self.check(name, Segment("", 100, begin, end).find_offset(time), offset)
+        for row in read_vectors("segment-offsets.tsv"):
+            segment = Segment("", 100, float(row["begin"]), float(row["end"]))
+            self.check(row["name"], segment.find_offset(float(row["time"])), int(row["offset"]))
 
     def test_reads_the_bytes_of_a_time_range(self) -> None:
         # From 0 to 30, each second has one byte with its number.
@@ -219,10 +216,10 @@ class Recorded(AirCase):
 
     def test_keeps_the_order_when_the_clock_is_set(self) -> None:
         item = self.make_recorder(kept=10_000)
-        for number, at in enumerate((0, 5, -5, -3, 3600, 3605, 20, 30)):
+        for number, at in enumerate((0, 5, -9.5, -5, 3600, 3605, 20, 30)):
             self.take(item, at, b"%d" % number)
-        # The clock is set back to -5: the next segment is named 0.001, so that it comes last. It is
-        # set back to 20: when the next segment begins, that from 3600 is deleted.
+        # The clock is set back to -9.5: the next segment is named 0.001, so that it comes last. It
+        # is set back to 20: when the next segment begins, the segment from 3600 is deleted.
         self.check("by the clock", self.read_segments(), [
             (0.0, b"01"), (0.001, b"23"), (20.0, b"6"), (30.0, b"7")])
         self.check("a large step back is a loss", self.are_new(), [True, False, True, False])
