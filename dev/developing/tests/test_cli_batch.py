@@ -34,6 +34,7 @@ from .bench import Case, SECONDS, get_example_path
 from .parts import make_example_request, list_call_arguments, make_default_options, run_qc
 from .programmes import wait_until
 from .results import capture_output, make_result, make_table_row
+from .test_formats_files import refusal
 
 
 class Lists(Case):
@@ -49,28 +50,29 @@ class Lists(Case):
     def test_reads_each_line_of_a_list_or_reports_why_not(self) -> None:
         self.make_socket("socket")
         here = f"{self.folder}/"
-        rows = (  # a line of the list, the name of its pair if any, the beginning of the reason
+        rows = (  # a line of the list, the name of its pair if any, the reason
             ("# none", None, ""), ("", None, ""),
             (f"{here}one.stl {here}one.ts --every 50 # more", "one", ""),
             (f"{here}two.stl {here}one.ts", "two", ""),
             (f"{here}one.stl {here}one.ts", "one~2", ""),
-            ('"', "line 6", f"{here}list, line 6: a quote"),
-            (f"{here}one.stl", "line 7", f"{here}list, line 7: "),
+            ('"', "line 6", f"{here}list, line 6: a quote is not closed"),
+            (f"{here}one.stl", "line 7", f"{here}list, line 7: the following arguments are "
+             "required: recording"),
             (f"{here}one.stl {here}folder", "one~3", f"{here}folder is a folder"),
             (f"{here}none.stl {here}one.ts", "none", f"{here}none.stl: No such file or directory"),
             (f"{here}one.stl {here}pipe", "one~4", f"{here}pipe is a pipe"),
-            (f"{here}x.stl -", "line 11", f"{here}list, line 11: a list can't have "),
+            (f"{here}x.stl -", "line 11", f"{here}list, line 11: a list can't have standard "
+             "input (-) as a recording: give a file"),
             (f"{here}x.stl /dev/null --within 2", "x", "/dev/null is a device"),
             (f"{here}x.stl {here}socket", "x~2", f"{here}socket is a socket"),
-            ("caf\udce9.stl x.ts", "caf%E9", "caf\udce9.stl: No such file"))
+            ("caf\udce9.stl x.ts", "caf%E9", "caf\udce9.stl: No such file or directory"))
         text = "\n".join(line for line, _, _ in rows).encode("utf-8", "surrogateescape")
         items = read_pairs(self.write("list", text), make_default_options())
         lines_with_pairs = [row for row in rows if row[1]]
         self.check("pairs", len(items), len(lines_with_pairs))
         for (line, name, reason), item in zip(lines_with_pairs, items):
             kind = "usage" if f"{name}".startswith("line ") else "input"
-            self.check(line, (item.name, (item.reason or "")[:len(reason) or None],
-                              item.reason_kind), (name, reason, kind))
+            self.check(line, (item.name, item.reason or "", item.reason_kind), (name, reason, kind))
         self.check("--every of the valid lines", [
             item.request.every for item in items if item.request], [50, 250, 250])
 
@@ -80,8 +82,8 @@ class Lists(Case):
 
     def test_rejects_a_list_without_pairs(self) -> None:
         for path in (self.write("empty", b"# none\n"), self.path("folder")):
-            with self.assertRaises(Stop, msg=path):
-                read_pairs(path, make_default_options())
+            self.check(path, refusal(lambda: read_pairs(path, make_default_options())),
+                       f"{path} has no pair of a subtitle file and a recording")
 
     def test_protects_the_inputs_of_an_invalid_line(self) -> None:
         """Each word of an invalid line may be an input: no output may replace this file."""
@@ -108,9 +110,10 @@ class Lists(Case):
             self.must(f"line {number}: words", {
                 "one.stl", "one.ts", "x.stl", "two.stl", "none.ts", '"'} <= {*words}, words)
         for number in (4, 5, 10, 99):
-            self.assertRaisesRegex(Stop, "has no pair", read_line_pair, path, number, options)
-        self.assertRaisesRegex(Stop, "--line needs a list, but ", read_line_pair, self.folder, 1,
-                               options)
+            self.check(f"line {number}", refusal(lambda: read_line_pair(path, number, options)),
+                       f"line {number} of {path} has no pair")
+        self.check("a folder", refusal(lambda: read_line_pair(self.folder, 1, options)),
+                   f"--line needs a list, but {self.folder} is a folder")
         with mock.patch("subtitles.request.lines.find_path_problem", return_value=None) as checked:
             read_line_pair(path, 8, options)
         self.check("only the files of line 8 are checked", [
@@ -138,8 +141,11 @@ class Lists(Case):
         self.check("pairs", [(item.request.stl, item.request.recording) for item in items
                              if item.request], [(f"{folder}/b.stl", None)])
         os.mkdir(self.path("empty"))
-        for path in (f"{folder}/b.stl", self.path("empty"), self.path("none")):
-            self.assertRaises(Stop, find_subtitle_files, path, make_default_options())
+        for path, fault in ((self.path("empty"), f"{self.path('empty')} has no subtitle file"), *(
+                (path, f"--file-only needs a folder, but {path} is not a folder") for path in (
+                    f"{folder}/b.stl", self.path("none")))):
+            self.check(path, refusal(lambda: find_subtitle_files(path, make_default_options())),
+                       fault)
 
     def test_judges_each_subtitle_file_of_a_folder(self) -> None:
         """With --file-only: accent.stl is refused, story.stl valid, and story.ts not read."""

@@ -42,8 +42,8 @@ class CommandLine(Case):
             for text, expected in ((row["text"], row["value"]), ("9" * 5000, "refused")):
                 try:
                     result = repr(function(text))
-                except argparse.ArgumentTypeError:
-                    result = "refused"
+                except argparse.ArgumentTypeError as error:
+                    result = "refused" if expected == "refused" else str(error)
                 self.check(f"{row['function']} {text[:20]}", result, expected)
 
     def test_gives_the_program_a_pid_and_a_packet_size_other_than_188(self) -> None:
@@ -81,6 +81,7 @@ class CommandLine(Case):
     def test_formats_each_error_as_one_line(self) -> None:
         for reason, expected in (
                 (Stop("a  line\nof two"), "a line of two"), (KeyboardInterrupt(), "stopped"),
+                (MemoryError(), "out of memory"),
                 (OSError(2, "No such file", "a.stl"), "a.stl: No such file"),
                 (OSError(28, "No space"), "the output: No space"),
                 (OSError(2, "No such file", ""), "an empty name: No such file"),
@@ -172,10 +173,10 @@ class CommandLine(Case):
         self.assertLess(time.process_time() - began, 5)
 
     def test_reports_a_line_that_is_too_long_and_goes_on(self) -> None:
-        lines = split_lines(f"a\n{'b' * (MAX_LINE_CHARACTERS + 1)}\nc\x0b\x85\u2028 'd e'\n'")
-        self.assertEqual([(item.number, item.arguments[-1][:9], bool(item.fault))
-                          for item in lines], [
-            (1, "a", False), (2, "b" * 9, True), (3, "d e", False), (4, "'", True)])
+        lines = split_lines(f"a\n{'b' * (MAX_LINE_CHARACTERS + 1)}\nc\x0b\x85\u2028 'd e'\n'\nf\\")
+        self.assertEqual([(item.number, item.arguments[-1], item.fault) for item in lines], [
+            (1, "a", ""), (2, "b" * 80, "it has more than 65,536 characters"), (3, "d e", ""),
+            (4, "'", "a quote is not closed"), (5, "f\\", "it ends with a backslash")])
 
     def test_reads_a_list_of_at_most_16_million_bytes(self) -> None:
         path = self.write("list", (b"#" * 63_999 + b"\n") * (MAX_BYTES // 64_000))
@@ -312,16 +313,17 @@ class CommandLine(Case):
     def test_finds_the_program_and_the_checksum_of_the_sources_or_says_why_not(self) -> None:
         # The program's path and the message that tools/program prints, and the reported message
         rows: list[tuple[tuple[str, str], str]] = [
-            (("path", ""), ""), (("", "damaged"), "damaged"), (("", ""), "no program is built")]
+            (("path", ""), ""), (("", "damaged"), "damaged"),
+            (("", ""), "no program is built for the sources: run ./subttx, or the gate")]
         for chosen, why in rows:
             with mock.patch("subtitles.common.program.find_program", return_value=chosen):
                 message = refusal(lambda: self.assertEqual(find_built_program(), "path"))
-            self.must(f"{chosen}", message.startswith(why) and bool(message) == bool(why), message)
+            self.check(f"{chosen}", message, why)
         for status in (0, 1, -9):  # of tools/sources
             completed_process = subprocess.CompletedProcess([], status, b"a sum\n")
             with mock.patch("subprocess.run", return_value=completed_process):
                 message = refusal(lambda: self.assertEqual(sources(), "a sum"))
-            self.must(f"{status}", bool(message) == (status != 0), message)
+            self.check(f"{status}", message, "tools/sources can't read the sources" * bool(status))
 
     def refuses(self, inputs: Inputs, name: str, is_followed: bool) -> bool:
         """Return whether `inputs` refuse to write to a file, or to replace it without following."""

@@ -2,6 +2,7 @@
 from __future__ import annotations
 
 import argparse
+import hashlib
 import io
 import itertools
 import os
@@ -25,6 +26,7 @@ from subtitles.request.commands import Listener, make_pair_name, OutputNames, Pr
 from subtitles.request.request import ORIGIN_CHOICE, Selection
 from .bench import Case
 from .judged import ProgrammeCase
+from .test_formats_files import refusal
 
 
 class Shapes(unittest.TestCase):
@@ -198,13 +200,14 @@ class FileNames(Case):
             self.check("content", self.read("one.given.stl"), b"two")
             self.must("another", self.names.make_utf_8_path(latin_1, "x") != link)
 
-    def test_shortens_names_of_more_than_180_bytes_to_different_names(self) -> None:
-        short = ["a" * 179, "a" * 180, "é" * 90]
-        long = ["a" * 181, "a" * 182, "a" * 181 + "b", "é" * 91]
-        result = [make_pair_name(f"{name}.stl") for name in (*short, *long)]
-        self.check("short", result[:3], short)
-        self.check("different", len({*result}), len(result))
-        self.check("shortened", {*long} & {*result}, set())
+    def test_shortens_names_of_more_than_180_bytes_and_adds_their_checksum(self) -> None:
+        # A name and, if it is shortened, its first 120 bytes without half a character
+        for name, beginning in (
+                ("a" * 180, ""), ("é" * 90, ""), ("a" * 181, "a" * 120), ("a" * 182, "a" * 120),
+                ("a" + "é" * 90, "a" + "é" * 59), ("\x07" * 61, "%07" * 40)):
+            checksum = hashlib.sha256(name.encode()).hexdigest()[:32]
+            self.check(name, make_pair_name(f"{name}.stl"),
+                       f"{beginning}%~{checksum}" if beginning else name)
 
 
 # Whether a check was made, failed, and is listed as not made somewhere: the decision about it
@@ -266,9 +269,10 @@ class Checks(Case):
             "all": (("all",), CHECK_KINDS), "one": (("clock",), (CLOCK,)),
             "in order": (("losses, no_video,losses",), (NO_VIDEO, LOSSES)),
             "all and one": (("clock,all",), CHECK_KINDS)})
-        for text in ("", "row_0", "clock,", "video"):
-            with self.assertRaises(argparse.ArgumentTypeError, msg=text):
-                parse_required_kinds(text)
+        for text, wrong in (("", ""), ("row_0", "row_0"), ("clock,", ""), ("all,video", "video")):
+            message = refusal(lambda: parse_required_kinds(text), argparse.ArgumentTypeError)
+            self.check(text, message, f"{wrong!r} is not a check: give all or some of "
+                       f"{','.join(CHECK_KINDS)}")
 
     def test_names_all_required_checks_that_were_not_made(self) -> None:
         self.check("kinds", find_missing_kinds((CLOCK, LOSSES, NO_VIDEO),

@@ -103,11 +103,13 @@ class LayoutMessages(Case):
             self.check(f"{text}: message", find_layout_fault(text), fault)
             self.check(f"{text}: is refused", parse_layout(text) is None, bool(fault))
 
-    def test_refuses_the_layout_auto_and_names_the_option_that_finds_one(self) -> None:
-        process = self.tool("qc", "one.stl", "one.ts", "--layout", "auto")
-        self.check("status and lines", (process.status, len(process.told)), (64, 1))
-        self.must("advice", "find the layout of your inserter with `--measure" in process.told[0],
-                  process)
+    def test_refuses_a_wrong_layout_and_names_the_option_that_finds_one(self) -> None:
+        for layout, message in (
+                ("auto", "auto is no longer a layout: find the layout of your inserter with "
+                 "`--measure STL RECORDING ..`, and keep it in a profile"),
+                ("up,up", "'up,up' is not a layout: up is given twice")):
+            process = self.tool("qc", "one.stl", "one.ts", "--layout", layout)
+            self.check(layout, process, (64, b"", [f"qc: argument --layout: {message}"]))
 
     def make_rows(self, text: bytes, layout: str = "after=0A0A") -> tuple[bytes, ...]:
         """Return the rows of a page that shows a text in a layout, by default the layout of qc."""

@@ -90,8 +90,10 @@ class Modes(Case):
 
     def test_refuses_an_option_of_another_mode_even_with_its_default_value(self) -> None:
         for words, mode, message in (
-                ("--every 25 --every 50", COLLECT, "--every may be given with"),
-                ("--complete --no-complete", ALONE, "--complete needs a recording"),
+                ("--every 25 --every 50", COLLECT, "--every may be given with a recording, "
+                 "--batch, --watch or a line of a batch's list, not with --collect"),
+                ("--complete --no-complete", ALONE, "--complete needs a recording: remove "
+                 "--complete or --file-only"),
                 ("--no-complete --complete", COLLECT, "--complete may be given with"),
                 ("--jobs 2 --settled 3", BATCH,
                  "--settled may be given with --watch, not with --batch"),
