@@ -50,8 +50,8 @@ def parse_air_time(text: str) -> float:
         if found:
             time = datetime.datetime.strptime(text, FORMATS[bool(found[1])])
             return time.astimezone(datetime.timezone.utc).timestamp()
-    raise Stop(f"{text} is not an air time: begin the line with a date and a time that ends in Z "
-               f"or an offset, as `{EXAMPLE} news.stl`")
+    raise Stop(f"{text or 'an empty text'} is not an air time: begin the line with a date and a "
+               f"time that ends in Z or an offset, as `{EXAMPLE} news.stl`")
 
 
 def parse_air_times(word: str) -> tuple[float, float | None]:
