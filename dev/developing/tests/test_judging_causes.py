@@ -308,24 +308,15 @@ class CausesByHand(unittest.TestCase):
     def test_finds_causes_of_early_and_late_ends_only_in_recorded_frames(self) -> None:
         """A subtitle is expected from frame 100 to 150, but its page is shown from 103 to 155. The
         PES packets from 103 to 140 are judged, which faults 63 and 74 at these frames report."""
-        # The first frame of the decoded blank page before the subtitle, the first and last frame
-        # that the PCR covers, and whether the faults 63 and 74 have a cause. The first has one if
-        # the blank page is decoded by frame 100 or the recording covers 97, as long before 100 as
-        # 103 is after it; the second has one if the recording covers 150.
-        for blank_from, first, last, have_causes in (
-                (100, 100, 149, (True, False)), (101, 97, 149, (True, False)),
-                (101, 98, 149, (False, False)), (101, 98, 150, (False, True)),
-                (101, 98, 151, (False, True)), (90, 103, 150, (True, True))):
+        for row in read_vectors("end-causes.tsv"):
             programme, decoded = make_programme("100-150 a"), make_empty_timeline()
-            for frame, name in ((blank_from, "-"), (103, "a"), (155, "-")):
+            for frame, name in ((int(row["blank page"]), "-"), (103, "a"), (155, "-")):
                 decoded.record_page(frame, make_page_named(name))
             decoded.first, decoded.last = 103, 140
-            causes = Causes(programme, decoded, Span(first, last))
+            causes = Causes(programme, decoded, parse_span(row["recorded"]))
             causes.classify_faults(fake_check_output([], (63, 103), (74, 140)))
-            result = [item and item.subtitle_index
-                      for item in (causes.find_cause(63, 103), causes.find_cause(74, 140))]
-            self.assertEqual(result, [0 if has_cause else None for has_cause in have_causes],
-                             (blank_from, first, last))
+            caused = [f"{number}" for number in (63, 74) if causes.find_cause(number, 103)]
+            self.assertEqual(" ".join(caused), row["caused"], row["name"])
 
     def test_the_end_of_the_first_page_shows_its_delay_only_if_a_pause_follows(self) -> None:
         """The recording begins with the first page, 3 frames after its TCI. The second page is 10
