@@ -249,26 +249,19 @@ class Verdicts(Case):
         self.check("valid file", verdict.subtitle_counts, SubtitleCounts(judged=2, refused=0))
         verdict.valid_subtitles = ValidSubtitles([], [], skipped_positions=frozenset({4, 5}))
         self.check("others judged", verdict.subtitle_counts, SubtitleCounts(judged=0, refused=2))
+        self.check("text", SubtitleCounts(judged=1, refused=1234).describe(),
+                   "1 subtitle judged, 1,234 refused")
         refused_file = make_answer(["refused 50 Character block 1 at 4", "1 faults"])
         verdict = make_part_verdict([*self.make_three_parts(), make_part(0, 9, 0, refused_file)])
         self.check("others not judged", verdict.subtitle_counts, None)
 
     def test_spreads_the_delays_of_subtitles(self) -> None:
-        # Delays, their minimum, median and maximum, how many subtitles were never complete, and the
-        # end of the line about them
-        of_spreads: list[tuple[list[int | None], DelaySpread | None, str | None]] = [
-            ([], None, None), ([None], None, None),
-            ([3], DelaySpread(3, 3, 3, 0), "3 frames after their TCI"),
-            ([0, 3, 3], DelaySpread(0, 3, 3, 0), "0 to 3 frames after their TCI (median 3)"),
-            ([5, 1, 3], DelaySpread(1, 3, 5, 0), "1 to 5 frames after their TCI (median 3)"),
-            ([None, 0, 0], DelaySpread(0, 0, 0, 1),
-             "at their TCI, except 1 that was never complete"),
-            ([None, 2, None, 4], DelaySpread(2, 4, 4, 2),
-             "2 to 4 frames after their TCI (median 4), except 2 that were never complete")]
-        for several, expected, words in of_spreads:
-            spread = summarize_delays(several)
-            self.check(f"{several}", (spread, spread and spread.describe()),
-                       (expected, words and f"all subtitles were complete {words}"))
+        for row in read_vectors("delay-spreads.tsv"):
+            spread = summarize_delays(None if item == "-" else int(item)
+                                      for item in row["delays"].split())
+            self.check(row["delays"], (" ".join(map(str, spread or ())),
+                                       spread.describe() if spread else ""),
+                       (row["spread"], row["line"]))
         delays: list[list[int | None]] = [[1, None], [], [7]]
         parts = [dataclasses.replace(part, delays=known)
                  for part, known in zip(self.make_three_parts(), delays)]
@@ -353,20 +346,10 @@ class PartDecisions(Case):
             self.must("named", part_causes is causes.return_value)
 
     def test_finds_the_pes_packets_that_check_skipped(self) -> None:
-        # Lines of `check`, and the first and last of consecutive skipped PES packets. They have the
-        # faults 33 to 40, 45 or 61. One lasts up to its first `ended` line, if no other follows.
-        rows: list[tuple[tuple[str, ...], list[tuple[int, int]]]] = [
-            ((), []), (("refused 38 X pes 3",), [(3, 3)]),
-            (("refused 38 X pes 3", "ended 38 X pes 5"), [(3, 5)]),
-            (("refused 38 X pes 3", "refused 38 X pes 7", "ended 38 X pes 9"), [(3, 3), (7, 9)]),
-            (("refused 38 X pes 3", "ended 61 X pes 5"), [(3, 3)]),
-            (("refused 38 X pes 3", "refused 61 X pes 4", "ended 38 X pes 5"), [(3, 4)]),
-            (("refused 38 X pes 3", "ended 38 X pes 5", "ended 38 X pes 8"), [(3, 5)]),
-            (("refused 45 X pes 0", "refused 62 X pes 4", "refused 44 X pes 5"), [(0, 0)]),
-            (("refused 72 X frame 00:00:00:01", "refused 33 X pes 1", "refused 40 X pes 2"),
-             [(1, 2)])]
-        for lines, expected in rows:
-            self.check(f"{lines}", [*read_lines(self, lines).skipped_packets], expected)
+        for row in read_vectors("skipped-packets.tsv"):
+            output = read_lines(self, [line for line in row["lines"].split("; ") if line])
+            self.check(row["name"], " ".join(f"{first}-{last}" for first, last in
+                                             output.skipped_packets), row["skipped"])
 
 
 class FaultNumbers(Case):
