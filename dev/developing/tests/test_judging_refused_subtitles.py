@@ -6,7 +6,6 @@ import itertools
 import json
 import re
 import subprocess
-import unittest
 import xml.etree.ElementTree as tree
 from unittest import mock
 
@@ -292,7 +291,7 @@ class RefusedSubtitles(Case):
                   search.call_count)
 
 
-class ExpectedPages(unittest.TestCase):
+class ExpectedPages(Case):
     def test_others_are_judged_if_the_file_has_faults_and_fault_60(self) -> None:
         """Fault 60 (no PES packet) is printed for a file alone only if some can be judged."""
         rows: list[tuple[set[int], bool]] = [
@@ -314,6 +313,19 @@ class ExpectedPages(unittest.TestCase):
             self.assertEqual({read_national_option(decoded.get_state_at(frame).header or b"")
                               for frame in frames[1:]}, {OPTION_BY_WORD[option].bits},
                              (gap, option))
+
+    def test_judges_subtitles_without_a_fault_unless_the_next_is_out_of_order(self) -> None:
+        file = SubtitleFile(write_subtitle_file(self, [
+            (100 * at, 100 * at + 60, b"\x9f\xe6 %d" % at) for at in range(1, 6)]))
+        for row in read_vectors("valid-subtitles.tsv"):
+            found = find_valid_subtitles(file, [
+                parse_single_fault(f"refused {line}") for line in row["faults"].split("; ")],
+                "english", lambda fault: f"{fault.number}" not in row["waived"].split())
+            self.check(row["name"], (" ".join(f"{item.index}" for item in found.judged), [
+                f"{item.subtitle.position}: {item.fault.number} {item.character}".rstrip()
+                + " waived" * item.is_waived for item in found.refused], [*found.skipped_positions]
+                ), (row["judged"], row["refused"].split("; "), [
+                    at for at in range(1, 6) if f"{at}" not in row["judged"]]))
 
     def test_lists_forty_refused_subtitles_and_counts_the_others(self) -> None:
         rows: list[tuple[int, list[str]]] = [
