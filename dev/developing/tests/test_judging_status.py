@@ -157,13 +157,17 @@ class Decisions(Case):
             "no fault": (Grounds(accepted, ONE_WARNING), SAME, RELATIVE),
             "an error": (Grounds([RIGHT["refused"]], ONE_WARNING), DIFFERS, DIFFERS),
             "a waived fault": (Grounds(waived, ONE_WARNING), DIFFERS, DIFFERS),
+            "a waived named fault": (Grounds(accepted, NAMES_ARE_WARNINGS,
+                                             named_faults=[NEVER_SENT]), DIFFERS, DIFFERS),
             "an allowed loss": (Grounds(accepted, ALLOWING_SEVERITIES[0], [True]), DIFFERS,
                                 DIFFERS),
             "no output": (Grounds([WRONG["silent"]], ONE_WARNING), NOT_JUDGED, NOT_JUDGED)}
-        for name, (grounds, with_clock, without) in rows.items():
+        statuses = {SAME: 0, DIFFERS: 1, RELATIVE: 3, NOT_JUDGED: 70}
+        for name, (grounds, *words) in rows.items():
             decisions = [decide_comparison(grounds._replace(has_clock=has_clock), False, 0)
                          for has_clock in (True, False)]
-            self.check(name, [item.word for item in decisions], [with_clock, without])
+            self.check(name, [(item.word, item.status) for item in decisions],
+                       [(word, statuses[word]) for word in words])
 
     def test_is_not_judged_after_an_error(self) -> None:
         for name, output in (RIGHT | WRONG).items():
@@ -347,6 +351,8 @@ class LeadingFaults(Case):
             (["not received"] * 4, WRONG_PAGES[1:], WRONG_PAGES[1]),
             (["not received"] * 4, [LOST_LINE, *WRONG_PAGES[1:]], WRONG_PAGES[1]),
             (["late"] * 4, [*WRONG_PAGES, INCOMPLETE], INCOMPLETE),
+            (["late", "never sent", "late", "late"],
+             [*WRONG_PAGES[:3], INCOMPLETE, *WRONG_PAGES[3:]], WRONG_PAGES[2]),
             (["wrong text"] * 4, [*WRONG_PAGES, INCOMPLETE], WRONG_PAGES[1]))
         for names, lines, expected in rows:
             self.check_worst_fault(f"{names}", lines, make_causes_named(names), expected)

@@ -235,8 +235,8 @@ class Decisions(Case):
                 judged_losses=[True] * (row["lost"] == "yes"), error_kinds=row["error"].split(),
                 named_faults=[*filter(None, [row["named fault"]])], has_clock=True,
                 missing_kinds=row["not made"].split())
-            self.check(row["name"], decide_reading(
-                grounds, row["cut"] == "yes", int(row["not trusted"])).word, row["verdict"])
+            result = decide_reading(grounds, row["cut"] == "yes", int(row["not trusted"]))
+            self.check(row["name"], f"{result.word}, {result.status}", row["verdict"])
 
 
 GERMAN_HEADER = make_packet(0, 0, [8, 8, 0, 8, 0, 8, 1, 8], b" " * 32)
