@@ -12,7 +12,8 @@ from subtitles.clock.start import Clock, GIVEN, RECORDING, START, TCP, TimedPart
 from subtitles.common.checks import DRIFT, LOSSES
 from subtitles.common.times import CLOCK, format_frame, pts_of, TICKS
 from subtitles.judging.desync import find_desync
-from subtitles.judging.status import CheckSummary, decide, Grounds, NOT_JUDGED, REFUSED, Severity
+from subtitles.judging.status import (
+    CheckSummary, decide, Decision, Grounds, NOT_JUDGED, REFUSED, Severity)
 from subtitles.judging import timing
 from subtitles.judging.timing import (
     describe_pace, describe_unchecked_losses, measure_part_pace)
@@ -496,7 +497,11 @@ class Pictures(Case):
             self.check(f"{source} {frame}", (unchecked.may_be_wrong, warns), (is_doubtful,) * 2)
 
     def test_a_doubt_prevents_a_verdict_unless_an_error_was_found(self) -> None:
-        doubtful = Grounds([CheckSummary(0, True)], Severity(None), doubts=["a"], has_clock=True)
-        self.check("no fault", decide(doubtful).word, NOT_JUDGED)
+        doubtful = Grounds([CheckSummary(0, True)], Severity(None), doubts=["a", "b"],
+                           has_clock=True)
+        self.check("no fault", decide(doubtful), Decision(NOT_JUDGED, "a\nb", "undecided"))
+        self.check("checks that are required", decide(doubtful._replace(
+            doubts=[], missing_kinds=["losses", "clock"])).reason,
+            "required but not checked: losses, clock")
         wrong_text = CheckSummary(1, fault_count=1, printed_total=1, fault_numbers=[72])
         self.check("a fault", decide(doubtful._replace(parts=[wrong_text])).word, REFUSED)
