@@ -26,8 +26,8 @@ from .judged import JudgedPair, judge_files
 from .parts import parse_single_fault
 from .stories import read_vectors
 from .transmissions import (
-    ShownSubtitle, delay_subtitle, join_pes_packets, packets, schedule_pages, subtitle_times,
-    write_programme, write_subtitle_file)
+    SentPes, ShownSubtitle, delay_subtitle, join_pes_packets, packets, schedule_pages,
+    subtitle_times, write_programme, write_subtitle_file)
 from .test_judging_pairs import NOT_READ, damage_packet
 from .test_judging_reasons import KEEPING_HEADER, change_numbers
 
@@ -190,26 +190,46 @@ class RefusedSubtitles(Case):
         self.must("the reason", " has no subtitle with a TCI at " in judged.stderr[0],
                   judged.stderr)
 
+    def judge_in_two_parts(self, stl: str, sent: SentPes) -> JudgedPair:
+        """Judge a transmission with a break of 500 frames before subtitle 5."""
+        return judge_files(self, stl, self.write("two.pes", join_pes_packets([
+            (pts + TICKS * 500 * (pts >= TICKS * 480), packets) for pts, packets in sent])),
+            "--breaks", "1", "--every", "100")
+
     def test_judges_each_part_with_refused_subtitles(self) -> None:
-        """A break of 500 frames before subtitle 5 divides the recording into two parts."""
-        two = [(pts + TICKS * 500 * (pts >= TICKS * 480), packets) for pts, packets in self.sent]
+        """Of two refused subtitles next to the break, both are in the part before it."""
         keeping = [(pts, [KEEPING_HEADER, *packets[1:]] if at in (2, 40) else packets)
-                   for at, (pts, packets) in enumerate(two)]  # a header in each part
-        for bad, sent, words in (((7,), two, "all have the right text"),
-                                 ((2, 7), two, "all have the right text"),
-                                 ((2, 7), keeping, " headers; 2 faults in all.")):
-            recording = self.write("two.pes", join_pes_packets(sent))
-            judged = judge_files(self, self.write_stl(*bad), recording, "--breaks", "1",
-                                 "--every", "100")
-            self.check(f"{bad} {words}", (judged.timed_verdict, len(judged.result["parts"]),
-                                          judged.verdict.subtitle_counts),
-                       ("refused", 2, SubtitleCounts(10 - len(bad), len(bad))))
-            self.check(f"{bad} {words}: parts of the refused and the last subtitle", [
-                (row["part"], row["position"]) for row in judged.result["subtitles"]
-                if row["position"] in (*bad, 10) and row["verdict"] != "not known"],
-                [(1 + (number > 4), number) for number in (*bad, 10)])
-            self.must(f"{bad} {words}: sentence", words in judged.verdict.sentence,
+                   for at, (pts, packets) in enumerate(self.sent)]  # a header in each part
+        right = "all have the right text"
+        # The part of each refused subtitle, the PES packets, and a part of the sentence
+        for parts, sent, words in (
+                ({7: 2}, self.sent, right), ({2: 1, 7: 2}, self.sent, right),
+                ({4: 1}, self.sent, right), ({5: 1}, self.sent, right),
+                ({4: 1, 5: 1}, self.sent, right), ({1: 1}, self.sent, right),
+                ({10: 2}, self.sent, right), ({2: 1, 7: 2}, keeping, " headers; 2 faults in all.")):
+            judged = self.judge_in_two_parts(self.write_stl(*parts), sent)
+            self.check(f"{parts} {words}", (judged.timed_verdict, len(judged.result["parts"]),
+                                            judged.verdict.subtitle_counts),
+                       ("refused", 2, SubtitleCounts(10 - len(parts), len(parts))))
+            self.check(f"{parts} {words}: part of each subtitle", [
+                (row["part"], row["position"]) for row in judged.result["subtitles"]],
+                [(parts.get(number, 1 + (number > 4)), number) for number in range(1, 11)])
+            self.must(f"{parts} {words}: sentence", words in judged.verdict.sentence,
                       judged.verdict.sentence)
+
+    def test_a_subtitle_whose_tci_is_no_time_is_in_the_first_part(self) -> None:
+        judged = self.judge_in_two_parts(self.write_changed_stl(7, TCI_HOURS, 99), self.sent)
+        self.check("verdict and parts of subtitle 7", (judged.timed_verdict, [
+            row["part"] for row in judged.result["subtitles"] if row["position"] == 7]),
+            ("refused", [1]))
+
+    def test_refuses_a_subtitle_whose_time_is_in_the_break(self) -> None:
+        """Subtitle 8 begins at 00:00:19:00, before 5, 6 and 7 (fault 56)."""
+        judged = self.judge_in_two_parts(self.write_changed_stl(8, TCI_SECONDS, 19), self.sent)
+        self.check("verdict and faults", (judged.timed_verdict, judged.check_lines), (
+            "refused", ["refused 56 OutOfOrder block 8", "1 faults"]))
+        self.check("note", judged.verdict.notes[-1], "the other subtitles were not judged: "
+                   "subtitle 8 at 00:00:19:00 has no fault in its part of the recording")
 
     def test_explains_a_header_that_keeps_the_page_but_changes_the_sub_code(self) -> None:
         header = make_packet(0, 0, change_numbers({2: 1}), b" " * 32)

@@ -19,7 +19,7 @@ from .causes import (
 from .pages import SPACE, format_page_text
 from .part import Part
 from .status import ACCEPTED, VALID
-from .subtitles import ValidSubtitles
+from .subtitles import ValidSubtitles, list_positions
 from .transmissions import ExpectedPages
 
 
@@ -217,7 +217,8 @@ def find_refused_subtitles(part: Part, file: SubtitleFile, valid_subtitles: Vali
     """Yield the refused subtitles in a file, each with its faults. Then yield the subtitles that
     have no fault but are not judged, because the next subtitle is refused. `valid_subtitles` has
     the judged subtitles, if others are refused."""
-    left_out = set(valid_subtitles.skipped_positions) if valid_subtitles else set[int]()
+    own_positions = {*list_positions(file, part.number)}
+    left_out = own_positions & valid_subtitles.skipped_positions if valid_subtitles else set[int]()
     faults = [fault for fault,
               _ in itertools.islice(part.check_output.read_faults(), MAX_FAULTS_READ)
               if fault.number in STL_FAULTS]
@@ -226,7 +227,8 @@ def find_refused_subtitles(part: Part, file: SubtitleFile, valid_subtitles: Vali
         block = group[0].block
         subtitle = None if block is None else file.find_by_block(block)
         left_out.discard(subtitle.position if subtitle else 0)
-        yield SubtitleFaults(subtitle, group)
+        if subtitle is None or subtitle.position in own_positions:
+            yield SubtitleFaults(subtitle, group)
     for position in sorted(left_out):
         yield SubtitleFaults(file.find_by_block(file.start_blocks[position - 1]), [])
 

@@ -28,10 +28,12 @@ from .check import CheckOutput, check_file_alone, print_file_check_command, run_
 from .desync import find_desync
 from .faults import LENGTH_FAULTS, describe_block_subtitle, describe_first_hint, describe_hint
 from .pages import describe_drawing_differences, find_hidden_rows, may_hide_rows
-from .part import Part, choose_parts, find_part_causes, refuse_missing_subtitles, report_causes
+from .part import (
+    Part, choose_parts, extend_ranges, find_part_causes, refuse_missing_subtitles, report_causes)
 from .sentence import WorstFault
 from .status import NOT_ANSWERED, REFUSED, VALID
-from .subtitles import advise_on_title, draw_valid_pages, find_valid_subtitles, has_valid_subtitles
+from .subtitles import (
+    ValidSubtitles, advise_on_title, draw_valid_pages, find_valid_subtitles, has_valid_subtitles)
 from .timing import (
     NO_CLOCK, PartClocks, PartSearch, find_part_packets, find_parts, get_given_clock,
     measure_part_pace)
@@ -379,6 +381,8 @@ class PairJudge:
                 self.listener.print_line(line)
         self.add_recording_warnings(recording, clocks.alignments[0].origin, programme.full_range)
         parts = self.make_parts(recording, clocks.alignments, programme, subtitles)
+        if len(parts) > 1 and self.verdict.valid_subtitles:
+            self.refuse_unreported_subtitles(parts, self.verdict.valid_subtitles)
         for part in parts:
             if selection := part.judged_recording[1].clock.get_selection(part.number):
                 self.listener.add_selection(selection, is_printed=False)
@@ -391,9 +395,11 @@ class PairJudge:
         """Return the parts to judge, with their frames and their clocks."""
         request = self.request
         alignments = choose_parts(alignments, programme.full_range)
-        if len(alignments) > 1:
-            refuse_missing_subtitles(alignments, subtitles, request.stl)
         is_single_part = len(alignments) == 1
+        if not is_single_part:
+            refuse_missing_subtitles(alignments, subtitles, request.stl)
+            if self.skipped_positions:
+                alignments = extend_ranges(alignments, request.between)
         parts = []
         for number, alignment in enumerate(alignments, 1):
             own = request if is_single_part else request.limit_to_range(*alignment.between)
@@ -401,6 +407,16 @@ class PairJudge:
             parts.append(Part(number, own, names, CheckOutput(names.list_path), alignment,
                               recording, self.skipped_positions, severity=self.verdict.severity))
         return parts
+
+    def refuse_unreported_subtitles(self, parts: Sequence[Part], valid: ValidSubtitles) -> None:
+        """Raise `Stop` unless `check` reports a fault of each refused subtitle in one of the parts.
+        A subtitle whose time is in another part than those around it may have no fault there."""
+        lines = {fault.line for part in parts for fault, _ in check_file_alone(
+            part.request, self.command_paths.program_path, part.names).read_faults()}
+        for refused in valid.refused:
+            if refused.fault.line not in lines:
+                raise Stop(f"{refused.describe_subtitle()} has no fault in its part of the "
+                           "recording")
 
     def judge_part(self, part: Part, programme: PartSearch, subtitles: list[Subtitle]) -> None:
         """Judge a part: find its PES packets, run `check`, explain the faults, and add warnings."""

@@ -361,6 +361,14 @@ def choose_parts(alignments: Sequence[TimedPart], full_part: TimedPart) -> list[
             for alignment in alignments]
 
 
+def extend_ranges(parts: Sequence[TimedPart], between: FrameRange) -> list[TimedPart]:
+    """Return the parts with ranges that together are the range `between`, so that each refused
+    subtitle is in a part. One that begins in a break is in the part before the break."""
+    limits = [between.begin, *(part.between.begin for part in parts[1:]), between.end]
+    return [part._replace(between=FrameRange(begin, end))
+            for part, begin, end in zip(parts, limits, limits[1:])]
+
+
 def refuse_missing_subtitles(parts: Sequence[TimedPart], subtitles: Sequence[Subtitle],
                              stl: str) -> None:
     """Raise `Unclear` unless the parts together have all subtitles of the file, in order."""

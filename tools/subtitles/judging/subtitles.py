@@ -199,11 +199,12 @@ def find_valid_subtitles(file: SubtitleFile, faults: Iterable[FaultLine], option
                           refused, frozenset(requested_positions) - judged_places)
 
 
-def list_positions(file: SubtitleFile) -> Iterator[int]:
-    """Yield the positions of the subtitles that begin between --from and --to."""
+def list_positions(file: SubtitleFile, part: int = 1) -> Iterator[int]:
+    """Yield the positions of the subtitles that begin in the range of a file, which is that of
+    `part`. A subtitle whose TCI is not valid belongs to the first part."""
     for place, block in enumerate(file.start_blocks, 1):
         begin = decode_frame(file.block(block)[5:9])
-        if begin is None or file.between.includes(begin):
+        if part == 1 if begin is None else file.between.includes(begin):
             yield place
 
 

@@ -366,7 +366,8 @@ class Request:
     def limit_to_range(self, begin: int, end: int) -> Request:
         """Return this request limited to the subtitles that begin from frame `begin` up to, but not
         including, frame `end`."""
-        return dataclasses.replace(self, from_time=format_frame(begin), to_time=format_frame(end))
+        return dataclasses.replace(self, from_time=format_frame(begin) if begin else None,
+                                   to_time=format_frame(end) if end < FRAMES_OF_A_DAY else None)
 
     @property
     def pace(self) -> int | None:
