@@ -70,7 +70,8 @@ class Checks(Feeds):
         for gaps, text in (("", "some seconds"), ("a", "a"), ("abc", "a, b, c"),
                            ("abcd", "a, b, c and 1 more"), ("abcdef", "a, b, c and 3 more")):
             outcome = decide("one", [], gaps, has_passed=True)  # each letter is the text of a gap
-            self.check(gaps, outcome and outcome.reason, f"not recorded: {text}")
+            kind = outcome and outcome.result and outcome.result["not_judged_kind"]
+            self.check(gaps, (kind, outcome and outcome.reason), ("input", f"not recorded: {text}"))
 
     def test_each_recording_gets_its_verdict(self) -> None:
         feeds = {"right": 2 * self.make_feed(), "wrong": 2 * self.make_feed(is_wrong=True)}
@@ -157,9 +158,8 @@ class Checks(Feeds):
 
         with mock.patch.object(UnbrokenRun, "read", read):
             outcome = self.check_frames(self.make_feed())
-        path = f"{self.path('segments')}/{make_segment_name(DAY)}"
-        self.must("outcome", outcome.result is None and outcome.reason.endswith(
-            f": {path}: it became shorter"), outcome)
+        reason = f": {self.path('segments')}/{make_segment_name(DAY)}: it became shorter"
+        self.must("outcome", outcome.result is None and outcome.reason.endswith(reason), outcome)
 
 
 class Calls(Feeds):
