@@ -100,8 +100,7 @@ class JudgedProgrammes(AirCase):
         out, work = self.path("out"), self.path("work")
         for options, expected in (("", Checker("/bin/true", "qc", out, out)), (
                 f"--work {work} --keep", Checker("/bin/true", "qc", work, out, True))):
-            judge = judging.Judge(self.args(*options.split()), "qc")
-            self.check(options, judge.checker, expected)
+            self.check(options, judging.Judge(self.args(*options.split()), "qc").checker, expected)
 
     def test_judges_all_programmes_that_have_ended_before_it_exits_or_waits(self) -> None:
         stop: Any = KeyboardInterrupt
@@ -130,7 +129,7 @@ class JudgedProgrammes(AirCase):
         outcomes = [make_outcome(NAME, "relative", "relative 1500 frames\nmore"),
                     *[Outcome(None, "the machine failed\nmore")] * 20]
         self.run_judge(FakeChecker(NEVER_SENT, lambda _: outcomes.pop()), until=3000)
-        self.check("verdict after the last failure", self.verdicts(), {NAME: "relative"})
+        self.check("in 20 minutes", (self.verdicts(), self.now), ({NAME: "relative"}, 670 + 1200))
         self.check("printed after the date", [line.partition("  ")[2] for line in self.printed], [
             f"{NAME}: will be tried again: the machine failed",
             f"{NAME}  relative: relative 1500 frames"])
@@ -465,8 +464,9 @@ class JudgedProgrammes(AirCase):
             if programme.name == NAME:
                 raise KeyError(NAME)
 
-        self.run_judge(FakeChecker({OTHER_NAME: SentProgramme(BEGIN, END)}, fail), until=800)
-        self.check("results", self.verdicts(), {OTHER_NAME: "relative"})
+        checker = FakeChecker({OTHER_NAME: SentProgramme(BEGIN, END)}, fail)
+        waiting = self.run_judge(checker, until=800).monitor.waiting
+        self.check("results, waiting", (self.verdicts(), waiting), ({OTHER_NAME: "relative"}, 1))
 
     def test_writes_the_page_and_the_list_before_the_result(self) -> None:
         # Only results of judged programmes have a request.
