@@ -185,7 +185,7 @@ FAULT_CLAUSES = {
     72: "the decoded page is not the expected one",
     73: "the page had no header for as many frames as --every allows",
     74: "the recording ends before the last TCO",
-    76: "--lose names a header, or a packet without a valid address",
+    76: "a packet in --lose is a header, or has no valid address",
     77: "the page is still open: no other header terminates it",
     78: "the expected page is unknown, since a subtitle is refused",
     79: "there was no PES packet for as many frames as --pace allows",
