@@ -189,7 +189,8 @@ class Status(Case):
         for row in read_vectors("air-statuses.tsv"):
             name, status = row["name"], int(row["status"])
             result, text = self.print_status(row)
-            self.check(name, (result, text[:len(row["line"])]), (status, row["line"]))
+            self.check(name, (result, text.replace(f"{self.folder}/", "")),
+                       (status, f"{row['line']}\n"))
             self.check(f"{name}, and another folder has no state", self.print_status(
                 row, self.path("nothing"))[0], CRITICAL if status == CRITICAL else UNKNOWN)
 

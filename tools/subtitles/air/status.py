@@ -78,15 +78,18 @@ def print_status(outs: list[str], max_age: float, metrics: str | None) -> int:
     """Print a line for each folder of results, and write the metrics. Return the worst status."""
     statuses, lines, now = [], list[tuple[str, dict[str, str], float]](), time.time()
     for out, name in zip(outs, name_feeds(outs)):
+        path = os.path.join(out, STATE)
         try:
-            with open(os.path.join(out, STATE), encoding="utf-8") as file:
+            with open(path, encoding="utf-8") as file:
                 state = json.load(file)
             age = now - (read_date(state["date"]) or 0.0)
             status, text = check_state(state, age, max_age)
             lines += [(metric, {"feed": name, **labels}, value)
                       for metric, labels, value in make_metrics(state)]
-        except (OSError, ValueError, KeyError, TypeError, AttributeError) as reason:
+        except OSError as reason:
             status, text = UNKNOWN, format_error(reason)
+        except (ValueError, KeyError, TypeError, AttributeError):
+            status, text = UNKNOWN, f"{path} is not a state file of this version"
         lines.append(("status", {"feed": name}, status))
         statuses.append(status)
         print_stdout(f"SUBTTX {WORDS[status]}: {name}: {text}")
