@@ -471,6 +471,16 @@ def read_ranges(text: str) -> list[StepRange]:
             for least, *_, most in (steps * 2 for steps in ends)]
 
 
+def read_pts(text: str) -> list[int]:
+    """Read frames such as `5 100..150/25`, which are 5, 100, 125 and 150. Return their PTS."""
+    result = list[int]()
+    for item in text.split():
+        frames, _, step = item.partition("/")
+        first, *_, last = (round(TICKS * float(frame)) for frame in frames.split("..") * 2)
+        result += range(first, last + 1, round(TICKS * float(step or 1)))
+    return result
+
+
 class Steps(Case):
     """A video with 500 pictures and 25 pictures per second, whose decoding times jump, and regular
     Teletext PTS. There is a lead at the pictures 1, 26, .. 201, 226 and so on, up to 476."""
@@ -549,44 +559,11 @@ class Steps(Case):
                 leads, steps, [*steps, UnusualStep(25 * len(frames), TICKS, TICKS)]), False)
 
     def test_the_teletext_pts_show_that_only_the_video_jumps(self) -> None:
-        def jump_at(*frames: int, by: float = -10) -> list[Departure]:
-            return [Departure(TICKS * at, 0, round(TICKS * (by if way == 0 else -by)))
-                    for way, at in enumerate(frames)]
-        regular = [TICKS * at for at in range(200)]
-        jumping = [pts - 10 * TICKS * (pts >= TICKS * 100) for pts in regular]
-        jumping_by_half = [pts - TICKS // 2 * (pts >= TICKS * 100) for pts in regular]
-        once, twice, by_half = jump_at(100), jump_at(100, 120), jump_at(100, by=-.5)
-        # The jumps of the video, Teletext PTS, and PTS of subtitles that changed as expected
-        self.check_rows(has_own_clock, {
-            "a PTS in each frame": ((once, regular, []), True),
-            "a PTS in each frame, away and back": ((twice, regular, []), True),
-            "both jump": ((once, jumping, []), False),
-            "in each 25th frame": ((once, regular[::25], []), True),
-            "in each 25th frame, both jump": ((once, jumping[::25], []), False),
-            "in each 10th frame, both jump": ((once, jumping[::10], []), False),
-            "away and back, then both": (
-                (twice, [pts - 10 * TICKS * (pts >= TICKS * 160) for pts in regular], []), False),
-            "only one PTS after the jump": (
-                (once, [TICKS * at for at in (90, 95, 100)], []), False),
-            "at irregular frames, closer than the jump": (
-                (once, [TICKS * at for at in (90, 95, 103, 110)], []), True),
-            "at irregular frames": ((once, [TICKS * at for at in (90, 99, 117, 130)], []), False),
-            "no PTS": ((once, [], []), False),
-            "a subtitle after the jump": ((once, [], [TICKS * 150]), True),
-            "a subtitle at the jump": ((once, [], [TICKS * 100]), True),
-            "a subtitle after a jump by a frame": (
-                (jump_at(100, by=-1), [], [TICKS * 150]), True),
-            "a subtitle before the jump": ((once, [], [TICKS * 50]), False),
-            "a subtitle between two jumps": ((twice, [], [TICKS * 110]), True),
-            "a subtitle after two jumps": ((twice, [], [TICKS * 120]), False),
-            "half a frame": ((by_half, regular[::25], []), True),
-            "half a frame, a PTS in each half frame": (
-                (by_half, [TICKS * at // 2 for at in range(160, 240)], []), True),
-            "both by half a frame, Teletext later": (
-                (jump_at(100, by=.5),
-                 [pts + TICKS // 2 * (pts > TICKS * 100) for pts in regular[::25]], []), False),
-            "both by half a frame": ((by_half, jumping_by_half, [TICKS * 150]), False),
-            "half a frame, no PTS": ((by_half, [], [TICKS * 150]), False)})
+        for row in read_vectors("own-clocks.tsv"):
+            jumps = [Departure(TICKS * jump.number, 0, jump.ticks)
+                     for jump in read_steps(row["jumps"])]
+            self.check(row["name"], has_own_clock(jumps, read_pts(row["Teletext"]), read_pts(
+                row["subtitles"])), row["own clock"] == "yes")
 
     def test_a_step_of_the_pcr_shows_a_jump(self) -> None:
         for row in read_vectors("pcr-jumps.tsv"):
