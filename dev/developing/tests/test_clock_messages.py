@@ -2,6 +2,7 @@
 from __future__ import annotations
 
 import itertools
+import re
 import unittest
 from types import SimpleNamespace
 from typing import Any, Sequence
@@ -54,55 +55,20 @@ class OriginLines(unittest.TestCase):
         return estimate
 
     def test_describes_a_part_by_its_best_origin(self) -> None:
-        def cues(found: str, others: str = "no other origin matches a cue") -> str:
-            matches, _, expected = found.partition(" match, ")
-            return f"{matches} cues in the recording match, {expected} with the expected text; " \
-                f"the file has 20 cues; {others}"
-
-        next_best = "the next best is --origin 0 with 9 cues"
-        ambiguous = "ambiguous: --origin 9 fits no better than --origin 0, --origin 1, " \
-            "--origin 2, --origin 3, --origin 4"
-        other = [OriginFit(at, 9, 9, 1, 9, 12, None, None, 900) for at in range(7)]
-        begins, ends = CueOffset(True, 2, 5, 5), CueOffset(False, -1, 4, 5)
-        late: dict[str, Any] = {"within": 3, "delays": [0]}
-        rows: dict[str, tuple[Any, list[str]]] = {
-            "seven other origins": (self.part(9, 9, 9, others=other), [
-                cues("9 of 9 match, 9", next_best), f"{ambiguous} and 2 more"]),
-            "six other origins, no cue at the beginning": (
-                self.part(9, 9, 9, first_unmatched=0, others=other[:6]), [
-                    cues("9 of 9 match, 9", next_best), f"{ambiguous} and 1 more",
-                    "the first cue without a match is at 00:00:00:00"]),
-            "five other origins": (self.part(9, 9, 9, others=other[:5]), [
-                cues("9 of 9 match, 9", next_best), ambiguous]),
-            "other texts": (self.part(9, 9, 7), [cues("9 of 9 match, 7")]),
-            "PTS between frames": (self.part(9, 9, 9, exact_matches=8), [
-                cues("9 of 9 match, 9"), "1 of the matching cues match only to the nearest frame: "
-                "PTS that are not whole frames apart are refused with fault 61"]),
-            "half of the cues": (self.part(4, 8, 4), [cues("4 of 8 match, 4")]),
-            "few cues": (self.part(4, 9, 4), [
-                cues("4 of 9 match, 4"), "fewer than half of the cues match with --origin 9: check "
-                "that this is the right subtitle file"]),
-            "an early cue": (
-                self.part(9, 10, 9, early=EarlyCues(1, 30, 2), first_unmatched=50, **late), [
-                    cues("9 of 10 match, 9"), "no cue is late",
-                    "1 of 30 cues is up to 2 frames early compared with the other cues",
-                    "the first cue without a match is at 00:00:02:00"]),
-            "many early cues": (self.part(8, 10, 8, early=EarlyCues(2, 10, 1), **late), [
-                cues("8 of 10 match, 8"), "no cue is late", "2 of 10 cues are up to 1 frame early "
-                "compared with the other cues: either these cues are early, or the other cues are "
-                "late. Give --origin or --start"]),
-            "late cues": (self.part(3, 3, 3, within=3, delays=[2, 1, 3, 2]), [
-                cues("3 of 3 match, 3"), "cues are 1 to 3 frames late (median 2)"]),
-            "cues on time and late": (self.part(2, 2, 2, within=3, delays=[1, 0]), [
-                cues("2 of 2 match, 2"), "cues are 0 to 1 frame late (median 1)"]),
-            "late in-cues": (self.part(4, 9, 4, cue_offset=begins), [
-                cues("4 of 9 match, 4"),
-                "all in-cues are 2 frames late compared with the out-cues"]),
-            "early out-cues": (self.part(4, 9, 4, cue_offset=ends), [
-                cues("4 of 9 match, 4"),
-                "4 of 5 out-cues are 1 frame early compared with the in-cues"])}
-        for name, (part, lines) in rows.items():
-            with self.subTest(name):
+        for row in read_vectors("origin-reports.tsv"):
+            matches, total, content_matches, exact, others, within = (
+                int(row[column]) for column in ("matches", "cues", "texts", "exact", "others",
+                                                "--within"))
+            early, offset, delays = ([int(number) for number in re.findall(r"-?\d+", row[column])]
+                                     for column in ("early", "offset", "delays"))
+            part = self.part(
+                matches, total, content_matches, within=within, exact_matches=exact, delays=delays,
+                others=[OriginFit(at, 9, 9, 1, 9, 12, None, None, 900) for at in range(others)],
+                early=EarlyCues(*early) if early else None,
+                cue_offset=CueOffset("in-cues" in row["offset"], *offset) if offset else None,
+                first_unmatched=int(row["unmatched"]) if row["unmatched"] else None)
+            lines = row["report"].split(" / ")
+            with self.subTest(row["name"]):
                 self.assertEqual([*format_part(part, count=20, has_picture=True)], lines)
                 self.assertEqual([*format_part(part, count=20)], [
                     line.replace("--origin or --start", "--origin") for line in lines])
