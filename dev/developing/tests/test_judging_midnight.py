@@ -4,7 +4,7 @@ from __future__ import annotations
 import itertools
 import os
 import shlex
-from typing import Callable, Mapping, NamedTuple, Sequence
+from typing import Callable, NamedTuple, Sequence
 
 from developing.pes import make_pes_packet
 from developing.stl import make_gsi_block, make_subtitle_blocks
@@ -93,48 +93,26 @@ class Programme(NamedTuple):
 
 TITLE = 0, 25  # a subtitle that is not sent
 OVER = [(-200, -150), (-50, 30), (60, 100), (160, 200)]  # the second is shown at midnight
-PAUSE = [(-200, -150), (-120, -60), (60, 100), (160, 200)]  # none is shown at midnight
-WRONG = [HEADER, make_numbered_row(22, b"Wrong"), CLOSING]
+PAGES = {"blank": [HEADER, CLOSING], "wrong": [HEADER, make_numbered_row(22, b"Wrong"), CLOSING]}
 
 
-def send_at(frame: int, packets: list[bytes]) -> Change:
-    """Return a function that replaces the packets sent in a frame, counted from midnight."""
-    return lambda sent: sorted([item for item in sent if item[0] != TICKS * (MIDNIGHT + frame)]
-                               + [(TICKS * (MIDNIGHT + frame), packets)])
-
-
-def delete_between(first: int, last: int) -> Change:
-    """Return a function that deletes the packets sent between two frames, without these frames."""
-    return lambda sent: [(pts, packets) for pts, packets in sent
-                         if not first < pts // TICKS - MIDNIGHT < last]
+def replace_frames(frames: str, page: str) -> Change:
+    """Return a function that replaces the packets sent in frames such as `60..73`, counted from
+    midnight, by one of `PAGES` in the first of them, or by nothing if `page` is empty."""
+    if not frames:
+        return list
+    first, last = (int(frame) for frame in frames.split(".."))
+    instead = [(TICKS * (MIDNIGHT + first), PAGES[page])] if page else []
+    return lambda sent: sorted([
+        item for item in sent if not first <= item[0] // TICKS - MIDNIGHT <= last] + instead)
 
 
 # Programmes, whose pages are repeated every 25 frames, and the beginning of the sentence about each
-PROGRAMMES: Mapping[str, tuple[Programme, str]] = {
-    "a subtitle over midnight": (Programme(OVER), "Accepted: all 4 subtitles have the right text"),
-    "a pause": (Programme(PAUSE), "Accepted: all 4 subtitles have the right text"),
-    "from the evening to the night": (Programme(OVER, list, (
-        "--from", "23:59:56:00", "--to", "00:00:05:00")), "Accepted: all 2 subtitles"),
-    "from midnight on": (Programme(OVER, list, ("--from", "00:00:00:00")),
-                         "Accepted: all 2 subtitles"),
-    "after a title": (Programme([TITLE, *OVER], list, ("--from", "23:59:52:00")),
-                      "Accepted: all 4 subtitles"),
-    "late": (Programme(OVER, delete_between(59, 74)), "Refused: subtitle 3 at 00:00:02:10, "
-             "\"Number 3\", appeared 25 frames late"),
-    "not erased at midnight": (Programme([(-200, -150), (-50, 0), (60, 100), (160, 200)],
-                                         delete_between(-1, 24)),
-                               "Refused: subtitle 2 at 23:59:58:00, \"Number 2\", was not erased "
-                               "(it disappears 25 frames later)"),
-    "erased before midnight": (Programme(OVER, send_at(-10, [HEADER, CLOSING])),
-                               "Refused: subtitle 2 at 23:59:58:00, \"Number 2\", was erased "
-                               "before its TCO (by a header without rows, at 23:59:59:15)"),
-    "a text in the pause": (Programme(PAUSE, send_at(0, WRONG)),
-                            "Refused: another text was sent in a pause, at 00:00:00:00"),
-    "a missing repeat": (Programme(PAUSE, delete_between(-60, 60), ("--every", "100")),
-                         "Refused: from 00:00:01:15 on, the page had no header for up to 120 "),
-}
-
-
+PROGRAMMES = {row["name"]: (Programme(
+    [(int(begin), int(end)) for begin, end in (
+        item.split("..") for item in row["subtitles"].split())],
+    replace_frames(row["frames"], row["page"]), row["arguments"].split()), row["sentence"])
+              for row in read_vectors("midnight-programmes.tsv")}
 ORIGIN = CLOCK - TICKS * MIDNIGHT  # the PTS wraps at midnight
 
 
