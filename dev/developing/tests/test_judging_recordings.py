@@ -5,6 +5,7 @@ import gzip
 import hashlib
 import os
 import re
+import shlex
 
 from developing.pes import make_pes_packet, decode_pts
 from subtitles.common.times import TICKS, format_frame, wrap_pts
@@ -13,6 +14,7 @@ from subtitles.judging.coverage import describe_unchecked
 from subtitles.results.schema import find_misfit
 from .bench import Case, read_example_file
 from .judged import judge_files
+from .stories import read_vectors
 from .streams import (
     NEW, OLD, TELETEXT_PID, make_stream_with_video, make_stream_of_pids, make_planned_stream,
     change_packet_size, make_teletext_descriptor)
@@ -196,47 +198,25 @@ class Recordings(Case):
 
     def test_advises_what_to_type_if_a_pair_cannot_be_judged(self) -> None:
         two_pids = make_stream_of_pids((TELETEXT_PID, PES), (0x102, PES))
-        both = self.write("both.ts", two_pids)
-        item = self.write("one.ts", STREAM)
-        other = self.write("other.stl", make_random_stl(7)[0])
+        moved = make_planned_stream(packets(PES), [(0, OLD), (2, NEW)])
+        files = {name: self.write(name, data) for name, data in (
+            ("one.ts", STREAM), ("both.ts", two_pids), ("moved.ts", moved), ("empty.ts", b""),
+            ("text.ts", b"no packets\n" * 400), ("other.stl", make_random_stl(7)[0]))}
+        files.update({"story.stl": STORY, "accent.stl": ACCENT, "own.pes": self.path("own.pes"),
+                      "PIPE": write_pipe(self, two_pids), "FOLDER": self.folder})
         self.schedule(self.write("own.stl", make_random_stl(8)[0]), "own.pes")
-        # Arguments, a part of the reason, and the options in the advised calls.
-        rows: list[tuple[list[str], str, list[str]]] = [
-            ([STORY, both], "page 888 is sent on 2 PIDs of ", ["--pid 0x101", "--pid 0x102"]),
-            ([STORY, write_pipe(self, two_pids)],
-             "page 888 is sent on 2 PIDs of ", ["--pid 0x101", "--pid 0x102"]),
-            ([STORY,
-              self.write("moved.ts", make_planned_stream(packets(PES), [(0, OLD), (2, NEW)]))],
-             "page 888 is sent on 2 PIDs of ", ["--pid 0x101", "--pid 0x111"]),
-            ([STORY, both, "--page", "801"], "no header of page 801", ["--page 888"]),
-            ([STORY, item, "--pid", "0x200"], "PID 0x200 has no complete PES packet",
-             ["--pid 0x101"]),
-            ([STORY, item, "--pid", "0x300"], "PID 0x300 has no packets", ["--pid 0x101"]),
-            ([other, self.path("own.pes")], "the clock cannot be estimated: ", ["--origin T"]),
-            ([STORY, item, "--origin", "900000000"],
-             "so the recording contains no subtitle at its expected time", []),
-            ([STORY, self.path("own.pes"), "--start", "tcp"], f"--start cannot be used with "
-             f"{self.path('own.pes')}: a file of Teletext PES packets has no pictures",
-             ["--origin T"]),
-            ([STORY, STORY], "is a subtitle file", []), ([STORY, "none.ts"], "No such file", []),
-            (["none.stl", item], "none.stl does not exist or is not a file", []),
-            (["--", "-none.stl", item], "-none.stl does not exist or is not a file", []),
-            (["", item], "an empty name does not exist or is not a file", []),
-            ([ACCENT, "none.ts"], "No such file", []),
-            ([self.folder, item], "does not exist or is not a file", []),
-            ([item], "is a recording: give the subtitle file before it", []),
-            ([STORY, self.write("empty.ts", b"")], "is empty", []),
-            ([STORY, self.write("text.ts", b"no packets\n" * 400)], "is not a transport stream",
-             [])]
-        for words, reason, advised in rows:
-            judged = judge_files(self, *words)
+        for row in read_vectors("advice.tsv"):
+            judged = judge_files(self, *(files.get(word, word)
+                                         for word in shlex.split(row["arguments"])))
             typed = [line.split(" ", 4)[-1] for line in judged.stderr
                      if line.startswith(("try: ", "or: "))]
-            self.check(f"{words}", (judged.timed_verdict, typed), ("not judged", advised))
-            self.must(f"{words}: reason", reason in "".join(judged.stderr)
+            self.check(row["name"], (judged.timed_verdict, typed),
+                       ("not judged", [*filter(None, row["advice"].split("; "))]))
+            reason = row["reason"].replace("own.pes", files["own.pes"])
+            self.must(f"{row['name']}: reason", reason in "".join(judged.stderr)
                       and not judged.stderr[0].startswith("./"), judged.stderr)
         for pid in ("0x101", "0x102"):
-            judged = judge_files(self, STORY, both, "--pid", pid)
+            judged = judge_files(self, STORY, files["both.ts"], "--pid", pid)
             self.check(pid, (judged.timed_verdict, judged.parts("pid")),
                        ("accepted", [(int(pid, 16),)]))
 
