@@ -125,23 +125,11 @@ class EstimatedClocks(Case):
     def test_uses_the_shortest_usual_delay(self) -> None:
         """A delay of in-cues or of out-cues is usual if at least half as many cues have it as have
         their most common delay, and at least three or just as many."""
-        # The arguments are the numbers of in-cues and of out-cues with each delay in frames.
-        self.check_rows(find_usual_delay, {
-            "no cue": (({}, {}), 0),
-            "a cue on time": (({0: 1}, {}), 0),
-            "two delays, each of one cue": (({0: 1, 2: 1}, {}), 0),
-            "all cues are late": (({3: 9}, {}), 3),
-            "half as often as the most common delay": (({0: 5, 2: 10}, {}), 0),
-            "less than half as often": (({0: 4, 2: 10}, {}), 2),
-            "half as often, but only twice": (({0: 2, 2: 4}, {}), 2),
-            "half as often, three times": (({0: 3, 2: 6}, {}), 0),
-            "half as often, but only once": (({0: 1, 2: 2}, {}), 2),
-            "twice, and no delay is more common": (({0: 2, 2: 2}, {}), 0),
-            "out-cues are earlier than in-cues": (({1: 20}, {0: 20}), 0),
-            "few out-cues are earlier": (({1: 20}, {0: 2, 1: 18}), 1),
-            "less than a tenth of the cues are out-cues": (({1: 90}, {0: 9}), 1),
-            "a tenth of the cues are out-cues": (({1: 90}, {0: 10}), 0),
-            "one in-cue is earlier than all others": (({0: 1, 1: 19}, {1: 20}), 1)})
+        for row in read_vectors("usual-delays.tsv"):
+            begins, ends = ({int(frames): int(count) for frames, _, count in (
+                item.partition(":") for item in row[kind].split())} for kind in (
+                    "in-cues", "out-cues"))
+            self.check(row["name"], find_usual_delay(begins, ends), int(row["delay"]))
 
     def estimate_clock_delay(self, delays: Sequence[int], within: int,
                              shares: Lateness | None = None) -> tuple[int, EarlyCues | None]:
