@@ -22,7 +22,7 @@ from subtitles.stream.gaps import LossPlace
 from subtitles.stream.packets import Packets
 from .bench import Case
 from .parts import make_part
-from .stories import read_vectors
+from .stories import read_vectors, repeat_words
 from .test_clock_tables import changes_at, make_sent_packets, make_time_base
 
 
@@ -164,22 +164,10 @@ class EstimatedClocks(Case):
             "two of 41": ((2, 2 * RARE_SHARE + 1), False)})
 
     def test_finds_the_likeliest_clock_for_known_delays(self) -> None:
-        # The arguments are the delay of each in-cue in frames, and the value of --late: how often
-        # in-cues, and after the slash out-cues, have each delay.
-        self.check_rows(lambda delays, late: self.estimate_clock_delay(
-            delays, 2, parse_lateness(late)), {
-            "all on time": (([0] * 9, "0:1/0:1"), (0, None)),
-            "in-cues are a frame late": (([0] * 9, "1:1/0:1"), (-1, None)),
-            "in-cues are two frames late": (([0] * 9, "2:1/0:1"), (-2, None)),
-            "in-cues are mostly two frames late": (([0] * 9, "0:1,2:9/0:1"), (-2, None)),
-            "three delays are equally likely": (([0] * 9, "0:1,1:1,2:1/0:1"), (0, None)),
-            "three delays, as received": (([0, 1, 2] * 4, "0:1,1:1,2:1/0:1"), (0, None)),
-            "one is early": (([0, *[2] * 8], "0:1/0:1"), (2, None)),
-            "one is on time, as it may be": (([0, *[2] * 8], "0:1,2:8/0:1"), (0, None)),
-            "one is earlier than any delay": (([0, *[2] * 8], "1:1,2:8/0:1"), (0, None)),
-            "most are late, which is rare": (([0, *[1] * 19], "0:95,1:5/0:1"), (1, None)),
-            "most are late, which is usual": (([0, *[1] * 19], "0:5,1:95/0:1"), (0, None)),
-            "few cues": (([0, 0, 1, 2], "0:1,1:2,2:1/0:1"), (0, None))})
+        for row in read_vectors("likeliest-clocks.tsv"):
+            delays = [int(frames) for frames in repeat_words(row["in-cues"]).split()]
+            clock = self.estimate_clock_delay(delays, 2, parse_lateness(row["--late"]))
+            self.check(row["name"], clock, (int(row["clock"]), None))
 
     def test_a_delay_that_was_never_measured_is_rarer_than_one_in_400_cues(self) -> None:
         """Otherwise a delay of one in 400 cues would count as one that was never measured."""
