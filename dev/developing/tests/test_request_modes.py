@@ -89,26 +89,13 @@ class Modes(Case):
             self.check(words, vars(args)[name], value)
 
     def test_refuses_an_option_of_another_mode_even_with_its_default_value(self) -> None:
-        for words, mode, message in (
-                ("--every 25 --every 50", COLLECT, "--every may be given with a recording, "
-                 "--batch, --watch or a line of a batch's list, not with --collect"),
-                ("--complete --no-complete", ALONE, "--complete needs a recording: remove "
-                 "--complete or --file-only"),
-                ("--no-complete --complete", COLLECT, "--complete may be given with"),
-                ("--jobs 2 --settled 3", BATCH,
-                 "--settled may be given with --watch, not with --batch"),
-                ("--every 25 --breaks 1", COLLECT, "--every may be given with"),
-                ("--pes=1-2", ALONE, "--pes needs a recording"),
-                ("--breaks 0", ALONE, "--breaks needs a recording"),
-                ("--breaks=0", ALONE, "--breaks needs a recording"),
-                ("--start tcp", ALONE, "--start needs a recording"),
-                ("--profile house", ALONE, "--profile needs a recording"),
-                ("--file-only --every 25", BATCH, "--every needs a recording"),
-                ("--file-only --keep", BATCH, "--keep needs a recording"),
-                ("--file-only", PAIR, "--file-only may be given with a subtitle file alone")):
+        modes = {mode.text: mode for mode in MODES}
+        for row in read_vectors("options-of-other-modes.tsv"):
+            mode = modes[row["mode"]]
             with self.assertRaises(Stop) as refused:
-                refuse_options(make_parser(""), [*CALLS[mode], *words.split()], mode)
-            self.must(words, str(refused.exception).startswith(message), refused.exception)
+                refuse_options(make_parser(""), [*CALLS[mode], *row["options"].split()], mode)
+            self.must(row["name"], str(refused.exception).startswith(row["message"]),
+                      refused.exception)
 
     def test_calls_the_function_of_each_mode(self) -> None:
         # Arguments of qc, the function that they call, and some arguments that it gets.
