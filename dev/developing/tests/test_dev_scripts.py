@@ -306,7 +306,7 @@ class Measurements(Case):
             for words in [self.folder], [old, self.folder]:
                 script.main(words)
         text = out.getvalue() + self.read("list").decode()
-        for path, name in ((script.TOOLS, "tools"), (TOP, "TOP"), (self.folder, "FOLDER"),
+        for path, name in ((self.folder, "FOLDER"), (script.TOOLS, "tools"), (TOP, "TOP"),
                            (sys.executable, "python3")):
             text = text.replace(path, name)
         self.check("printed", text, read(os.path.join(VECTORS, "bench-run.txt")))
