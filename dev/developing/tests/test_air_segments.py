@@ -96,7 +96,8 @@ class Segments(AirCase):
                        [*filter(None, [row["jump"]])])
 
     def test_takes_a_tdt_at_its_time_within_a_segment(self) -> None:
-        self.put_segment(0, 600, make_tdt(0) * 5 + make_tdt(500))  # the sixth at 5/6 of 600
+        """The last TDT before the pause counts. It is at 5/6 of the segment, so at 500 s."""
+        self.put_segment(0, 600, make_tdt(0) * 5 + make_tdt(500))
         self.put_segment(620, 630, make_tdt(620))
         self.check("jumps", find_clock_jumps(self.path("segments"), DAY)[0], [])
 

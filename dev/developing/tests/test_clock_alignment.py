@@ -233,7 +233,7 @@ class RepeatedProgrammes(Case):
             "many steps, each longer": (([at * at for at in range(40)],), False),
             "one frame": (([5],), False), "no frame": (([],), True)})
 
-    def test_half_of_the_cues_or_a_quarter_of_the_texts_make_a_repeat(self) -> None:
+    def test_half_of_the_cues_and_texts_or_a_quarter_of_the_texts_make_a_repeat(self) -> None:
         base = make_time_base([ExpectedCue(at, b"%d" % at if at % 2 == 0 else b"", at % 2 == 0)
                                for at in range(40)], [])
         quarter = (0, 4, 8, 16, 20)  # a quarter of the texts, over half of the programme
@@ -242,7 +242,9 @@ class RepeatedProgrammes(Case):
         # the first airing.
         self.check_rows(lambda first, again: is_repeated_airing(
             [base], {at: (0, at) for at in first}, {at: (0, 100 + at) for at in again}), {
-            "half of the cues": ((range(40), range(20)), True),
+            "half of the cues, and of the texts": ((range(40), range(20)), True),
+            "half of the cues, but nine of 20 texts": (
+                (range(40), (*range(0, 18, 2), *range(1, 23, 2))), False),
             "one cue less than half": ((range(40), range(19)), False),
             "all texts": ((range(40), range(0, 40, 2)), True),
             "no text": ((range(40), range(1, 40, 2)), False),

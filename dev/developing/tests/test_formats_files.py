@@ -284,7 +284,11 @@ class Times(unittest.TestCase):
                               times.decode_frame(code)), (code, text, frame), text)
         self.assertEqual(times.format_frame(DAY), "24:00:00:00")
         self.assertEqual(times.format_seconds(93_549), "25:59:09")
+
+    def test_shows_a_stored_code_that_is_no_time_as_its_numbers(self) -> None:
         self.assertEqual(times.decode_time(bytes([24, 99, 255, 25])), "24:99:255:25")
+
+    def test_reads_no_text_that_is_no_time_of_day(self) -> None:
         for text in ("24:00:00:00", "23:60:00:00", "23:59:60:00", "23:59:59:25", "", "1:00:00:00",
                      "00:00:00:000", "00:00:00:00\n", " 00:00:00:00", "00:00:00;00",
                      "00:00:00:0\u0661"):
