@@ -174,6 +174,15 @@ class RefusedSubtitles(Case):
             self.must(f"{name}: sentence", sentence.startswith(row["begin"]) and row["part"] in
                       sentence and not (is_other and "has fault 50" in sentence), sentence)
 
+    def test_refuses_a_hidden_row_of_a_judged_subtitle(self) -> None:
+        """The faults of subtitle 3 are only warnings. No receiver shows subtitle 6."""
+        self.blocks[5] = *self.blocks[5][:2], b"\n\nNumber 6"
+        pes = self.write("hidden.pes", join_pes_packets(schedule_pages(self, self.write_stl())))
+        judged = self.judge(self.write_stl(3), pes, "--severity",
+                            self.write("severity", b"50 warning\n78 warning\n"))
+        self.check("verdict and line", (judged.timed_verdict, judged.printed[-1]),
+                   ("refused", "refused not shown block 6"))
+
     def test_ignores_refused_subtitles_outside_the_range(self) -> None:
         """Subtitle 3, at 00:00:12:00, is refused, or 7, whose TCI is no time, so in any range."""
         no_time = self.write_changed_stl(7, TCI_HOURS, 99)

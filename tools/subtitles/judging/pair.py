@@ -174,7 +174,7 @@ class PairJudge:
                 OPTION_CHOICE, request.option, describe_option(request)))
         answer = self.judge_file()
         is_refused = answer.fault_numbers != {EMPTY}
-        if not is_refused:
+        if not is_refused or verdict.valid_subtitles:
             self.check_hidden_rows()
         if request.recording is None or is_refused and not verdict.valid_subtitles:
             self.judge_file_only(answer, is_refused)
@@ -233,7 +233,8 @@ class PairJudge:
         request, file = self.request, SubtitleFile(self.names.program_stl)
         if not may_hide_rows(decode_subtitles(file.data), bool(request.layout)):
             return
-        due = self.make_expected_pages(request, read_subtitles(
+        valid = self.verdict.valid_subtitles
+        due = self.make_expected_pages(request, valid.judged if valid else read_subtitles(
             self.command_paths.program_path, self.names.program_stl, request.between,
             request.is_open))
         hidden_rows = find_hidden_rows(due.subtitles, due.pages, file, request.option)
@@ -361,7 +362,7 @@ class PairJudge:
                 self.judge_transmission()
             if self.verdict.parts:
                 return
-            explanation: object = self.verdict.named_faults[0].text
+            explanation: object = self.verdict.named_faults[-1].text
         except (Stop, Unclear) as reason:
             if self.current_part:
                 raise
