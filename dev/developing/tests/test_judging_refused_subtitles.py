@@ -182,6 +182,9 @@ class RefusedSubtitles(Case):
                             self.write("severity", b"50 warning\n78 warning\n"))
         self.check("verdict and line", (judged.timed_verdict, judged.printed[-1]),
                    ("refused", "refused not shown block 6"))
+        sentence = self.judge(self.write_stl(3), pes).verdict.sentence
+        self.must("sentence", "; 9 other subtitles were judged: subtitle 6 at 00:00:24:00, row 22: "
+                  'no receiver shows "Number6", which is ' in sentence, sentence)
 
     def test_ignores_refused_subtitles_outside_the_range(self) -> None:
         """Subtitle 3, at 00:00:12:00, is refused, or 7, whose TCI is no time, so in any range."""

@@ -329,7 +329,7 @@ def describe_valid_subtitles(facts: Facts) -> str:
     others = f"{counted(facts.subtitles, 'other subtitle')} " \
         f"{was(facts.subtitles)} judged"
     sent = facts._replace(refused="")
-    if facts.first is None:
+    if facts.first is None and not facts.named:
         is_single = facts.subtitles == 1
         how = f"{'it has' if is_single else 'all have'} the right text " \
             f"{describe_text_period(facts)}"

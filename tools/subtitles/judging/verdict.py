@@ -394,11 +394,14 @@ class Verdict:
                                                 for part in self.parts))
         counts = [count for count in facts.counts
                   if count.number not in STL_FAULTS | {UNDECIDED}]
+        named = self.find_named_fault(part.worst_transmission_fault if part else None)
         facts = facts._replace(refused=refused, subtitles=len(valid_subtitles.judged),
-                               faults=sum(count.fault_count for count in counts), counts=counts)
+                               named=named.text if named else "", counts=counts,
+                               faults=sum(count.fault_count for count in counts)
+                               + len(self.named_faults))
         return add_worst_fault(facts._replace(hint=part.transmission_hint,
                                               causes=part.reported_causes),
-                               part.worst_transmission_fault) if part else facts
+                               part.worst_transmission_fault) if part and not named else facts
 
     @property
     def subtitle_counts(self) -> SubtitleCounts | None:
@@ -446,7 +449,10 @@ class Verdict:
     @property
     def worst_named_fault(self) -> NamedFault | None:
         """Return the worst fault without a number, unless a numbered fault is worse."""
-        worst = self.worst_part.worst_fault if self.worst_part else None
+        return self.find_named_fault(self.worst_part.worst_fault if self.worst_part else None)
+
+    def find_named_fault(self, worst: WorstFault | None) -> NamedFault | None:
+        """Return the worst fault without a number, unless the fault `worst` is worse."""
         candidates = self.named_errors if self.named_errors or self.word == REFUSED \
             else self.named_faults
         return find_worst_named_fault(candidates, worst.rank if worst else None)
