@@ -394,7 +394,7 @@ class Verdict:
                                                 for part in self.parts))
         counts = [count for count in facts.counts
                   if count.number not in STL_FAULTS | {UNDECIDED}]
-        named = self.find_named_fault(part.worst_transmission_fault if part else None)
+        named = self.find_named_fault(part, lambda item: item.worst_transmission_fault)
         facts = facts._replace(refused=refused, subtitles=len(valid_subtitles.judged),
                                named=named.text if named else "", counts=counts,
                                faults=sum(count.fault_count for count in counts)
@@ -449,12 +449,16 @@ class Verdict:
     @property
     def worst_named_fault(self) -> NamedFault | None:
         """Return the worst fault without a number, unless a numbered fault is worse."""
-        return self.find_named_fault(self.worst_part.worst_fault if self.worst_part else None)
+        return self.find_named_fault(self.worst_part, lambda part: part.worst_fault)
 
-    def find_named_fault(self, worst: WorstFault | None) -> NamedFault | None:
-        """Return the worst fault without a number, unless the fault `worst` is worse."""
+    def find_named_fault(self, part: Part | None, find_worst: Callable[[Part], WorstFault | None]) \
+            -> NamedFault | None:
+        """Return the worst fault without a number, unless the fault that `find_worst` returns for a
+        part is worse. A waived fault is never worse than an error."""
         candidates = self.named_errors if self.named_errors or self.word == REFUSED \
             else self.named_faults
+        is_compared = part and (part.error_numbers or not self.named_errors)
+        worst = find_worst(part) if part and is_compared else None
         return find_worst_named_fault(candidates, worst.rank if worst else None)
 
     def list_waivers(self) -> Iterator[UsedWaiver]:
