@@ -202,11 +202,19 @@ class RefusedSubtitles(Case):
         self.must("the reason", " has no subtitle with a TCI at " in judged.stderr[0],
                   judged.stderr)
 
-    def judge_in_two_parts(self, stl: str, sent: SentPes) -> JudgedPair:
+    def judge_in_two_parts(self, stl: str, sent: SentPes, *args: str) -> JudgedPair:
         """Judge a transmission with a break of 500 frames before subtitle 5."""
         return judge_files(self, stl, self.write("two.pes", join_pes_packets([
             (pts + TICKS * 500 * (pts >= TICKS * 480), packets) for pts, packets in sent])),
-            "--breaks", "1", "--every", "100")
+            "--breaks", "1", "--every", "100", *args)
+
+    def test_the_sentence_names_no_waived_fault_of_a_part_without_errors(self) -> None:
+        """Subtitle 2 is late, as a waiver permits, and 7, in the second part, is refused."""
+        judged = self.judge_in_two_parts(
+            self.write_stl(7), delay_subtitle(2, by=5)(self.sent), "--severity", self.write(
+                "mild", b'72 warning at 00:00:08:00 in bad.stl until 2999-12-31 by "Ann": known'))
+        self.must("sentence", "judged: all faults that were found are declared as warnings; waived:"
+                  in judged.verdict.sentence, judged.verdict.sentence)
 
     def test_judges_each_part_with_refused_subtitles(self) -> None:
         """Of two refused subtitles next to the break, both are in the part before it."""

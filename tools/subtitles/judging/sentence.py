@@ -331,8 +331,10 @@ def describe_valid_subtitles(facts: Facts) -> str:
     sent = facts._replace(refused="")
     if facts.first is None and not facts.named:
         is_single = facts.subtitles == 1
-        how = f"{'it has' if is_single else 'all have'} the right text " \
-            f"{describe_text_period(facts)}"
+        is_waived = facts.faults or any(count.number not in STL_FAULTS | {UNDECIDED}
+                                        for count in facts.waived)
+        how = "all faults that were found are declared as warnings" if is_waived else \
+            f"{'it has' if is_single else 'all have'} the right text {describe_text_period(facts)}"
     else:
         how = describe_faults(sent)
     return f"{facts.refused}; {others}: {how}"

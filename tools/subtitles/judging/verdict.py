@@ -387,7 +387,8 @@ class Verdict:
     def add_transmission_facts(self, facts: Facts, valid_subtitles: ValidSubtitles) -> Facts:
         """Return a copy of `facts` with facts about the transmission added, for a file with refused
         subtitles. `valid_subtitles` holds the other subtitles, which are judged nevertheless."""
-        parts = [part for part in self.parts if part.worst_transmission_fault]
+        parts = [part for part in self.parts if part.worst_transmission_fault
+                 and (part.error_numbers or self.word != REFUSED)]
         part = find_worst_part(parts, lambda item: item.worst_transmission_fault)
         refused = valid_subtitles.describe() if self.word != REFUSED else \
             valid_subtitles.describe_errors(any(UNDECIDED in part.error_numbers
