@@ -251,6 +251,15 @@ class RefusedSubtitles(Case):
         self.check("note", judged.verdict.notes[-1], "the other subtitles were not judged: "
                    "subtitle 8 at 00:00:19:00 has no fault in its part of the recording")
 
+    def test_refuses_a_subtitle_out_of_order_in_another_part(self) -> None:
+        """Subtitle 7 begins at 00:00:10:00, in the part before the break."""
+        judged = self.judge_in_two_parts(self.write_changed_stl(7, TCI_SECONDS, 10), self.sent)
+        self.check("verdict and faults", (judged.timed_verdict, judged.check_lines), (
+            "refused", ["refused 56 OutOfOrder block 7", "1 faults"]))
+        self.check("note", judged.verdict.notes[-1], "the other subtitles were not judged: a "
+                   "subtitle out of order is in another part of the recording than the subtitles "
+                   "around it")
+
     def test_explains_a_header_that_keeps_the_page_but_changes_the_sub_code(self) -> None:
         header = make_packet(0, 0, change_numbers({2: 1}), b" " * 32)
         sent = [(pts, [header, *packets[1:]] if at == 30 else packets)

@@ -410,14 +410,26 @@ class PairJudge:
         return parts
 
     def refuse_unreported_subtitles(self, parts: Sequence[Part], valid: ValidSubtitles) -> None:
-        """Raise `Stop` unless `check` reports a fault of each refused subtitle in one of the parts.
-        A subtitle whose time is in another part than those around it may have no fault there."""
-        lines = {fault.line for part in parts for fault, _ in check_file_alone(
-            part.request, self.command_paths.program_path, part.names).read_faults()}
+        """Raise `Stop` unless `check` reports a fault of each refused subtitle in one of the parts,
+        and judges the same subtitles in the parts as in the file. A subtitle whose time is in
+        another part than those around it may have no fault there, or be out of order after a
+        subtitle that is judged in the file."""
+        lines, judged_positions = set[str](), set[int]()
+        for part in parts:
+            faults = [fault for fault, _ in check_file_alone(
+                part.request, self.command_paths.program_path, part.names).read_faults()]
+            lines.update(fault.line for fault in faults)
+            own = find_valid_subtitles(
+                SubtitleFile(part.names.program_stl, part.request.between), faults,
+                part.request.option)
+            judged_positions.update(subtitle.index for subtitle in own.judged)
         for refused in valid.refused:
             if refused.fault.line not in lines:
                 raise Stop(f"{refused.describe_subtitle()} has no fault in its part of the "
                            "recording")
+        if judged_positions != {subtitle.index for subtitle in valid.judged}:
+            raise Stop("a subtitle out of order is in another part of the recording than the "
+                       "subtitles around it")
 
     def judge_part(self, part: Part, programme: PartSearch, subtitles: list[Subtitle]) -> None:
         """Judge a part: find its PES packets, run `check`, explain the faults, and add warnings."""
