@@ -9,7 +9,7 @@ from ..common.command_line import counted
 from ..common.shapes import Members
 from ..common.times import (
     Span, format_frame, format_seconds, join_spans, pts_of, subtract_pts, wrap_pts)
-from ..formats.listing import BEGIN, FAULTS_WITH_CAUSE, FaultLine, STL_FAULTS
+from ..formats.listing import BEGIN, FAULTS_WITH_CAUSE, FaultLine, STL_FAULTS, UNDECIDED
 from ..formats.stl import COMMENT, LAST_BLOCK, NamedSubtitle, Subtitle, SubtitleFile, USER_DATA
 from ..formats.teletext import OPTION_BY_WORD
 from ..stream.receiver import BLANK_PAGE, Rows, Timeline
@@ -164,9 +164,9 @@ class CueJudge:
             return CueVerdict(NOT_KNOWN if unsure else RIGHT, doubt=unsure)
         is_waived = not any(self.part.has_error(number, begin) for number in numbers) and (
             cue.cause is None or self.part.is_cause_waived(cue.cause))
-        has_unknown_cause = cue.cause and cue.cause.name in (NOT_RECEIVED,
-                                                             UNKNOWN_CAUSE) and not numbers
-        word = WAIVED if is_waived else NOT_KNOWN if has_unknown_cause else WRONG
+        is_unknown = {*numbers} <= {UNDECIDED} and (
+            cue.cause is None or cue.cause.name in (NOT_RECEIVED, UNKNOWN_CAUSE))
+        word = WAIVED if is_waived else NOT_KNOWN if is_unknown else WRONG
         return CueVerdict(word, words, numbers)
 
     def describe_doubt(self, cue: Cue) -> str:
