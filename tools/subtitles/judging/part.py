@@ -182,7 +182,7 @@ class Part:
         """Return whether a fault with this number, in the subtitle that begins in a frame, is an
         error."""
         return number in self.error_numbers and not (
-            self.severity.waivers.cover(number, [{begin}])
+            self.severities.waived_counts[number, begin]
             and (number, begin) not in self.severities.other_owners)
 
     def is_cause_waived(self, cause: Cause) -> bool:
