@@ -178,10 +178,11 @@ class RefusedSubtitles(Case):
         """The faults of subtitle 3 are only warnings. No receiver shows subtitle 6."""
         self.blocks[5] = *self.blocks[5][:2], b"\n\nNumber 6"
         pes = self.write("hidden.pes", join_pes_packets(schedule_pages(self, self.write_stl())))
-        judged = self.judge(self.write_stl(3), pes, "--severity",
-                            self.write("severity", b"50 warning\n78 warning\n"))
-        self.check("verdict and line", (judged.timed_verdict, judged.printed[-1]),
-                   ("refused", "refused not shown block 6"))
+        for recording in ((pes,), ()):
+            judged = self.judge(self.write_stl(3), *recording, "--severity",
+                                self.write("severity", b"50 warning\n78 warning\n"))
+            self.check(f"{recording}", (judged.timed_verdict, judged.printed[-1]),
+                       ("refused", "refused not shown block 6"))
         sentence = self.judge(self.write_stl(3), pes).verdict.sentence
         self.must("sentence", "; 9 other subtitles were judged: subtitle 6 at 00:00:24:00, row 22: "
                   'no receiver shows "Number6", which is ' in sentence, sentence)

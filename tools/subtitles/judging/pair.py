@@ -156,6 +156,8 @@ class PairJudge:
         self.command_paths, self.names, self.listener = command_paths, names, listener
         self.is_result_written = is_result_written
         self.recording: Recording | None = None
+        # Set if some subtitles are refused and others are not
+        self.valid_subtitles: ValidSubtitles | None = None
         self.current_part: Part | None = None  # the part that is being judged or was judged last
 
     def format_call(self, *more: str) -> str:
@@ -174,7 +176,7 @@ class PairJudge:
                 OPTION_CHOICE, request.option, describe_option(request)))
         answer = self.judge_file()
         is_refused = answer.fault_numbers != {EMPTY}
-        if not is_refused or verdict.valid_subtitles:
+        if not is_refused or self.valid_subtitles:
             self.check_hidden_rows()
         if request.recording is None or is_refused and not verdict.valid_subtitles:
             self.judge_file_only(answer, is_refused)
@@ -233,7 +235,7 @@ class PairJudge:
         request, file = self.request, SubtitleFile(self.names.program_stl)
         if not may_hide_rows(decode_subtitles(file.data), bool(request.layout)):
             return
-        valid = self.verdict.valid_subtitles
+        valid = self.valid_subtitles
         due = self.make_expected_pages(request, valid.judged if valid else read_subtitles(
             self.command_paths.program_path, self.names.program_stl, request.between,
             request.is_open))
@@ -250,15 +252,16 @@ class PairJudge:
         return answer
 
     def find_valid_subtitles(self, answer: CheckOutput) -> CheckOutput:
-        """Find the subtitles that can be judged although others are refused. Return `answer`
-        without the fault for missing PES packets."""
+        """Find the subtitles that are not refused although others are. Return `answer` without the
+        fault for missing PES packets."""
+        file = SubtitleFile(self.names.program_stl, self.request.between)
+        faults = (fault for fault, _ in answer.read_faults())
+        self.valid_subtitles = find_valid_subtitles(
+            file, faults, self.request.option, lambda fault:
+            self.verdict.severity.is_subtitle_error(
+                fault.number, [{file.find_block_begin(fault.block or 0)}]))
         if self.request.recording is not None:
-            file = SubtitleFile(self.names.program_stl, self.request.between)
-            faults = (fault for fault, _ in answer.read_faults())
-            self.verdict.valid_subtitles = find_valid_subtitles(
-                file, faults, self.request.option, lambda fault:
-                self.verdict.severity.is_subtitle_error(
-                    fault.number, [{file.find_block_begin(fault.block or 0)}]))
+            self.verdict.valid_subtitles = self.valid_subtitles
         return answer.copy_without(EMPTY, self.names.make_temporary_path("refused.txt"))
 
     @property
@@ -523,7 +526,7 @@ class PairJudge:
     def make_expected_pages(self, request: Request, subtitles: list[Subtitle]) -> ExpectedPages:
         """Return the expected pages of subtitles. If the file has refused subtitles, draw the pages
         in Python, not with `subttx schedule`."""
-        if self.verdict.valid_subtitles:
+        if self.valid_subtitles:
             layout = parse_layout(request.layout or "") or PLAIN
             return draw_valid_pages(subtitles, request.page, request.option, layout)
         return schedule_pages(self.command_paths.program_path, self.names.program_stl, subtitles,
