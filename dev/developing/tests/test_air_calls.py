@@ -8,7 +8,7 @@ import subprocess
 import sys
 import time
 from types import SimpleNamespace
-from typing import Any, Iterator
+from typing import Any, Iterator, Sequence
 from unittest import mock
 
 from subtitles.air import check, main
@@ -50,12 +50,13 @@ class Feeds(AirCase):
 
 class Checks(Feeds):
     def check_frames(self, frames: list[bytes], begin: int = 0, air: int = 0, early: int = 60,
-                     late: int = 60, program: str = "") -> Outcome:
+                     late: int = 60, program: str = "", waived: Sequence[str] = ()) -> Outcome:
         """Judge frames that are recorded from second `begin` of a feed on. The programme may begin
         up to `early` seconds before and `late` seconds after second `air`."""
+        faults = self.write("severity", "".join(f"{item} warning\n" for item in waived).encode())
         self.delete_all("segments", "out")
         self.put_segment(begin, begin + len(frames) / FRAMES_A_SECOND, b"".join(frames))
-        self.write_schedule("2026-12-01T08:00:00Z one.stl")
+        self.write_schedule(f"2026-12-01T08:00:00Z one.stl --severity {faults}")
         item, = self.read_schedule().programmes
         item = item._replace(begin=DAY + air, early=early, late=late)
         stretch, = find_unbroken_runs(find_segments(self.path("segments"), DAY, DAY + 60), 5)
@@ -79,7 +80,7 @@ class Checks(Feeds):
             name, (first, last) = row["name"], map(int, row["recorded"].split("-"))
             result = self.check_frames(
                 feeds[row["feed"]][first * FRAMES_A_SECOND:last * FRAMES_A_SECOND], first,
-                int(row["air"]), int(row["early"]), int(row["late"]))
+                int(row["air"]), int(row["early"]), int(row["late"]), waived=row["waived"].split())
             self.check(name, (result.verdict, str(result.is_final)),
                        (row["verdict"], row["is final"]))
             _, _, reason = result.reason.rpartition("/recording.ts ")  # without the path
@@ -111,8 +112,10 @@ class Checks(Feeds):
             parts = [SimpleNamespace(packets=SimpleNamespace(count=int(count)), pes=(
                 None if last == "-" else (0, int(last)))) for count, last in (
                     part.split("/") for part in row["parts"].split())]
-            verdict: Any = SimpleNamespace(status=int(row["qc"]), parts=parts,
-                                           is_final=row["is final"] == "True")
+            verdict: Any = SimpleNamespace(
+                status=int(row["qc"]), parts=parts, is_final=row["is final"] == "True",
+                word=row["verdict"], is_judged=row["verdict"] != "not judged",
+                fault_count=int(row["faults"]))
             self.check(row["name"], check.exit_status(verdict), int(row["status"]))
 
     def test_a_killed_program_gives_no_result(self) -> None:

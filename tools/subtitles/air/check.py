@@ -34,8 +34,8 @@ SPARE_BYTES = 1 << 20  # bytes of disk space to leave free
 MAX_PMT_SECONDS = 1.0  # maximum number of seconds until the next PMT, which lists the PIDs
 PTS_SECOND = FRAMES_A_SECOND * TICKS
 CORRECT_VERDICTS = {ACCEPTED, WAIVED, RELATIVE}  # verdicts without errors
-# Exit statuses of the judging process besides qc's 0 to 3. FAILED: a system error occurred.
-# UNFINISHED: the pair is refused, but the recorded part ends before the programme does.
+# Exit statuses of the judging process besides those of qc. FAILED: a system error occurred.
+# UNFINISHED plus that of qc: there are faults, and the recorded part ends before the programme.
 FAILED, UNFINISHED = 101, 102
 
 
@@ -45,7 +45,7 @@ class Outcome(NamedTuple):
     result: dict[str, Any] | None  # JSON result of the pair, or `None` after a system error
     # The system error, the reason why the pair was not judged, or the line with the verdict
     reason: str
-    # False if a refusal may only mean that the programme continues after the recorded part
+    # False if faults may only mean that the programme continues after the recorded part
     is_finished: bool = True
     is_recorded: bool = True  # False if the programme may have been on air, but was not recorded
     error_kind: str = RESOURCE  # kind of the error if there is no result
@@ -69,15 +69,15 @@ class Outcome(NamedTuple):
     @property
     def is_final(self) -> bool:
         """Return whether later segments can't change the result."""
-        return self.verdict in CORRECT_VERDICTS or (
-            self.verdict == REFUSED and self.is_finished and not self.is_file_refused)
+        return self.is_finished and (self.verdict in CORRECT_VERDICTS or (
+            self.verdict == REFUSED and not self.is_file_refused))
 
 
 def examine_begin(programme: Programme, first: float, count_packets: Callable[[int, float], int],
                   verdict: Verdict) -> None:
     """Add a note to the verdict if the programme began at most `early` seconds before its air time,
-    and less than `late` seconds after it. Raise `Unclear` if it began later, or if the pair is
-    refused and the recording, which begins at `first`, may lack the beginning of the programme.
+    and less than `late` seconds after it. Raise `Unclear` if it began later, or if there are faults
+    and the recording, which begins at `first`, may lack the beginning of the programme.
     `count_packets` returns the number of PES packets of a PID that were recorded before a time."""
     part = verdict.parts[0] if verdict.parts and verdict.word != NOT_JUDGED else None
     # The subtitle file itself is refused if there is no alignment.
@@ -88,7 +88,7 @@ def examine_begin(programme: Programme, first: float, count_packets: Callable[[i
         f"{early:g} s before and {late:g} s after {single.now(begin)}"
     pid, _ = part.stream or (0, 0)
     begin_number, missing_seconds = locate_begin(part)
-    if verdict.word not in CORRECT_VERDICTS and missing_seconds > 0 and \
+    if has_faults(verdict) and missing_seconds > 0 and \
             count_packets(pid, first + missing_seconds + MAX_PMT_SECONDS):
         raise Unclear("the first subtitle was expected before the first recorded PES packet of the "
                       f"page: the programme did not begin within {words}, or its beginning was not "
@@ -96,6 +96,11 @@ def examine_begin(programme: Programme, first: float, count_packets: Callable[[i
     if begin_number >= count_packets(pid, begin + late):
         raise Unclear(f"the programme did not begin within {words}, but later")
     verdict.notes.append(f"begun within {words}")
+
+
+def has_faults(verdict: Verdict) -> bool:
+    """Return whether a pair was judged and has faults, even if all of them are waived."""
+    return verdict.is_judged and (verdict.word not in CORRECT_VERDICTS or verdict.fault_count > 0)
 
 
 def locate_begin(part: Part) -> tuple[int, float]:
@@ -115,7 +120,7 @@ def exit_status(verdict: Verdict) -> int:
     # The last part is finished if PES packets follow it.
     part = verdict.parts[-1] if verdict.parts else None
     is_finished = part and (part.pes is None or part.packets.count > part.pes[1] + 1)
-    return UNFINISHED if verdict.status == 1 and not is_finished else verdict.status
+    return verdict.status + UNFINISHED * (has_faults(verdict) and not is_finished)
 
 
 @dataclasses.dataclass
@@ -160,10 +165,11 @@ class Checker:
                     os.unlink(os.path.join(self.work, file))
         if status == FAILED or status < 0:
             return Outcome(None, lines[-1] if lines else "the process that judged it was killed")
+        is_finished = status < UNFINISHED
         result = read_call_result(os.path.join(self.work, programme.name + ENDING), programme.name,
-                                  1 if status == UNFINISHED else status, lines)
+                                  status if is_finished else status - UNFINISHED, lines)
         return Outcome(result, result["reason"] or result["worst_fault"] or result["line"],
-                       status != UNFINISHED)
+                       is_finished)
 
     def judge(self, programme: Programme, stretch: UnbrokenRun, last: float) -> int:
         """Judge a programme in the current process. Return the exit status."""
