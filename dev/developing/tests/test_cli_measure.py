@@ -208,11 +208,12 @@ ACCEPTED = "# With this profile, qc refuses none of these recordings."
 class Profiles(Case):
     """The profile that `qc --measure` prints for recordings of random programmes."""
 
-    def profile(self, *programme: Programme) -> tuple[list[str], list[str]]:
-        """Measure recordings with qc. Return the lines of the profile and the recordings' paths."""
+    def profile(self, *programme: Programme, more: str = "") -> tuple[list[str], list[str]]:
+        """Measure recordings with qc, given a list with the options `more`. Return the lines of the
+        profile and the recordings' paths."""
         paths = [self.write(f"{item.number}.pes", join_pes_packets(item.sent()))
                  for item in programme]
-        lines = [f"{item.stl} {path} --origin 0" for item, path in zip(programme, paths)]
+        lines = [f"{item.stl} {path} --origin 0 {more}" for item, path in zip(programme, paths)]
         listed = self.write("list", "\n".join(lines).encode())
         process = self.tool("qc", "--measure", listed, "-p", self.bench.program)
         self.check("status", (process.status, process.told), (0, []))
@@ -257,16 +258,19 @@ class Profiles(Case):
                    ["differ from their frames, which check refuses with --within 0 (fault 61)"])
 
     def test_names_an_unusual_delay_and_refuses_it(self) -> None:
-        """In-cues are 0 or 1 frame late, except that of one subtitle, which is later."""
-        programme = Programme(self, 7, Inserter("usual", begins=(0, 0, 1)), 40)
-        late = programme.delay_random_subtitle()
-        lines, _ = self.profile(programme)
-        name = f"subtitle {late.place + 1} at "
-        self.check("within", [line for line in lines if line.startswith("--within")],
-                   ["--within 1"])
-        self.check("named", [name in line for line in lines if "later than usual" in line],
-                   [True])
-        self.check("refused", ": Refused: subtitle " in lines[-1] and name[:-4] in lines[-1], True)
+        """In-cues are 0 or 1 frame late, except that of one subtitle, which is later. The profile
+        lacks an option that would accept it."""
+        for begins, more, within in ((0, 0, 1), "", ["--within 1"]), ((0,), "--within 50", []):
+            programme = Programme(self, 7, Inserter("usual", begins=begins), 40)
+            late = programme.delay_random_subtitle()
+            lines, _ = self.profile(programme, more=more)
+            name = f"subtitle {late.place + 1} at "
+            self.check(f"within {more}", [line for line in lines if line.startswith("--within")],
+                       within)
+            self.check(f"named {more}", [name in line for line in lines
+                                         if "later than usual" in line], [True])
+            self.check(f"refused {more}", ": Refused: subtitle " in lines[-1]
+                       and name[:-4] in lines[-1], True)
 
     def test_lists_a_recording_that_is_not_judged_with_the_profile(self) -> None:
         stl = write_programme(self, subtitle_times(2))

@@ -31,7 +31,8 @@ from ..recording.notices import NeverSent
 from ..recording.recording import refuse_files
 from ..request.commands import CommandPaths, Listener, OutputNames, Progress, Printer
 from ..request.lines import read_pairs, read_profile
-from ..request.request import PID_CHOICE, Request, Unclear, make_file_request
+from ..request.request import (
+    OPTIONS, PID_CHOICE, Request, Setting, Unclear, make_file_request)
 from ..stream.pace import BY_EVERY, IRREGULAR, Pace, PAUSED, TOO_FEW
 from ..stream.repeats import RARE_SHARE, Repeats, measure_repeats
 from ..stream.layout import (
@@ -44,6 +45,7 @@ from .single import now
 
 MAX_EXAMPLES = 5  # maximum number of counterexamples to list
 MAX_EARLY = 25  # number of frames before a TCI in which to search for the subtitle's page
+PAIR_FIELDS = {"origin", "start", "pid"}  # options that may differ between the pairs of a site
 GOOD_STATUSES = {0, 3}  # exit statuses for the verdicts accepted and relative
 
 
@@ -466,13 +468,20 @@ def measure(args: argparse.Namespace, program_name: str) -> int:
         with open(path, "w", encoding="utf-8", errors="surrogateescape") as file:
             file.writelines(f"{line}\n" for line in lines)
         settings = read_profile(path).settings.values()
-        lines += list_refused([dataclasses.replace(request, **{
-            setting.field: setting.value for setting in settings}) for request in requests],
-                              command_paths,
-                              folder)
+        lines += list_refused([apply_profile(request, settings) for request in requests],
+                              command_paths, folder)
     for line in lines:
         print_stdout(line)
     return 0
+
+
+def apply_profile(request: Request, settings: Iterable[Setting]) -> Request:
+    """Return a pair with the options of a profile. The pair keeps only its clock, its PID and the
+    options that a profile can't contain."""
+    defaults = {option.field: option.default for option in OPTIONS
+                if option.is_in_profile and option.field not in PAIR_FIELDS}
+    return dataclasses.replace(request, **defaults | {
+        setting.field: setting.value for setting in settings})
 
 
 def read_requests(args: argparse.Namespace) -> list[Request]:
