@@ -197,7 +197,7 @@ def find_common_range(packets: Packets, reading: Reading, clock: Clock, request:
     end, last = inside[-1][0] + 1, inside[-1][1]
     # A recording that has begun, or goes on, must also show the changes that it sent nothing for.
     has_begun = any(HEADER in flags for _, number, flags in frames if number < inside[0][1])
-    if has_begun and has_change(reading, reading.first + 1, begin):
+    if has_begun and has_change(reading, reading.first + 1, begin - request.within):
         begin = reading.first
     if frames[-1][1] > last and has_change(reading, end, reading.last + 1 - request.within):
         end = reading.last + 1
