@@ -13,7 +13,7 @@ from subtitles.cli.measure import (
     list_separate_cues, measure_delays, measure_recording, propose_keeping, propose_lateness,
     propose_option, remove_unusual)
 from subtitles.common.command_line import MAX_WITHIN
-from subtitles.common.times import TICKS
+from subtitles.common.times import FRAMES_OF_A_DAY, TICKS
 from subtitles.formats.stl import Subtitle
 from subtitles.formats.teletext import OPTION_BY_WORD
 from subtitles.request.commands import CommandPaths
@@ -281,6 +281,13 @@ class Profiles(Case):
                                self.folder)]
         self.check("lines", [line.rpartition(f"{path}: ")[2] for line in lines], [
             "Not judged: the recording does not contain the page at the time of the subtitles"])
+
+    def test_measures_no_programme_over_midnight(self) -> None:
+        midnight = write_programme(self, [(FRAMES_OF_A_DAY - 100, FRAMES_OF_A_DAY - 50), (50, 100)])
+        sent = self.write("one.pes", join_pes_packets(schedule_pages(self, write_programme(
+            self, subtitle_times(2), name="two.stl"))))
+        call = self.tool("qc", "--measure", midnight, sent, "--origin", "0")
+        self.must("reason", call.status == 2 and "run over midnight" in call.told[0], call)
 
     def test_decodes_by_the_option_that_it_proposes(self) -> None:
         """C12 to C14 of all headers select german. Some headers clear C4 (erase page) too."""

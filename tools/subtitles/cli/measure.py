@@ -3,6 +3,7 @@ from __future__ import annotations
 
 import argparse
 import collections
+import contextlib
 import dataclasses
 import os
 import re
@@ -17,7 +18,8 @@ from ..common.times import FRAMES_OF_A_DAY, Span, TICKS, format_frame, subtract_
 from ..formats.layout import (
     PLAIN, TextFault, draw_text, parse_layout, format_layout, encode_text_characters,
     list_page_characters, make_page_rows)
-from ..formats.stl import Subtitle
+from ..formats.midnight import find_day_begin
+from ..formats.stl import Subtitle, read_stl
 from ..formats.teletext import (
     NationalOption, OPTION_BY_WORD, SentOption, find_sent_option, page_name)
 from ..judging.pages import find_text_columns, format_cells
@@ -520,6 +522,7 @@ def measure_recording(request: Request, command_paths: CommandPaths,
     os.mkdir(folder)
     try:
         refuse_files(request)
+        refuse_midnight(request)
         pair = measure_pair(make_pair(request, command_paths, folder))
         sent = find_sent_options(pair.option_bits, request.option, pair.texts)
         if len(sent) == 1 and request.option != sent[0].option.word:
@@ -530,6 +533,15 @@ def measure_recording(request: Request, command_paths: CommandPaths,
         raise Stop(f"{request.stl} and {request.recording} can't be measured: {reason}") from None
     except NeverSent as reason:
         raise Stop(f"{request.stl} and {request.recording} can't be measured: {reason}") from None
+
+
+def refuse_midnight(request: Request) -> None:
+    """Raise `Unclear` if the subtitles run over midnight, since their times are not moved here."""
+    data = b""
+    with contextlib.suppress(Stop, OSError):  # the error is reported later
+        data = read_stl(request.stl)
+    if find_day_begin(data):
+        raise Unclear("the subtitles run over midnight: measure another programme")
 
 
 def make_pair(request: Request, command_paths: CommandPaths, folder: str) -> PairJudge:
