@@ -659,6 +659,18 @@ class TwoRecordings(Case):
             ("10:00:00:00", "10:00:02:24", "2 subtitles of a.ts before 10:00:02:10, when both "
              "recordings have begun")])
 
+    def test_names_subtitles_before_the_reference_without_a_clock(self) -> None:
+        """The recording begins 50 frames before the reference, which begins at 00:00:00:00."""
+        self.write_stream("a.ts", read_transmissions("60 blank, 75 text, 100 blank"))
+        self.write_stream("b.ts", read_transmissions(
+            "10 text, 30 blank, 50 other, 75 text, 100 blank"))
+        self.check("status", self.compare("a.ts", "b.ts")[0], 3)
+        self.check("entries", [
+            (item["from"], item["to"], item["text"]) for item in json.loads(self.read(
+                "out/b.json"))["not_checked"] if item["kind"] == OUTSIDE], [
+            (None, "00:00:00:14", "2 subtitles of b.ts before 00:00:00:15, when both recordings "
+             "have begun")])
+
     def test_says_why_no_recording_is_judged(self) -> None:
         """The files in `theirs` were not written by the tools. two.ts has the pages 888 and 889."""
         self.write_stream("a.ts", [(0, NO_TEXT), (25, TEXT), (50, NO_TEXT)])

@@ -2,12 +2,12 @@
 from __future__ import annotations
 
 import dataclasses
-from typing import Callable, Iterator
+from typing import Callable, Iterator, Sequence
 
 from ..clock.start import Clock, TimedPart
 from ..common.checks import CLOCK, OUTSIDE, describe_kinds
 from ..common.command_line import counted
-from ..common.times import TICKS, compute_frame, format_frame, subtract_pts
+from ..common.times import TICKS, compute_frame, format_frame, subtract_pts, wrap_pts
 from ..formats.listing import END, NEVER_SENT
 from ..judging.causes import Causes
 from ..judging.pair import measure_delays
@@ -106,8 +106,9 @@ class ReferenceJudge(RangeJudge):
             self.write(reading.pages)
             clock = self.find_clock(reading)
             verdict.shift = subtract_pts(reading.clock.origin, clock.origin)
-            timeline, judged = find_common_range(recording.packets, reading, clock, self.request)
-            verdict.unchecked += self.list_outside(timeline, judged)
+            judged = find_common_range(recording.packets, reading, clock, self.request)
+            shown = list_shown_pages(recording.packets, clock, self.request)
+            verdict.unchecked += self.list_outside(shown, judged)
             begin, end = judged[:2]
             pages = [page._replace(begin=max(page.begin, begin), end=min(page.end, end))
                      for page in reading.pages if page.begin < end and begin < page.end]
@@ -146,20 +147,20 @@ class ReferenceJudge(RangeJudge):
         search = PartSearch(self.request, full_range, None)
         return find_parts(search, self.source, self.listener).alignments[0].clock
 
-    def list_outside(self, timeline: Timeline, judged: JudgedRange) -> Iterator[Unchecked]:
-        """Yield entries about the subtitles of both recordings outside of the common range."""
-        for name, pages in zip(self.reference_verdict.names, (
-                [page for page in list_spans(timeline) if page.rows != BLANK_PAGE],
-                self.reader.reading.pages)):
+    def list_outside(self, shown: Sequence[ShownPage], judged: JudgedRange) -> Iterator[Unchecked]:
+        """Yield entries about the subtitles of both recordings outside of the common range. The
+        recording shows the pages `shown`."""
+        for name, pages in zip(self.reference_verdict.names, (shown, self.reader.reading.pages)):
             before = [page for page in pages if page.begin < judged.begin]
             after = [page for page in pages if page.end > judged.end]
             for found, text in ((before, f"before {format_frame(judged.begin)}, when both "
                                  "recordings have begun"),
                                 (after, f"after {format_frame(judged.end - 1)}, when one ends")):
                 if found:
+                    first, last = (format_frame(frame) if frame >= 0 else None
+                                   for frame in (found[0].begin, found[-1].end - 1))
                     yield Unchecked(OUTSIDE, f"{counted(len(found), 'subtitle')} of {name} "
-                                    f"{text}", None, format_frame(max(found[0].begin, 0)),
-                                    format_frame(found[-1].end - 1))
+                                    f"{text}", None, first, last)
 
     def explain(self, part: Part) -> Part:
         """Return a copy of a part with the causes of its faults, if there is a subtitle. If the
@@ -178,12 +179,23 @@ class ReferenceJudge(RangeJudge):
                                    is_recording_read=part.is_read())
 
 
+def list_shown_pages(packets: Packets, clock: Clock, request: Request) -> list[ShownPage]:
+    """Return the pages that a recording shows, except blank ones. Frames before 00:00:00:00, in
+    which it may begin if no clock was given, are negative."""
+    pts = [*packets.pts()]
+    is_early = compute_frame(pts[0], clock.origin) > compute_frame(pts[-1], clock.origin)
+    early = compute_frame(clock.origin, pts[0]) + 1 if is_early and request.start is None else 0
+    timeline = Timeline(packets, request.page, wrap_pts(clock.origin - TICKS * early),
+                        request.within, (0, packets.count - 1))
+    return [page._replace(begin=page.begin - early, end=page.end - early)
+            for page in list_spans(timeline) if page.rows != BLANK_PAGE]
+
+
 def find_common_range(packets: Packets, reading: Reading, clock: Clock, request: Request) \
-        -> tuple[Timeline, JudgedRange]:
-    """Return the decoded pages of a recording, and what it and the reference cover: from the first
-    header of the page after the reference has begun to the last PES packet before it ends."""
-    everything = 0, packets.count - 1
-    back = find_step_back(packets, everything)
+        -> JudgedRange:
+    """Return what a recording and the reference cover: from the first header of the page after the
+    reference has begun to the last PES packet before it ends."""
+    back = find_step_back(packets, (0, packets.count - 1))
     if back is not None:
         raise Unclear(f"the PTS go back at PES packet {back}, so the recordings can't be "
                       "compared: cut the recording there")
@@ -201,8 +213,7 @@ def find_common_range(packets: Packets, reading: Reading, clock: Clock, request:
         begin = reading.first
     if frames[-1][1] > last and has_change(reading, end, reading.last + 1 - request.within):
         end = reading.last + 1
-    return Timeline(packets, request.page, clock.origin, request.within, everything), JudgedRange(
-        begin, end, (first, last), clock, False)
+    return JudgedRange(begin, end, (first, last), clock, False)
 
 
 def has_change(reading: Reading, begin: int, end: int) -> bool:
