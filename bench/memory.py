@@ -3,8 +3,9 @@ from __future__ import annotations
 
 import os
 import subprocess
-import sys
 import tempfile
+
+from subtitles.common.command_line import Stop
 
 GNU_TIME = "/usr/bin/time"
 
@@ -16,7 +17,7 @@ def lines_of_log(command: list[str], words: list[str]) -> list[str]:
         process = subprocess.run([*command, "-o", log, *words], stdout=subprocess.DEVNULL,
                                  check=False)
         if process.returncode not in (0, 1):  # status 1: the input is refused
-            sys.exit(f"{' '.join(words)} ended with status {process.returncode}")
+            raise Stop(f"{' '.join(words)} ended with status {process.returncode}")
         with open(log, encoding="utf-8") as file:
             return file.read().splitlines()
 

@@ -2,8 +2,8 @@
 from __future__ import annotations
 
 import os
-import sys
 
+from subtitles.common.command_line import Stop
 from subtitles.common.program import TOP
 from subtitles.formats.stl import GSI, NEW_LINE
 from .pes import DATA, UNIT, find_starts
@@ -77,8 +77,8 @@ def prepare(trial: Trial) -> None:
     for name, status, program_args in COMMANDS:
         command = trial.commands[name] = trial.make_command(name, program_args)
         if command.status != status:
-            sys.exit(f"faults: {name} ends with {command.status} though nothing fails: "
-                     f"{command.printed!r}")
+            raise Stop(f"{name} ends with {command.status} though nothing fails: "
+                       f"{command.printed!r}")
         if name == "schedule":
             written = command.written or b""
             trial.add_input("long.pes", written)

@@ -264,7 +264,7 @@ class Measurements(Case):
                                        "echo ==1== $4 : 1234 >&2\n")
         with mock.patch.dict(os.environ, PATH=f"{self.folder}:{os.environ['PATH']}"):
             self.check("number", script.instructions("program", ["Collected"]), 1234)
-            self.assertRaises(SystemExit, script.instructions, "program", ["killed"])
+            self.assertRaises(Stop, script.instructions, "program", ["killed"])
 
     def test_a_recording_has_equally_many_ts_packets_for_each_frame(self) -> None:
         script, stl, pes, ts = self.import_from_bench("inputs.py"), *map(self.path, ("s", "p", "t"))
@@ -317,10 +317,10 @@ class Measurements(Case):
         for command, is_measured in (("exit 0", True), ("exit 1", True), ("exit 2", False),
                                      ("kill -9 $$", False)):
             time = 0.0
-            with contextlib.suppress(SystemExit):
+            with contextlib.suppress(Stop):
                 time = script.milliseconds(["sh", "-c", command])
             self.check(command, time > 0, is_measured)
-            with contextlib.suppress(SystemExit):
+            with contextlib.suppress(Stop):
                 sys.modules["memory"].lines_of_log([logger], ["sh", "-c", command])
                 self.must(f"{command}: its log is read", is_measured)
 
