@@ -79,6 +79,14 @@ class Lines(AirCase):
         self.write_schedule("2026-12-01T08:00:00Z a.stl --profile profile")
         self.check("within", self.read_schedule().programmes[0].request.within, 3)
 
+    def test_finds_the_severity_file_of_a_line_in_the_folder_of_the_schedule(self) -> None:
+        self.write("profile", b"--severity from-profile")
+        for options, expected in (("--severity own", self.path("own")), ("", None), (
+                "--severity=/own --profile profile", "/own"), (
+                "--profile profile", self.path("from-profile"))):
+            self.write_schedule(f"2026-12-01T08:00:00Z a.stl {options}")
+            self.check(options, self.read_schedule().programmes[0].request.severity, expected)
+
     def test_does_not_parse_an_unchanged_schedule_again(self) -> None:
         self.write_schedule("2026-12-01T08:00:00Z a.stl")
         first = self.read_schedule()

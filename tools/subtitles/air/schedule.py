@@ -10,7 +10,7 @@ from typing import NamedTuple, Sequence
 
 from ..common.command_line import Stop, format_error
 from ..request.commands import make_pair_name
-from ..request.lines import Line, split_lines, read_list, make_line_request
+from ..request.lines import Line, make_line_parser, make_line_request, read_list, split_lines
 from ..request.request import Request
 
 TIME = re.compile(r"\d{4}-\d\d-\d\dT\d\d:\d\d:\d\d(\.\d{1,6})?(Z|[+-]\d\d:\d\d)", re.ASCII)
@@ -107,6 +107,8 @@ def parse_line(line: Line, folder: str, options: argparse.Namespace) -> Programm
         raise Stop("it has no subtitle file: write the air time, then the subtitle file")
     stl = os.path.join(folder, line.arguments[1])
     request = make_line_request([stl, RECORDING, *line.arguments[2:]], options, folder)
+    if severity := make_line_parser().parse_args([*line.arguments]).severity:
+        request.severity = os.path.join(folder, severity)
     if request.start or request.pes:
         raise Stop("--start and --pes depend on where the programme is in the segments, which is "
                    "not known: remove them")
