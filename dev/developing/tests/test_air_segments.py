@@ -226,6 +226,12 @@ class Recorded(AirCase):
         self.check("a large step back is a loss", self.are_new(), [True, False, True, False])
         self.check("message", self.printed, ["the clock was set back by 3580 seconds"])
 
+    def test_a_step_back_by_exactly_ten_seconds_is_a_loss(self) -> None:
+        item = self.make_recorder()
+        for at in (0, 10, 20, 10):
+            self.take(item, at)
+        self.check("new segments", self.are_new(), [True, False, True, False])
+
     def test_deletes_segments_that_are_too_old_without_listing_a_large_folder(self) -> None:
         item = self.make_recorder(kept=50)
         with mock.patch.object(recorder, "list_segment_names", side_effect=AssertionError):

@@ -92,7 +92,7 @@ class Recorder:
     def open_segment(self, now: float) -> int:
         """Open a new segment. If the clock was set back by a few seconds, name the segment so that
         it still sorts last. Otherwise name it by the clock, since the clock was wrong before."""
-        if self.latest > now + MAX_STEP_BACK:
+        if self.latest >= now + MAX_STEP_BACK:
             print_stderr(f"the clock was set back by {self.latest - now:.0f} seconds")
             self.is_new, self.latest_wrong = True, self.latest
         earlier = self.names[:bisect.bisect_left(self.names, (now + MAX_STEP_BACK, ""))]
