@@ -87,6 +87,16 @@ class Lines(AirCase):
             self.write_schedule(f"2026-12-01T08:00:00Z a.stl {options}")
             self.check(options, self.read_schedule().programmes[0].request.severity, expected)
 
+    def test_reads_the_profile_of_a_line_again_after_a_minute(self) -> None:
+        self.write_schedule("2026-12-01T08:00:00Z a.stl --profile profile")
+        schedule = self.read_schedule()
+        self.check("no profile", len(schedule.faults), 1)
+        for now, text, expected in ((59, b"--within 3", []), (60, b"--within 3", [3]),
+                                    (119, b"--within 5", [3]), (120, b"--within 5", [5])):
+            self.write("profile", text)
+            schedule = self.read_schedule(schedule, DAY + now)
+            self.check(f"at {now}", [item.request.within for item in schedule.programmes], expected)
+
     def test_does_not_parse_an_unchanged_schedule_again(self) -> None:
         self.write_schedule("2026-12-01T08:00:00Z a.stl")
         first = self.read_schedule()

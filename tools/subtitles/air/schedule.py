@@ -18,6 +18,7 @@ FORMATS = "%Y-%m-%dT%H:%M:%S%z", "%Y-%m-%dT%H:%M:%S.%f%z"  # without and with a 
 EXAMPLE = "2026-11-29T20:15:00Z"
 USUAL_PAGE = "888"
 RECORDING = "recording.ts"  # file name of the recording that is judged
+PROFILE_SECONDS = 60.0  # seconds after which the profiles of lines are read again
 
 
 class Programme(NamedTuple):
@@ -34,12 +35,13 @@ class Programme(NamedTuple):
 
 
 class Schedule(NamedTuple):
-    """The programmes of a schedule, earliest first, a message for each faulty line, and the
-    complete text."""
+    """The programmes of a schedule, earliest first, a message for each faulty line, the complete
+    text, and the time when it was parsed."""
 
     programmes: Sequence[Programme] = ()
     faults: Sequence[str] = ()
     text: str = ""
+    parsed_at: float = 0.0
 
 
 def parse_air_time(text: str) -> float:
@@ -74,11 +76,14 @@ def make_result_name(begin: float, request: Request) -> str:
 def read_schedule(path: str, options: argparse.Namespace, now: float,
                   known: Schedule = Schedule()) -> Schedule:
     """Read a schedule. Ignore a last line without a line end until the file is settled, since the
-    line may be incomplete. Return `known` if the file has not changed."""
+    line may be incomplete. Return `known` if the file has not changed, and for a minute also if a
+    line has a profile, which may have changed."""
     text = read_list(path).replace("\r\n", "\n").replace("\r", "\n")
     if os.stat(path).st_mtime > now - options.settled:
         text = text[:text.rfind("\n") + 1]
-    return known if text == known.text else parse_schedule(text, os.path.dirname(path), options)
+    may_change = "--profile" in text and not 0 <= now - known.parsed_at < PROFILE_SECONDS
+    return known if text == known.text and not may_change else parse_schedule(
+        text, os.path.dirname(path), options)._replace(parsed_at=now)
 
 
 def parse_schedule(text: str, folder: str, options: argparse.Namespace) -> Schedule:
