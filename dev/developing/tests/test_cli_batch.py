@@ -34,6 +34,7 @@ from .bench import Case, SECONDS, get_example_path
 from .parts import make_example_request, list_call_arguments, make_default_options, run_qc
 from .programmes import wait_until
 from .results import capture_output, make_result, make_table_row
+from .stories import read_vectors
 from .test_formats_files import refusal
 
 
@@ -49,29 +50,16 @@ class Lists(Case):
 
     def test_reads_each_line_of_a_list_or_reports_why_not(self) -> None:
         self.make_socket("socket")
-        here = f"{self.folder}/"
-        rows = (  # a line of the list, the name of its pair if any, the reason
-            ("# none", None, ""), ("", None, ""),
-            (f"{here}one.stl {here}one.ts --every 50 # more", "one", ""),
-            (f"{here}two.stl {here}one.ts", "two", ""),
-            (f"{here}one.stl {here}one.ts", "one~2", ""),
-            ('"', "line 6", f"{here}list, line 6: a quote is not closed"),
-            (f"{here}one.stl", "line 7", f"{here}list, line 7: the following arguments are "
-             "required: recording"),
-            (f"{here}one.stl {here}folder", "one~3", f"{here}folder is a folder"),
-            (f"{here}none.stl {here}one.ts", "none", f"{here}none.stl: No such file or directory"),
-            (f"{here}one.stl {here}pipe", "one~4", f"{here}pipe is a pipe"),
-            (f"{here}x.stl -", "line 11", f"{here}list, line 11: a list can't have standard "
-             "input (-) as a recording: give a file"),
-            (f"{here}x.stl /dev/null --within 2", "x", "/dev/null is a device"),
-            (f"{here}x.stl {here}socket", "x~2", f"{here}socket is a socket"),
-            ("caf\udce9.stl x.ts", "caf%E9", "caf\udce9.stl: No such file or directory"))
-        text = "\n".join(line for line, _, _ in rows).encode("utf-8", "surrogateescape")
+        rows = [*read_vectors("list-lines.tsv")]
+        lines, reasons = ([row[name].replace("FOLDER", self.folder).replace("%E9", "\udce9")
+                           for row in rows] for name in ("line", "reason"))
+        text = "\n".join(lines).encode("utf-8", "surrogateescape")
         items = read_pairs(self.write("list", text), make_default_options())
-        lines_with_pairs = [row for row in rows if row[1]]
-        self.check("pairs", len(items), len(lines_with_pairs))
-        for (line, name, reason), item in zip(lines_with_pairs, items):
-            kind = "usage" if f"{name}".startswith("line ") else "input"
+        expected = [(line, row["pair"], reason) for line, row, reason in zip(lines, rows, reasons)
+                    if row["pair"]]
+        self.check("pairs", len(items), len(expected))
+        for (line, name, reason), item in zip(expected, items):
+            kind = "usage" if name.startswith("line ") else "input"
             self.check(line, (item.name, item.reason or "", item.reason_kind), (name, reason, kind))
         self.check("--every of the valid lines", [
             item.request.every for item in items if item.request], [50, 250, 250])
