@@ -112,7 +112,7 @@ class Folders(Case):
         self.write("in/two.stl", b"2")
         self.write("in/two.done", b"")
         self.check("two.done exists", list_ready_pairs(lambda: 311), ["two"])
-        os.unlink(self.path("in/two.done"))
+        os.utime(self.path("in/two.done"), (1e9, 1e9))  # it is older than the new recording
         self.write("in/two.ts", b"22")
         times = iter([400.0, 409.0, 418.0, 419.0])  # one search takes nine seconds
         self.check("ten seconds after the end of the search that saw the change", [

@@ -27,8 +27,8 @@ from ..request.lines import (
     read_line_pair, read_pairs)
 from ..request.request import Request
 from ..results.files import (
-    ENDING, Row, describe_inputs, is_current, read_call_result, read_result, write_result_file,
-    make_failed, make_row, make_unjudged)
+    ENDING, Row, describe_file, describe_inputs, is_current, read_call_result, read_result,
+    write_result_file, make_failed, make_row, make_unjudged)
 from .main import write_unjudged
 from .single import (
     FilesInUse, PairOptions, SIGNALS, handle_signals, ignore_signals, judge_and_report, lock_folder,
@@ -448,9 +448,11 @@ class FolderWatch:
         return ready
 
     def is_complete(self, name: str, file_state: object, now: float) -> bool:
-        """Return whether the files of a pair are complete: there is a file PAIR.done, or the files
-        have not changed for `settled` seconds."""
-        if os.path.exists(os.path.join(self.folder, name + DONE_SUFFIX)):
+        """Return whether the files of a pair are complete: there is a file PAIR.done that is not
+        older than the files, or the files have not changed for `settled` seconds."""
+        done = describe_file(os.path.join(self.folder, name + DONE_SUFFIX))
+        files = file_state.values() if isinstance(file_state, dict) else ()
+        if done and all(done["modified"] >= info["modified"] for info in files if info):
             return True
         seen = self.seen.get(name)
         if seen is None or seen.file_state != file_state:
