@@ -159,7 +159,13 @@ def find_border(cues: Sequence[ExpectedCue], previous: Stretch, following: Stret
         if gain > most and following.track.may_follow(
                 previous.track, cues[border].frame - cues[border - 1].frame):
             best, most = border, gain
-    return best
+    # The in-cue of a subtitle that is late after a break matches nothing, but its out-cue does.
+    earlier = best - 1
+    is_late = earlier >= previous.first + MIN_MATCHING_CUES and \
+        following.track.points[best] == 2 and not (
+            previous.track.points[earlier] or following.track.points[earlier])
+    return earlier if is_late and following.track.may_follow(
+        previous.track, cues[earlier].frame - cues[earlier - 1].frame) else best
 
 
 class EstimatedPart(NamedTuple):
