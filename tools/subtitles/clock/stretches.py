@@ -152,7 +152,7 @@ def find_best_stretches(cues: Sequence[ExpectedCue], tracks: Sequence[Track]) ->
 
 def find_border(cues: Sequence[ExpectedCue], previous: Stretch, following: Stretch) -> int:
     """Return the number of the cue at which `following` should begin: its first cue, or an earlier
-    cue if that gives a higher score."""
+    cue if that gives a higher score or is the in-cue of a late subtitle."""
     best, most, gain = following.first, 0, 0
     for border in range(following.first - 1, previous.first + MIN_MATCHING_CUES - 1, -1):
         gain += following.track.points[border] - previous.track.points[border]
