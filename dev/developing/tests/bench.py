@@ -40,7 +40,7 @@ class CompletedCall(NamedTuple):
 
     status: int
     out: bytes
-    told: list[str]
+    errors: list[str]
 
 
 class Bench:
@@ -84,14 +84,14 @@ class Case(unittest.TestCase):
     def setUp(self) -> None:
         self.folder = self.bench.make_folder(self.id().rpartition("tests.")[2])
 
-    def must(self, name: str, is_right: object, told: object = "") -> bool:
+    def must(self, name: str, is_right: object, evidence: object = "") -> bool:
         """Check a condition. Continue after a failure. Use `check` if there is an expected value.
         """
         with self.subTest(name):
             if not is_right:
-                found = "\n".join(list_lines(told))
+                found = "\n".join(list_lines(evidence))
                 raise Mismatch(format_failure(name, explain_condition(find_calling_frame()),
-                                              f"  found:    {found}" * (told != "")))
+                                              f"  found:    {found}" * (evidence != "")))
         return bool(is_right)
 
     def check(self, name: str, result: object, expected: object) -> bool:
@@ -143,13 +143,13 @@ class Case(unittest.TestCase):
         process = subprocess.run(command, cwd=os.path.join(self.folder, folder), check=False,
                                  stdout=subprocess.PIPE, stderr=subprocess.PIPE, timeout=SECONDS,
                                  input=data or b"", env=env, user=user, preexec_fn=does)
-        told = process.stderr.decode("utf-8", "surrogateescape").splitlines()
-        self.check_no_internal_error(told)
-        return CompletedCall(process.returncode, process.stdout, told)
+        errors = process.stderr.decode("utf-8", "surrogateescape").splitlines()
+        self.check_no_internal_error(errors)
+        return CompletedCall(process.returncode, process.stdout, errors)
 
-    def check_no_internal_error(self, told: Sequence[str]) -> None:
+    def check_no_internal_error(self, errors: Sequence[str]) -> None:
         """Check that no bug ended a tool. Its status would be that of a wrong argument."""
-        if wrong := [line for line in told if INTERNAL_ERROR in line]:
+        if wrong := [line for line in errors if INTERNAL_ERROR in line]:
             self.check("internal errors", wrong, [])
 
     def tool(self, name: str, *args: str, data: bytes | None = None) -> CompletedCall:

@@ -181,7 +181,7 @@ class Calls(Feeds):
         now = time.time()
         process = self.tool("air", "record", self.path("segments"), "--free", "0",
                             data=b"".join(self.make_feed(is_wrong)))
-        self.check("record", (process.status, process.told), (0, []))
+        self.check("record", (process.status, process.errors), (0, []))
         self.write_schedule_line(now - 120)
         names = sorted(name for name in os.listdir(self.path("segments")) if name.endswith(".ts"))
         for number, name in enumerate(names):
@@ -189,7 +189,7 @@ class Calls(Feeds):
             os.rename(self.path(f"segments/{name}"), path)
             os.utime(path, (now, now))
         process = self.call(self.make_judge_command("--once", "--margin", "110", *options))
-        self.check("judge", (process.status, process.told), (0, []))
+        self.check("judge", (process.status, process.errors), (0, []))
         return sorted(os.path.splitext(name)[1] for name in os.listdir(self.path("out")))
 
     def test_records_a_file(self) -> None:
@@ -261,7 +261,7 @@ class Calls(Feeds):
                                              "to 99999")}
         for line, (status, message) in rows.items():
             process = self.tool("air", *line.split())
-            self.check(line or "none", (process.status, process.told),
+            self.check(line or "none", (process.status, process.errors),
                        (status, [f"air: {message}"]))
 
     def test_records_with_limits_in_seconds_and_bytes(self) -> None:
@@ -288,5 +288,5 @@ class Calls(Feeds):
                 ("state", "out", "qc --watch segments -o out", "service is judging into")):
             with hold_lock(self.path(folder), name, ""):
                 process = self.tool(*line.split())
-            self.check(line, (process.status, process.told),
+            self.check(line, (process.status, process.errors),
                        (2, [f"{line.split()[0]}: another {message} {folder}"]))

@@ -182,7 +182,7 @@ class StoredResults(Case):
         process = self.tool("qc", "--collect", ".", "--json", "all.json")
         reason = "./b.json is in JSON format 7, but this version reads format 8: judge these " \
             "pairs again into another folder"
-        self.check("told", (process.status, process.out, process.told),
+        self.check("told", (process.status, process.out, process.errors),
                    (2, b"", [f"qc: {reason}"]))
         self.check("pairs", [item["reason"] for item in json.loads(self.read("all.json"))["pairs"]],
                    [reason])

@@ -45,7 +45,7 @@ class EndedCall(NamedTuple):
 
     status: int
     printed: list[str]
-    told: list[str]
+    errors: list[str]
 
 
 class CallCase(Case):
@@ -114,7 +114,7 @@ class Programs(CallCase):
             if status in (2, 70):
                 self.assertEqual(known["verdict"], "not judged")
                 self.assertTrue(known["reason"].startswith("check gave no verdict: "), ended)
-                self.assertEqual(ended.told, [f"qc: {known['reason']}"])
+                self.assertEqual(ended.errors, [f"qc: {known['reason']}"])
 
     def test_judges_only_if_each_call_of_the_program_succeeds(self) -> None:
         """The program runs `does` in place of the calls that match the shell pattern `when`."""
@@ -140,9 +140,10 @@ class Programs(CallCase):
                                       known.get("line")),
                                      (*[2 if "kill -9" in does else 70] * 2, "not judged", None),
                                      process)
-                    self.assertTrue(known["reason"] and process.told and not any(
+                    self.assertTrue(known["reason"] and process.errors and not any(
                         line.startswith("accepted") for line in process.printed[-1:]), process)
-                    self.assertTrue(all(line.startswith("qc: ") for line in process.told), process)
+                    self.assertTrue(
+                        all(line.startswith("qc: ") for line in process.errors), process)
 
     def test_never_prints_accepted_without_a_clock(self) -> None:
         """`check` prints "accepted", but no option gives a clock: the pair is relative."""
@@ -202,7 +203,7 @@ class UsageErrors(CallCase):
                 before = self.read(name)
                 more = [] if "--collect" in words else ["-p", program]
                 process = self.qc(*words, option, name, *more)
-                self.assertEqual((process.status, process.told, self.read(name)), (2, [
+                self.assertEqual((process.status, process.errors, self.read(name)), (2, [
                     f"qc: {name} is also an input: give another name"], before), (words, option))
 
 
@@ -224,7 +225,7 @@ class Bugs(CallCase):
             self.check(f"{place}: verdict, line, kind", (
                 known["verdict"], known.get("line"), known["not_judged_kind"]),
                 ("not judged", None, "bug"))
-            self.check(f"{place}: message", process.told, [f"qc: {known['reason']}"])
+            self.check(f"{place}: message", process.errors, [f"qc: {known['reason']}"])
             self.must(f"{place}: reason", "odd" in known["reason"], known)
 
     def test_has_status_2_if_a_module_cannot_be_imported(self) -> None:

@@ -130,7 +130,7 @@ class Installation(Case):
         os.symlink(self.path("elsewhere"), self.path("linked/lib/subttx"))
         process = self.tool("install", "--remove", "linked")
         self.must("a link", process.status == 2
-                  and "linked/lib/subttx is a link" in process.told[0]
+                  and "linked/lib/subttx is a link" in process.errors[0]
                   and os.path.exists(self.path("linked/bin/subttx")), process)
 
     def test_removes_no_other_files(self) -> None:
@@ -154,7 +154,7 @@ class Installation(Case):
             (["empty"], 2), (["none"], 2), (["-p", self.bench.program, "empty"], 64), ([], 64)]
         for words, status in rows:
             process = self.tool("install", "--remove", *words)
-            self.check(" ".join(words), (process.status, len(process.told)), (status, 1))
+            self.check(" ".join(words), (process.status, len(process.errors)), (status, 1))
 
     def test_installed_documents_have_no_dead_links(self) -> None:
         self.install("prefix")

@@ -216,7 +216,7 @@ class Profiles(Case):
         lines = [f"{item.stl} {path} --origin 0 {more}" for item, path in zip(programme, paths)]
         listed = self.write("list", "\n".join(lines).encode())
         process = self.tool("qc", "--measure", listed, "-p", self.bench.program)
-        self.check("status", (process.status, process.told), (0, []))
+        self.check("status", (process.status, process.errors), (0, []))
         self.write("profile", process.out)
         return process.out.decode().splitlines(), paths
 
@@ -287,7 +287,7 @@ class Profiles(Case):
         sent = self.write("one.pes", join_pes_packets(schedule_pages(self, write_programme(
             self, subtitle_times(2), name="two.stl"))))
         call = self.tool("qc", "--measure", midnight, sent, "--origin", "0")
-        self.must("reason", call.status == 2 and "run over midnight" in call.told[0], call)
+        self.must("reason", call.status == 2 and "run over midnight" in call.errors[0], call)
 
     def test_decodes_by_the_option_that_it_proposes(self) -> None:
         """C12 to C14 of all headers select german. Some headers clear C4 (erase page) too."""

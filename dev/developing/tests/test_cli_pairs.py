@@ -98,7 +98,8 @@ class PipedRecordings(Case):
         command = 'ulimit -f 200; exec "$0" "$1" - --json one.json -p "$2"'
         process = self.call(["bash", "-c", command, get_tool_path("qc"), STORY, self.bench.program],
                             data)
-        self.must("message", process.status == 2 and "File too large" in process.told[-1], process)
+        self.must("message", process.status == 2
+                  and "File too large" in process.errors[-1], process)
         self.must("result", "File too large" in json.loads(self.read("one.json"))["reason"])
 
 
@@ -206,9 +207,9 @@ class SubtitlePipes(Case):
             write_pipe(self, data, pipe)
             of_pipe = self.qc(pipe, *words, "-o", self.path("out"))
             other = json.loads(self.read("x.json"))
-            told = [line.replace(pipe, name) for line in of_pipe.told]
+            told = [line.replace(pipe, name) for line in of_pipe.errors]
             self.check(f"{words}: output", of_pipe._replace(
-                told=told, out=of_pipe.out.replace(pipe.encode(), name.encode())), of_file)
+                errors=told, out=of_pipe.out.replace(pipe.encode(), name.encode())), of_file)
             for item in (known, other):  # the names of the two files differ
                 item["inputs"]["stl"] = {**(item["inputs"]["stl"] or {}), "name": ""}
             for member in ("verdict", "status", "fault_count", "faults", "inputs",
@@ -240,7 +241,7 @@ class NamesCase(Case):
     def check_output(self, what: str, process: CompletedCall, status: int) -> None:
         """Check the exit status, and that no control character reaches the terminal."""
         self.check(f"{what}: status", process.status, status)
-        shown = process.out + "".join(process.told).encode("utf-8", "replace")
+        shown = process.out + "".join(process.errors).encode("utf-8", "replace")
         self.must(f"{what}: control characters are escaped", not find_control_bytes(shown), shown)
 
     def check_commands(self, what: str, process: CompletedCall, folder: str, status: int) -> None:
@@ -294,7 +295,7 @@ class HostileNames(NamesCase):
                                       make_teletext_descriptor(b"\x1b[2"))
         process = qc(self, STORY, self.write("one.ts", data), "--page", "801")
         self.check_output("another page", process, 2)
-        self.must("the announced page", "888 (\\x1b[2, subtitles)" in "\n".join(process.told),
+        self.must("the announced page", "888 (\\x1b[2, subtitles)" in "\n".join(process.errors),
                   process)
 
 
@@ -366,10 +367,11 @@ class UnusableFolders(Case):
         for taken in ("64k", "56k"):
             command = ["unshare", "-rm", "sh", "-c", script, "sh", taken, *words]
             process = self.call(command) if shutil.which("unshare") else CompletedCall(77, b"", [])
-            if process.status in (1, 77) and not any("qc: " in line for line in process.told):
+            if process.status in (1, 77) and not any("qc: " in line for line in process.errors):
                 self.skipTest("a full disk, since no file system can be mounted here")
-            self.must(f"{taken} taken", process.status == 2 and "No space left" in process.told[-1]
-                      and "full/" in process.told[-1], process)
+            self.must(f"{taken} taken", process.status == 2
+                      and "No space left" in process.errors[-1]
+                      and "full/" in process.errors[-1], process)
 
 
 class TimeStamps(Case):
@@ -385,4 +387,4 @@ class TimeStamps(Case):
                     process.status, split_output_lines(process)[-1]), (3, RELATIVE))
             process = qc(self, path, STORY)
             self.must(f"{stamp.hex()}, given as subtitle file", process.status == 2
-                      and "is a recording" in process.told[0], process)
+                      and "is a recording" in process.errors[0], process)

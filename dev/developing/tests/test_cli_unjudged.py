@@ -252,7 +252,7 @@ class OutputsAndSignals(CallCase):
             for process in (self.judge(program, option, name),
                             self.qc("--collect", self.path("results"), option, name)):
                 self.check(f"{option} {name}: status", process.status, 0)
-                self.must(f"{option} {name}: verdict", "accepted" in "\n".join(process.told))
+                self.must(f"{option} {name}: verdict", "accepted" in "\n".join(process.errors))
                 self.must(f"{option} {name}: output", process.printed[0].startswith(begins[option])
                           and not process.printed[-1].startswith("accepted") and not any(
                               line.startswith(("pair ", "+ ", "1 pair"))

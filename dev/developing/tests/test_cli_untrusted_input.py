@@ -139,7 +139,7 @@ class MissingResources(Case):
                                self.bench.program])
             process = self.call(["sh", "-c", f'exec "$0" "$@" {ending}',
                                  get_tool_path("qc"), *words, "-p", self.bench.program])
-            self.check(f"{name} {ending}", process, known._replace(status=status, told=[]))
+            self.check(f"{name} {ending}", process, known._replace(status=status, errors=[]))
 
     def test_accepts_or_reports_too_little_memory(self) -> None:
         """The process may use 20 to 60 MB. An example is accepted, or qc says why not."""
@@ -154,10 +154,10 @@ class MissingResources(Case):
             self.check(f"{size} kB: status", process.status, 0 if is_accepted else 2)
             statuses.add(process.status)
             # Python 3.13 prints the traceback of an exception that it ignores.
-            is_ignored = any(line.startswith("Exception ignored") for line in process.told)
-            self.must(f"{size} kB: a message", is_accepted or process.told and not any(
+            is_ignored = any(line.startswith("Exception ignored") for line in process.errors)
+            self.must(f"{size} kB: a message", is_accepted or process.errors and not any(
                 "internal error:" in line or "Traceback" in line and not is_ignored
-                for line in process.told), process)
+                for line in process.errors), process)
         self.check("too little and enough", statuses, {0, 2})
 
 
@@ -214,7 +214,7 @@ class UntrustedResults(Case):
         self.check("pages loaded", len(texts), len(names))
         for name, text in zip(names, texts):
             is_wrong = name == "wrong.html"
-            logged = any("CONSOLE" in line and f"/{name} " in line for line in process.told)
+            logged = any("CONSOLE" in line and f"/{name} " in line for line in process.errors)
             self.must(f"{name}: has a table", "<table" in text, text)
             self.check(f"{name}: a script logged, and changed the title",
                        (logged, "<title>run" in text), (is_wrong, is_wrong))

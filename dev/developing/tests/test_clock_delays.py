@@ -195,7 +195,7 @@ def compare_with_ffprobe(case: Case, name: str, stl: str, data: bytes, is_closed
     line = next((line for line in split_output_lines(process)
                  if line.startswith("the first picture")), "")
     case.must(f"{name}: its PTS", f" has PTS {first}" in line,
-              (line, group, process.told))
+              (line, group, process.errors))
     case.check(f"{name}: skipped", re.findall(r"; (\d+) earlier PES packet", line),
                [f"{keys[0]}"] * (keys[0] > 0))
     if is_closed:

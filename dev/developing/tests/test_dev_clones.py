@@ -113,9 +113,9 @@ class Clone:
     def check_failure(self, name: str, why: str) -> None:
         """Check that ./subttx runs no program and prints the reason `why` on two lines."""
         process = self.run(*PACKET)
-        self.case.must(name, process.status == 2 and not process.out and len(process.told) == 2
-                       and why in process.told[0] and "rt is not on the PATH" in process.told[1],
-                       process)
+        self.case.must(name, process.status == 2 and not process.out and len(process.errors) == 2
+                       and why in process.errors[0]
+                       and "rt is not on the PATH" in process.errors[1], process)
 
 
 def remove_rt_from_path() -> str:
@@ -149,7 +149,8 @@ class Clones(Case):
         """Check that ./subttx rejects its arguments, with one message."""
         process = self.clone.run(*args)
         self.must(f"{args}", (process.status, process.out) == (2, USAGE_FAULT)
-                  and len(process.told) == 1 and process.told[0].startswith("subttx: "), process)
+                  and len(process.errors) == 1
+                  and process.errors[0].startswith("subttx: "), process)
 
     def test_runs_the_program_in_dist_also_again_and_through_a_link(self) -> None:
         self.clone.check_runs("at first")
@@ -263,7 +264,7 @@ class Clones(Case):
         self.clone.check_runs("dist/, where out/ is older")
         self.clone.check_comparison("out/ does not have the program of these sources", failed=1)
         os.remove(self.clone.path("dist", "subttx"))
-        self.check("reasons why none is valid", self.clone.run(*PACKET).told[:2], [
+        self.check("reasons why none is valid", self.clone.run(*PACKET).errors[:2], [
             "subttx: out/subttx was built from other sources",
             "subttx: dist/subttx is not an executable program"])
 
@@ -277,11 +278,11 @@ class Clones(Case):
         os.remove(self.clone.path("dist", "PROVED"))
         first, *_ = self.clone.crates
         process = self.note_log(kept=[first])
-        self.check("--note", (process.status, process.told), (0, []))
+        self.check("--note", (process.status, process.errors), (0, []))
         process = self.clone.release("--keep")
         self.must("--keep reports the crate", first.encode() in process.out, process)
         process = self.clone.release()
-        self.must("refused", process.status == 2 and first in process.told[0], process)
+        self.must("refused", process.status == 2 and first in process.errors[0], process)
         self.clone.check_comparison("there is no dist/ yet: run dev/release")
 
     def test_releases_a_program_with_the_line_of_each_crate_from_two_logs(self) -> None:
@@ -389,7 +390,7 @@ class ProvingClones(Case):
         clone = BareClone(self)
         process = clone.start()
         self.check("output", process.out, self.call([self.bench.program, *PACKET]).out)
-        reported = [PROVED_PROGRESS.fullmatch(line) for line in process.told[1:]]
+        reported = [PROVED_PROGRESS.fullmatch(line) for line in process.errors[1:]]
         progress = {it[1]: int(it[2]) for it in reported if it}
         self.check("reported crates", {*progress}, {*clone.crates})
         self.check("crates left", [*progress.values()], [*reversed(range(len(clone.crates)))])
@@ -403,16 +404,16 @@ class ProvingClones(Case):
         clone = BareClone(self, fails="ttx_page")
         process = clone.start()
         self.check("status, output", (process.status, process.out), (2, b""))
-        self.must("only its messages", process.told[-3:-1] == [LINE, "a goal is open"]
-                  and process.told.count(LINE) == 1
-                  and process.told[-1].startswith("subttx: ttx_page was not proved"), process)
+        self.must("only its messages", process.errors[-3:-1] == [LINE, "a goal is open"]
+                  and process.errors.count(LINE) == 1
+                  and process.errors[-1].startswith("subttx: ttx_page was not proved"), process)
         clone.check_nothing_is_left()
 
     def test_keeps_no_program_if_the_linker_fails(self) -> None:
         clone = BareClone(self)
         clone.write_command("rattle-link", "#!/bin/sh\necho no room\n>\"$6\"\nexit 1\n")
         process = clone.start()
-        self.check("status, last messages", (process.status, process.told[-2:]), (2, [
+        self.check("status, last messages", (process.status, process.errors[-2:]), (2, [
             "no room", "subttx: the program was not linked: see the messages above"]))
         clone.check_nothing_is_left()
 
@@ -422,7 +423,7 @@ class ProvingClones(Case):
                            ("a warning", f"warning: no call of `low::adds` can meet it\n{LINE}")):
             clone.write_prover(line=line)
             process = clone.start()
-            self.must(name, process.status == 2 and "was not proved" in process.told[-1], process)
+            self.must(name, process.status == 2 and "was not proved" in process.errors[-1], process)
 
     def test_proves_only_changed_crates_and_those_that_use_them(self) -> None:
         clone = BareClone(self)
@@ -445,7 +446,7 @@ class ProvingClones(Case):
         clone = BareClone(self, first=f"echo '// changed' >>'{self.path('clone')}/{SOURCE}'")
         process = clone.start()
         self.must("status, message", process.status == 2
-                  and any("were changed" in it for it in process.told), process)
+                  and any("were changed" in it for it in process.errors), process)
         clone.check_nothing_is_left()
 
     def test_stops_the_toolchain_after_sigterm(self) -> None:

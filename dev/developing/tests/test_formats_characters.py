@@ -360,7 +360,7 @@ class Warnings(Case):
         check_schema(self, verdict, "the schema")
         self.check("kinds", [item["kind"] for item in verdict["warnings"]], kinds)
         lines = [item["line"] for item in verdict["warnings"]]
-        self.check("printed", [line.removeprefix("qc: warning: ") for line in process.told
+        self.check("printed", [line.removeprefix("qc: warning: ") for line in process.errors
                                if line.startswith("qc: warning: ")], lines)
         report = self.read("out/story.html").decode()
         self.must("in the report", all(

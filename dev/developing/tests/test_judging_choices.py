@@ -279,7 +279,7 @@ class Profiles(Case):
 
     def measure_profile(self, *args: str) -> list[str]:
         process = self.tool("qc", "--measure", *args)
-        self.must(f"{args}", process.status == 0 and not process.told, process)
+        self.must(f"{args}", process.status == 0 and not process.errors, process)
         read_profile(self.write("profile", process.out))
         return process.out.decode().splitlines()
 
@@ -412,7 +412,7 @@ class Profiles(Case):
             self.write(name, data)
         for row in read_vectors("measure-calls.tsv"):
             process = self.tool("qc", "--measure", *shlex.split(row["arguments"]))
-            self.check(row["name"], (process.status, process.out, process.told),
+            self.check(row["name"], (process.status, process.out, process.errors),
                        (int(row["status"]), b"", [f"qc: {row['message']}"]))
 
     def test_explains_why_a_layout_is_not_proposed(self) -> None:

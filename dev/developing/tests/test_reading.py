@@ -318,7 +318,7 @@ class WholeCalls(Case):
             result = self.result()
             source, cue = result["parts"][0]["clock"]["source"], result["subtitles"][0]
             is_listed = "read: not checked: the time of day: no clock was given, so the first " \
-                "PES packet is at 00:00:00:00" in call.told
+                "PES packet is at 00:00:00:00" in call.errors
             self.must(f"{args}: {text}", f" Times are {text} " in result["sentence"] and (
                 " on PID 0x101 (eng), " in result["sentence"]) == ("sent.ts" in args), result)
             self.check(" ".join(args), (call.status, source, cue["expected_in"], is_listed),
@@ -354,7 +354,7 @@ class WholeCalls(Case):
             self.check(f"{row['name']}: last lines",
                        call.out.decode().splitlines()[-len(lines):], lines)
             self.check(f"{row['name']}: the option", any(
-                "not checked: the characters of" in text for text in call.told),
+                "not checked: the characters of" in text for text in call.errors),
                 line.endswith("option"))
             self.check(f"{row['name']}: counts", not result["subtitle_counts"], call.status == 2)
             if row["name"] == "row 24":
@@ -369,7 +369,7 @@ class WholeCalls(Case):
                   (25, [KEEPING_HEADER, ROW, NEXT_PAGE, ROW, CLOSING]),
                   (50, [HEADER, NEXT_PAGE, CLOSING]))
         with lock_pair(self.path("out"), "889"):
-            self.check("the second is in use", self.read_pages("sent.pes").told, [
+            self.check("the second is in use", self.read_pages("sent.pes").errors, [
                 "read: another run of qc is writing the files of pair 889 to out"])
         self.write("out/889.1.txt", b"")
         call = self.read_pages("sent.pes")
@@ -413,7 +413,7 @@ class WholeCalls(Case):
             self.check(f"{pes}: others", (result["subtitles"][0]["expected_in"], *(
                 (item["from"], item["to"], item["text"]) for item in result["not_checked"]
                 if item["kind"] == OUTSIDE)), (begin, others))
-            self.must(f"{pes}: line", f"read: not checked: {others[2]}" in call.told, call)
+            self.must(f"{pes}: line", f"read: not checked: {others[2]}" in call.errors, call)
 
     def test_reports_which_subtitles_may_differ_from_what_receivers_show(self) -> None:
         not_stored = [[HEADER, make_packet(0, 24, (), text * 40), CLOSING] for text in (b"x", b"y")]
@@ -484,7 +484,7 @@ class WholeCalls(Case):
             ).splitlines()[-1]], [f"Not read: {line}.", f"888 {NOT_READ}: {line}"])
         command = f"{os.path.join(TOOLS, 'read')} two.ts --page 888 --pid"
         self.must("commands", all(f"{command} {pid}" in line for pid, line in zip(
-            ("0x101", "0x102"), call.told[-2:])), call)
+            ("0x101", "0x102"), call.errors[-2:])), call)
         self.check("one", self.read_pages("two.ts", "--pid", "0x102").status, 0)
 
     def test_reads_all_pages_in_two_runs_of_survey(self) -> None:
@@ -525,7 +525,7 @@ class WholeCalls(Case):
         self.write("out/888.stl", READ_PUBLISHER + make_random_stl(1)[0])  # at another place
         call = self.read_pages(sent)
         self.must("of the operator", call.status == 2 and "was not written by" in
-                  "".join(call.told), call)
+                  "".join(call.errors), call)
 
 
 DAY_2000 = (51544).to_bytes(2, "big")  # the modified Julian date of 1 January 2000
@@ -683,5 +683,5 @@ class TwoRecordings(Case):
             self.write(f"{folder}/{name}", b"theirs")
         for row in read_vectors("reading-calls.tsv"):
             call = self.tool(*shlex.split(row["call"]))
-            self.check(row["name"], (call.status, " / ".join(call.told).replace(TOOLS, "TOOLS")),
+            self.check(row["name"], (call.status, " / ".join(call.errors).replace(TOOLS, "TOOLS")),
                        (int(row["status"]), row["messages"]))

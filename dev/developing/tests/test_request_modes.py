@@ -272,8 +272,8 @@ class WrongArguments(Case):
             before = sorted(os.listdir(self.folder))
             process = self.tool(call.tool, *call.words)
             self.must(call.name, process.status == call.status and not process.out
-                      and len(process.told) == 1
-                      and process.told[0].startswith(os.path.basename(call.tool) + ": ")
+                      and len(process.errors) == 1
+                      and process.errors[0].startswith(os.path.basename(call.tool) + ": ")
                       and sorted(os.listdir(self.folder)) == before, process)
 
     def test_writes_one_unjudged_entry_into_each_requested_file(self) -> None:
@@ -289,7 +289,7 @@ class WrongArguments(Case):
                 (["--batch", "none"], missing), (["--collect", "none"], missing),
                 (["--watch", "none"], usage)) * 2:  # --watch takes none of the three
             process = self.tool("qc", *words, *files)
-            reason = process.told[0].partition(": ")[2]
+            reason = process.errors[0].partition(": ")[2]
             known = json.loads(self.read("one.json"))
             known = known.get("pairs", [known])[0]
             self.check(f"{words}: status, kind", (process.status, known["not_judged_kind"]),
@@ -323,8 +323,8 @@ class WrongArguments(Case):
                              ["pes2ts", PES, "0x101"], ["poke", STL], ["qc", "--help"]):
             process = self.call(["sh", "-c", 'exec "$@" >/dev/full', "sh",
                                  get_tool_path(name), *words])
-            self.must(name, process.status == 2 and process.told and "No space" in process.told[-1],
-                      process)
+            self.must(name, process.status == 2 and process.errors
+                      and "No space" in process.errors[-1], process)
 
     def test_refuses_devices(self) -> None:
         os.symlink("/dev/zero", self.path("link"))
@@ -364,5 +364,5 @@ class WrongArguments(Case):
                              (["qc", STL, self.write("cut.pes", b"\0\0\1"), "-p",
                                self.bench.program], self.path("cut.pes"))):
             process = self.tool(*words)
-            self.must(" ".join(words), process.status in (1, 2) and named in process.told[-1]
-                      and "subttx-" not in process.told[-1], process)
+            self.must(" ".join(words), process.status in (1, 2) and named in process.errors[-1]
+                      and "subttx-" not in process.errors[-1], process)

@@ -285,5 +285,6 @@ class ProfileVerdicts(Case):
     def test_never_overwrites_a_profile(self) -> None:
         path = self.write("house", b"--every 25\n")
         process = self.tool("qc", STORY, RECORDING, "--profile", path, "--json", path)
-        self.check("status, messages, contents", (process.status, process.told, self.read("house")),
+        self.check("status, messages, contents", (
+            process.status, process.errors, self.read("house")),
                    (2, [f"qc: {path} is also an input: give another name"], b"--every 25\n"))

@@ -104,7 +104,7 @@ class DayFiles(Case):
         for option, time in (("--from", "1:00"), ("--to", "24:00:00:00"),
                              ("--from", "00:00:00:25")):
             process = self.tool("qc", self.write_day(), option, time)
-            self.check(f"{option} {time}", (process.status, process.told), (64, [
+            self.check(f"{option} {time}", (process.status, process.errors), (64, [
                 f"qc: argument {option}: {time} is not a time of day: give HH:MM:SS:FF, 25 frames "
                 "a second"]))
 

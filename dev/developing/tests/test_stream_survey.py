@@ -488,7 +488,7 @@ class ConvertedStreams(Case):
 
     def test_extracts_the_multiplexed_pes_packets(self) -> None:
         process = self.tool("pes2ts", get_example_path("story.pes"), "0x101")
-        self.check("made", (process.status, process.told),
+        self.check("made", (process.status, process.errors),
                    (0, ["pes2ts: 5 PES packets as PID 0x101"]))
         result = [process.out[at:at + PACKET] for at in range(0, len(process.out), PACKET)]
         for name, data, packet_size in (
@@ -517,7 +517,7 @@ class ConvertedStreams(Case):
                  "PES packet 0 is not a Teletext packet")):
             path = self.write("wrong.pes", pes)
             process = self.tool("pes2ts", path, "0x101")
-            self.check(name, (process.status, process.told), (1, [
+            self.check(name, (process.status, process.errors), (1, [
                 f"pes2ts: {path}: {line}",
                 f"pes2ts: {count} PES packet{'s' * (count != 1)} as PID 0x101"]))
             payloads = [item[4:] for at in range(0, len(process.out), PACKET)
